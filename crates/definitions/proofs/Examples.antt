@@ -1,0 +1,72 @@
+-- The definitions at work, by computation: the type printer's example, and each example of the refusals table as bytes through the call it belongs to.
+use Prim.Native.Nat.{ℕ, _+_}
+use mathlib.Core.Path.{_≡_, refl}
+use mathlib.Core.List.{List, [], _∷_, _++_, map}
+use mathlib.Core.Bool.{Bool, true, false}
+use lib.IntN.{ℤ, pos, negsuc}
+use lib.ListN.{replicate, set}
+use Rattle.definitions.specs.Limits.{termTableWidth, quadTableWidth, textWidth}
+use Rattle.definitions.specs.Ascii.{ascii}
+use Rattle.definitions.specs.Bytes.{filled, littleBytes}
+use Rattle.definitions.specs.Outcome.{Outcome, ok, fault, _>>=_}
+use Rattle.definitions.specs.Calls.{Lent, load, runCall, pageCall}
+use Rattle.definitions.specs.Numbers.{loadNumber, runNumber, pageNumber}
+use Rattle.definitions.specs.Printer.{printed}
+use Rattle.definitions.specs.declared.SavedRun.{SavedRun}
+use Rattle.definitions.proofs.Opened.{opened}
+
+-- ── the type printer ────────────────────────────────────────────────────────────────────────
+
+printer-input : List ℕ
+printer-input =
+    0x13 ∷ 0x03 ∷ 0x00 ∷ 0x00 ∷ 0x00 ∷ 0x00 ∷ 0x00 ∷ 0x00 ∷ 0x00
+    ∷ 0x73 ∷ 0x00 ∷ 0x03 ∷ 0x00 ∷ 0x00 ∷ 0x01 ∷ 0x00 ∷ 0x02 ∷ 0x00 ∷ 0x00 ∷ 0x00
+    ∷ 0x61 ∷ 0x31 ∷ 0x00 ∷ 0x31 ∷ 0x01 ∷ 0x31 ∷ 0x02 ∷ 0x32 ∷ 0x00 ∷ 0x00
+    ∷ 0x71 ∷ []
+
+printer : printed printer-input ≡ ascii "accepted 3\n0 xsd:anyURI\n1 xsd:anyURI\n2 range(xsd:integer)\n"
+unfolding printer-input opened
+printer = refl
+
+-- ── refusals 1 to 9: load ───────────────────────────────────────────────────────────────────
+
+-- terms, schema and script, with tables of zeros
+lend : (terms schema script : List ℕ) → Lent
+lend terms schema script =
+    record { terms = terms; schema = schema; script = script; termTable = replicate termTableWidth 0; quadTable = replicate quadTableWidth 0 }
+
+loadOf : (terms schema script : List ℕ) → ℕ
+loadOf terms schema script = loadNumber (load (lend terms schema script) .returned .answer)
+
+integer-3 : List ℕ
+integer-3 = 0x13 ∷ littleBytes 8 3
+
+p-name : (datatype : ℕ) → List ℕ
+p-name d = 0x21 ∷ filled textWidth (ascii "p:name") ++ (d ∷ [])
+
+success : List ℕ
+success = 0x71 ∷ []
+
+-- a once block over a query, with no more than one open variable
+block : (count : ℕ) → (query : List ℕ) → List ℕ
+block count query = 0x73 ∷ 0 ∷ count ∷ replicate 8 0 ++ (query ++ success)
+
+-- a quad table of 0 bytes
+refusal-1 : loadNumber (load (record { terms = []; schema = []; script = success; termTable = replicate termTableWidth 0; quadTable = [] }) .returned .answer) ≡ 1
+unfolding success opened
+refusal-1 = refl
+
+refusals-2-to-9 :
+    loadOf (0x16 ∷ []) [] success  -- the one byte 16
+    ∷ loadOf (integer-3 ++ integer-3) [] success  -- integer 3 twice
+    ∷ loadOf [] (p-name 6) success  -- datatype 6
+    ∷ loadOf [] (p-name 2 ++ p-name 3) success  -- p:name twice
+    ∷ loadOf [] [] []  -- an empty script
+    ∷ loadOf [] [] (0x72 ∷ 0x31 ∷ 0x00 ∷ 0x71 ∷ [])  -- 72 31 00 71
+    ∷ loadOf integer-3 [] (block 0 (0x64 ∷ 0x55 ∷ replicate 16 0 ++ (0x32 ∷ 0 ∷ 0 ∷ [])))  -- regex on an integer
+    ∷ loadOf [] [] (block 1 (0x65 ∷ []))  -- an unused open variable
+    ∷ loadOf integer-3 (p-name 2) success
+    ∷ []
+    ≡ 2 ∷ 3 ∷ 4 ∷ 5 ∷ 6 ∷ 7 ∷ 8 ∷ 9 ∷ 0 ∷ []
+unfolding lend loadOf integer-3 p-name success block opened
+refusals-2-to-9 = refl

@@ -1,0 +1,43 @@
+-- The definitions at work, by computation: the calls on bytes.
+use Prim.Native.Nat.{ℕ}
+use mathlib.Core.Path.{_≡_, refl}
+use mathlib.Core.List.{List, [], _∷_, _++_, map}
+use mathlib.Core.Option.{Option, none, some}
+use lib.IntN.{pos}
+use lib.ListN.{replicate, set, take, drop}
+use Rattle.definitions.specs.Bytes.{littleBytes}
+use Rattle.definitions.specs.Outcome.{Outcome, ok, fault}
+use Rattle.definitions.specs.Calls.{Lent}
+use Rattle.definitions.specs.Exports.{LoadExport, RunExport, loadExport, runExport, savedWidth, runReportWidth, savedFrom, savedBytes}
+use Rattle.definitions.proofs.Opened.{opened}
+use Rattle.definitions.proofs.Season.{card, withTables}
+
+lent : List ℕ
+lent = replicate savedWidth 9
+
+first : LoadExport
+first = loadExport card lent
+
+loadedCard : Lent
+loadedCard = withTables card (first .termTable) (first .quadTable)
+
+-- height 1, no quad and no graph; types anyURI and decimal; nothing bound or fetched; the root at offset 0
+load-saves : first .saved ≡ 1 ∷ 0 ∷ 0 ∷ 0 ∷ 0 ∷ 0 ∷ 1 ∷ 3 ∷ replicate 478 0
+unfolding lent first opened Rattle.definitions.proofs.Season.card Rattle.definitions.proofs.Season.uri Rattle.definitions.proofs.Season.number
+load-saves = refl
+
+report : List ℕ
+report = replicate runReportWidth 9
+
+-- wanted graph 1 with no step; a mark of 2 for a variable; a saved run a byte short
+run-reports :
+    runExport loadedCard (first .saved) 10 (pos 0) report
+    ∷ runExport loadedCard (set (first .saved) 22 2) 10 (pos 0) report
+    ∷ runExport loadedCard (take 485 (first .saved)) 10 (pos 0) report
+    ∷ []
+    ≡ ok (record { number = 0; saved = first .saved; report = 0 ∷ 0 ∷ 0 ∷ 0 ∷ 1 ∷ 0 ∷ 1 ∷ 0 ∷ [] })
+    ∷ ok (record { number = 10; saved = set (first .saved) 22 2; report = report })
+    ∷ ok (record { number = 1; saved = take 485 (first .saved); report = report })
+    ∷ []
+unfolding lent first loadedCard report opened Rattle.definitions.proofs.Season.card Rattle.definitions.proofs.Season.uri Rattle.definitions.proofs.Season.number Rattle.definitions.proofs.Season.withTables
+run-reports = refl

@@ -1,0 +1,6 @@
+pub mod Opened
+pub mod Examples
+pub mod Season
+pub mod Faults
+pub mod ValueExamples
+pub mod ExportExamples

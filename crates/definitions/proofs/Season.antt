@@ -1,0 +1,171 @@
+-- The definitions at work, by computation: a script loaded, run and given pages, call by call on bytes; and refusals 10 to 14.
+use Prim.Native.Nat.{ℕ, zero, suc, _+_}
+use mathlib.Core.Path.{_≡_, refl}
+use mathlib.Core.List.{List, [], _∷_, _++_, map}
+use mathlib.Core.Bool.{Bool, true, false}
+use lib.IntN.{ℤ, pos, negsuc}
+use lib.ListN.{replicate, set}
+use Rattle.definitions.specs.Limits.{termTableWidth, quadTableWidth, textWidth, tagWidth}
+use Rattle.definitions.specs.Ascii.{ascii}
+use Rattle.definitions.specs.Bytes.{filled, littleBytes, unsigned}
+use Rattle.definitions.specs.Outcome.{Outcome, ok, fault}
+use Rattle.definitions.specs.Calls.{Lent, LoadResult, load, runCall, PageResult, pageCall}
+use Rattle.definitions.specs.CallList.{Call, running, paging, Answer, ran, paged}
+use Rattle.definitions.specs.declared.SavedRun.{SavedRun}
+use Rattle.definitions.specs.declared.Ran.{Ran}
+use Rattle.definitions.specs.declared.RunState.{RunState}
+use Rattle.definitions.specs.declared.RunState.the-variants.{Ended, Wanted, Waiting, Spent}
+use Rattle.definitions.specs.declared.RunAnswer.the-variants as RunAnswers
+use Rattle.definitions.specs.declared.PageAnswer.the-variants as PageAnswers
+use Rattle.definitions.proofs.Opened.{opened}
+
+-- ── calls one after the other, each with the tables and the saved run as the one before left them ──
+
+unfoldable pub withTables : Lent → (termTable quadTable : List ℕ) → Lent
+withTables l t q = record { terms = l .terms; schema = l .schema; script = l .script; termTable = t; quadTable = q }
+
+-- a call's answer, and what it left; a fault answers nothing
+record Left : Type 0 where
+  answers : List Answer
+  lent : Lent
+  saved : SavedRun
+
+afterRun : Lent → SavedRun → Outcome Ran → Left
+afterRun l saved (fault x) = record { answers = []; lent = l; saved = saved }
+afterRun l saved (ok r) = record { answers = ran (r .answer) ∷ []; lent = l; saved = r .saved }
+
+afterPage : Lent → PageResult → Left
+afterPage l r =
+    record { answers = paged (r .returned .answer) ∷ []; lent = withTables l (r .termTable) (r .quadTable); saved = r .returned .saved }
+
+-- the lengths are those of the tables lent
+afterCall : Lent → SavedRun → Call → Left
+afterCall l saved (running m n budget now) = afterRun l saved (runCall l saved budget now)
+afterCall l saved (paging m n g page) = afterPage l (pageCall l saved g page)
+
+afterCalls : List Call → Left → Left
+afterCalls [] x = x
+afterCalls (c ∷ cs) x =
+    let y = afterCall (x .lent) (x .saved) c in
+    afterCalls cs (record { answers = x .answers ++ y .answers; lent = y .lent; saved = y .saved })
+
+afterLoad : Lent → Left
+afterLoad l = let r = load l in record { answers = []; lent = withTables l (r .termTable) (r .quadTable); saved = r .returned .saved }
+
+-- ── the card ────────────────────────────────────────────────────────────────────────────────
+
+unfoldable pub uri : List ℕ → List ℕ
+uri text = filled textWidth text
+
+unfoldable pub number : ℤ → List ℕ
+number n = littleBytes 8 (unsigned n)
+
+-- term 0 the integer 3, 1 the graph c:club, 2 l:1, and by the schema 3 p:speed, a decimal
+unfoldable pub card : Lent
+card =
+    record {
+      terms = 0x13 ∷ number (pos 3) ++ (0x11 ∷ uri (ascii "c:club") ++ (0x11 ∷ uri (ascii "l:1")));
+      schema = 0x21 ∷ uri (ascii "p:speed") ++ (3 ∷ []);
+      -- from named c:club: each $0 $1 where { c:club: $0 p:speed $1 }: success
+      script =
+          0x72 ∷ 0x32 ∷ 1 ∷ 0
+          ∷ 0x73 ∷ 1 ∷ 2 ∷ 0 ∷ 0 ∷ 1 ∷ 0 ∷ 0 ∷ 0 ∷ 0 ∷ 0
+          ∷ 0x61 ∷ 0x32 ∷ 1 ∷ 0 ∷ 0x31 ∷ 0 ∷ 0x32 ∷ 3 ∷ 0 ∷ 0x31 ∷ 1
+          ∷ 0x71 ∷ [];
+      termTable = replicate termTableWidth 7;
+      quadTable = replicate quadTableWidth 7;
+    }
+
+triple : (kind : ℕ) → (subject property : List ℕ) → (object : List ℕ) → List ℕ
+triple k s p o = k ∷ uri s ++ (uri p ++ o)
+
+-- l:1 goes 3; a speed in words; a property without an entry; l:2 goes -0.000005; l:1 goes 3 again
+page : List ℕ
+page =
+    triple 0x83 (ascii "l:1") (ascii "p:speed") (number (pos 3))
+    ++ (triple 0x82 (ascii "l:1") (ascii "p:speed") (filled tagWidth (ascii "en") ++ filled textWidth (ascii "fast"))
+    ++ (triple 0x83 (ascii "l:2") (ascii "p:power") (number (pos 3))
+    ++ (triple 0x84 (ascii "l:2") (ascii "p:speed") (number (negsuc 4))
+    ++ triple 0x83 (ascii "l:1") (ascii "p:speed") (number (pos 3)))))
+
+runFor : ℕ → Call
+runFor budget = running termTableWidth quadTableWidth budget (pos 0)
+
+take : (graph : ℕ) → List ℕ → Call
+take g p = paging termTableWidth quadTableWidth g p
+
+ranFor : ℕ → RunState → Answer
+ranFor steps state = ran (RunAnswers.Ran steps state)
+
+-- Wanted, with no step. The page: two records skipped. From named and the first answer with its script are three steps; then the second answer, its script and
+-- the end of the block. Budget over 60,000, now no dateTime; a graph that is an integer, one past the table; a cut page.
+season :
+    afterCalls (
+    runFor 10 ∷ take 1 page ∷ runFor 3 ∷ runFor 10 ∷ runFor 0
+    ∷ runFor 60001 ∷ running termTableWidth quadTableWidth 0 (pos 253402300800) ∷ take 0 [] ∷ take 600 [] ∷ take 1 (0x81 ∷ []) ∷ []
+    ) (afterLoad card) .answers
+    ≡ ranFor 0 (Wanted 1) ∷ paged (PageAnswers.Taken 2) ∷ ranFor 3 Spent ∷ ranFor 3 Ended ∷ ranFor 0 Ended
+    ∷ ran (RunAnswers.Refused 11) ∷ ran (RunAnswers.Refused 11) ∷ paged (PageAnswers.Refused 12) ∷ paged (PageAnswers.Refused 12) ∷ paged (PageAnswers.Refused 13) ∷ []
+unfolding withTables afterRun afterPage afterCall afterCalls afterLoad uri number card triple page runFor take ranFor opened
+season = refl
+
+-- Answers are looked for in the store of that moment: an empty page between two answers, and the block is dropped.
+noneLeft :
+    afterCalls (take 1 page ∷ runFor 3 ∷ take 1 [] ∷ runFor 10 ∷ []) (afterLoad card) .answers
+    ≡ paged (PageAnswers.Taken 2) ∷ ranFor 3 Spent ∷ paged (PageAnswers.Taken 0) ∷ ranFor 1 Ended ∷ []
+unfolding withTables afterRun afterPage afterCall afterCalls afterLoad uri number card triple page runFor take ranFor opened
+noneLeft = refl
+
+-- ── refusal 10: a quad naming term 600 of 4 ─────────────────────────────────────────────────
+
+-- the page is in; its first quad's object becomes term 600
+filledCard : Left
+filledCard = afterCalls (take 1 page ∷ []) (afterLoad card)
+
+withObject600 : Left → Left
+withObject600 x =
+    record { answers = []; lent = withTables (x .lent) (x .lent .termTable) (set (set (x .lent .quadTable) 6 0x58) 7 2); saved = x .saved }
+
+unsound :
+    afterCalls (runFor 10 ∷ take 1 [] ∷ []) (withObject600 filledCard) .answers
+    ≡ ran (RunAnswers.Refused 10) ∷ paged (PageAnswers.Refused 10) ∷ []
+unfolding withTables afterRun afterPage afterCall afterCalls afterLoad uri number card triple page runFor take filledCard withObject600 opened
+unsound = refl
+
+-- ── refusal 14: a 65th graph ────────────────────────────────────────────────────────────────
+
+-- the numbers below n, from the last on
+below : ℕ → List ℕ
+below zero = []
+below (suc n) = n ∷ below n
+
+-- 65 URIs, and the script success
+graphURIs : List ℕ → List ℕ
+graphURIs [] = []
+graphURIs (n ∷ ns) = 0x11 ∷ uri (0x67 ∷ (0x21 + n) ∷ []) ++ graphURIs ns
+
+graphCard : Lent
+graphCard =
+    record { terms = graphURIs (below 65); schema = []; script = 0x71 ∷ []; termTable = replicate termTableWidth 0; quadTable = replicate quadTableWidth 0 }
+
+-- the first 64 are fetched
+with64 : Left → Left
+with64 x = record { answers = []; lent = x .lent; saved = fetch64 (x .saved) }
+  where
+    fetch64 : SavedRun → SavedRun
+    fetch64 r =
+        record {
+          height = r .height;
+          quads = r .quads;
+          graphs = 64;
+          types = r .types;
+          bound = r .bound;
+          bindings = r .bindings;
+          fetched = below 64;
+          items = r .items;
+        }
+
+sixtyFifth :
+    afterCalls (take 64 [] ∷ []) (with64 (afterLoad graphCard)) .answers ≡ paged (PageAnswers.Refused 14) ∷ []
+unfolding withTables afterRun afterPage afterCall afterCalls afterLoad uri take below graphURIs graphCard with64 opened
+sixtyFifth = refl

@@ -1,0 +1,132 @@
+-- The definitions at work, by computation: document 01's texts of values, patterns, language ranges, and the rank table's rule.
+use Prim.Native.Nat.{ℕ, zero, suc, _+_}
+use mathlib.Core.Path.{_≡_, refl}
+use mathlib.Core.List.{List, [], _∷_, _++_, map}
+use mathlib.Core.Bool.{Bool, true, false}
+use mathlib.Core.Option.{Option, none, some}
+use lib.Dec.{T, eqb}
+use lib.IntN.{ℤ, pos, negsuc}
+use lib.ListN.{length}
+use Prim.Native.String.{String}
+use Rattle.definitions.specs.Ascii.{ascii}
+use Rattle.definitions.specs.Lists.{isIn, every}
+use Rattle.definitions.specs.Bytes.{filled, onward}
+use Rattle.definitions.specs.Terms.{Text}
+use Rattle.definitions.specs.Text.{patternOf, accepts, languageRangeOf, matches}
+use Rattle.definitions.specs.Calendar.{dateTimeText}
+use Rattle.definitions.specs.Values.{integerText, decimalText, ranks, rankIn, stringBefore, Tagged}
+use Rattle.definitions.proofs.Opened.{opened}
+
+-- ── str ─────────────────────────────────────────────────────────────────────────────────────
+
+-- the roster's rows, 1970 itself, and both ends
+dateTimes :
+    map dateTimeText (negsuc 0 ∷ pos 951782400 ∷ pos 0 ∷ negsuc 62135596799 ∷ pos 253402300799 ∷ [])
+    ≡ map ascii ("1969-12-31T23:59:59Z" ∷ "2000-02-29T00:00:00Z" ∷ "1970-01-01T00:00:00Z" ∷ "0001-01-01T00:00:00Z" ∷ "9999-12-31T23:59:59Z" ∷ [])
+unfolding opened
+dateTimes = refl
+
+integers : map integerText (negsuc 2 ∷ pos 0 ∷ pos 1000000000000 ∷ []) ≡ map ascii ("-3" ∷ "0" ∷ "1000000000000" ∷ [])
+unfolding opened
+integers = refl
+
+decimals :
+    map decimalText (negsuc 499999 ∷ pos 3000000 ∷ pos 0 ∷ pos 1 ∷ pos 120500000 ∷ negsuc 999999999999999999 ∷ [])
+    ≡ map ascii ("-0.5" ∷ "3.0" ∷ "0.0" ∷ "0.000001" ∷ "120.5" ∷ "-1000000000000.0" ∷ [])
+unfolding opened
+decimals = refl
+
+-- ── patterns ────────────────────────────────────────────────────────────────────────────────
+
+accepted : String → String → Option Bool
+accepted p t = onward (patternOf (filled 16 (ascii p))) (λ q. some (accepts q (ascii t)))
+
+patterns :
+    accepted "" "fast"
+    ∷ accepted "as" "fast"
+    ∷ accepted "^as" "fast"
+    ∷ accepted "st$" "fast"
+    ∷ accepted "^f.*t$" "fast"
+    ∷ accepted "^fa*s.$" "fst"
+    ∷ accepted "^fa*s.$" "fst!"
+    ∷ accepted "^$" ""
+    ∷ accepted "^$" "x"
+    ∷ accepted "*" "x"
+    ∷ accepted "^*" "x"
+    ∷ accepted "$*" "x"
+    ∷ accepted "a**" "x"
+    ∷ accepted "a^" "x"
+    ∷ accepted "$a" "x"
+    ∷ accepted "a|b" "x"
+    ∷ accepted "0123456789abcdef" "0123456789abcdefg"
+    ∷ []
+    ≡ some true ∷ some true ∷ some false ∷ some true ∷ some true ∷ some true ∷ some false ∷ some true ∷ some false
+    ∷ none ∷ none ∷ none ∷ none ∷ none ∷ none ∷ none ∷ some true ∷ []
+unfolding accepted opened
+patterns = refl
+
+-- ── language ranges ─────────────────────────────────────────────────────────────────────────
+
+matched : String → String → Option Bool
+matched r g = onward (languageRangeOf (filled 8 (ascii r))) (λ q. some (matches q (ascii g)))
+
+languageRanges :
+    matched "*" ""
+    ∷ matched "en" "en"
+    ∷ matched "en" "en-gb"
+    ∷ matched "en" "eng"
+    ∷ matched "en-*" "en-gb"
+    ∷ matched "en-*" "en"
+    ∷ matched "en" ""
+    ∷ matched "en-" "en-"
+    ∷ matched "-e" "en"
+    ∷ matched "" "en"
+    ∷ matched "-*" "en"
+    ∷ matched "--*" "en"
+    ∷ matched "*-*" "en"
+    ∷ matched "en*" "en"
+    ∷ matched "en-*-*" "en"
+    ∷ []
+    ≡ some true ∷ some true ∷ some true ∷ some false ∷ some true ∷ some true ∷ some false ∷ some true ∷ some false
+    ∷ none ∷ none ∷ none ∷ none ∷ none ∷ none ∷ []
+unfolding matched opened
+languageRanges = refl
+
+-- ── the rank table ──────────────────────────────────────────────────────────────────────────
+
+-- the numbers from one on, so many
+upFrom : ℕ → ℕ → List ℕ
+upFrom n zero = []
+upFrom n (suc count) = n ∷ upFrom (suc n) count
+
+-- blank, digits, letters as A a B b to Z z, then the others by byte
+alphabet : Text
+alphabet = ascii " 0123456789AaBbCcDdEeFfGgHhIiJjKkLlMmNnOoPpQqRrSsTtUuVvWwXxYyZz!\"#$%&'()*+,-./:;<=>?@[\\]^_`{|}~"
+
+-- of 95 bytes, each has its place in that order as its rank
+ranked : map (rankIn ranks) alphabet ≡ upFrom 0 95
+unfolding upFrom alphabet opened
+ranked = refl
+
+-- and the alphabet has every byte from 20 to 7E, so the table holds each rank once
+complete : T (every (λ b. isIn b alphabet) (upFrom 0x20 95))
+unfolding upFrom alphabet opened
+complete = tt
+
+-- ── the order of strings ────────────────────────────────────────────────────────────────────
+
+tagged : String → String → Tagged
+tagged g t = record { tag = ascii g; text = ascii t }
+
+strings :
+    stringBefore ranks (tagged "" "a") (tagged "" "B")
+    ∷ stringBefore ranks (tagged "" "B") (tagged "" "a")
+    ∷ stringBefore ranks (tagged "" "9") (tagged "" "A")
+    ∷ stringBefore ranks (tagged "" "z") (tagged "" "!")
+    ∷ stringBefore ranks (tagged "zz" "ab") (tagged "" "abc")
+    ∷ stringBefore ranks (tagged "de" "ab") (tagged "en" "ab")
+    ∷ stringBefore ranks (tagged "en" "ab") (tagged "en" "ab")
+    ∷ []
+    ≡ true ∷ false ∷ true ∷ true ∷ true ∷ true ∷ false ∷ []
+unfolding tagged opened
+strings = refl

@@ -1,0 +1,235 @@
+-- Document 01, "Refusals": the three calls, their refusals in order, and every result outright.
+use Prim.Native.Nat.{ℕ}
+use mathlib.Core.List.{List, [], _∷_, map}
+use mathlib.Core.Bool.{Bool, true, false, _&&_}
+use mathlib.Core.Option.{Option, none, some}
+use lib.Dec.{eqb, leb}
+use lib.ListN.{length, getD, getElem?}
+use lib.IntN.{ℤ}
+use Rattle.definitions.specs.Limits.{termLimit, entryLimit, scriptLimit, budgetLimit, pageLimit, termTableWidth, quadTableWidth}
+use Rattle.definitions.specs.Lists.{distinct}
+use Rattle.definitions.specs.Bytes.{sameBytes, provided, onward}
+use Rattle.definitions.specs.Types.{Ty, typeCode}
+use Rattle.definitions.specs.Terms.{Term, Schema, Triple, Sort, sortOf, sameTerm, sameProperty, isDateTime, readTerms, readSchema, readPage}
+use Rattle.definitions.specs.Tree.{Script}
+use Rattle.definitions.specs.Reading.{parsed}
+use Rattle.definitions.specs.Scope.{inScope}
+use Rattle.definitions.specs.Typing.{Written, unbound, undecided, fixed, writtenTypes, typeAt, Verdict, noTyping, noGreatest, greatest, verdict}
+use Rattle.definitions.specs.Outcome as Outcomes
+use Rattle.definitions.specs.Outcome.{Outcome, ok, fault}
+use Rattle.definitions.specs.Machine.{State, Store, Run, run, lastOf, loaded, withProperties, Taken, taken, withPage, inLimits}
+use Rattle.definitions.specs.Saved.{termTable, quadTable, held, savedOf, noRun}
+use Rattle.definitions.specs.Evaluate.{isURI}
+use Rattle.definitions.specs.Sound.{stateSound}
+use Rattle.definitions.specs.Result.{Result, refused, passed, _>>=_, _>>_, require, given}
+use Rattle.definitions.specs.declared.SavedRun.{SavedRun}
+use Rattle.definitions.specs.declared.Loaded.{Loaded}
+use Rattle.definitions.specs.declared.Ran.{Ran}
+use Rattle.definitions.specs.declared.Paged.{Paged}
+use Rattle.definitions.specs.declared.LoadAnswer.{LoadAnswer}
+use Rattle.definitions.specs.declared.RunAnswer.{RunAnswer}
+use Rattle.definitions.specs.declared.PageAnswer.{PageAnswer}
+use Rattle.definitions.specs.declared.LoadAnswer.the-variants as LoadAnswers
+use Rattle.definitions.specs.declared.RunAnswer.the-variants as RunAnswers
+use Rattle.definitions.specs.declared.PageAnswer.the-variants as PageAnswers
+
+-- ── terms, schema and script: 2 to 9 ────────────────────────────────────────────────────────
+
+-- what is found where nothing is refused: the schema, the terms as loading numbers them, the script and the types worked out
+pub record Checked : Type 0 where
+  pub schema : Schema
+  pub terms : List Term
+  pub root : Script
+  pub types : List Ty
+
+-- the sort of a term by its number
+unfoldable pub constantsOf : Schema → List Term → ℕ → Sort
+constantsOf S terms c = getD (map (sortOf S) terms) c (Sort.uri none)
+
+unfoldable pub typesOf : Verdict → Result (List Ty)
+typesOf noTyping = refused 8
+typesOf noGreatest = refused 9
+typesOf (greatest Γ) = passed Γ
+
+-- a limit passed on terms, entries or script bytes
+unfoldable pub sizesFit : List Term → Schema → (script : List ℕ) → Bool
+sizesFit terms S script = leb (length terms) termLimit && (leb (length S) entryLimit && leb (length script) scriptLimit)
+
+unfoldable pub check : (terms schema script : List ℕ) → Result Checked
+check terms schema script = do
+  listed ← given 2 (readTerms terms)
+  require 3 (distinct sameTerm listed)
+  S ← given 4 (readSchema schema)
+  require 5 (distinct sameProperty S)
+  let numbered = withProperties S listed
+  require 6 (sizesFit numbered S script)
+  root ← given 6 (parsed (length numbered) script)
+  require 7 (inScope root)
+  types ← typesOf (verdict (constantsOf S numbered) (writtenTypes root) root)
+  passed (record { schema = S; terms = numbered; root = root; types = types })
+
+-- the reported types by their codes, 0 for a variable that no pair binds
+abbrev pub reportedType : Written → Ty → ℕ
+reportedType unbound τ = 0
+reportedType undecided τ = typeCode τ
+reportedType (fixed σ) τ = typeCode τ
+
+unfoldable pub reportedTypes : List Written → List Ty → List ℕ
+reportedTypes [] Γ = []
+reportedTypes (w ∷ ws) [] = []
+reportedTypes (w ∷ ws) (τ ∷ Γ) = reportedType w τ ∷ reportedTypes ws Γ
+
+abbrev pub reported : Checked → List ℕ
+reported c = reportedTypes (writtenTypes (c .root)) (c .types)
+
+-- ── what is lent ────────────────────────────────────────────────────────────────────────────
+
+-- terms, schema and script with the two tables, as bytes
+pub record Lent : Type 0 where
+  pub terms : List ℕ
+  pub schema : List ℕ
+  pub script : List ℕ
+  pub termTable : List ℕ
+  pub quadTable : List ℕ
+
+-- 1: a lent table of another length
+unfoldable pub tablesFit : (termBytes quadBytes : ℕ) → Bool
+tablesFit termBytes quadBytes = eqb termBytes termTableWidth && eqb quadBytes quadTableWidth
+
+abbrev pub lengthsFit : Lent → Bool
+lengthsFit l = tablesFit (length (l .termTable)) (length (l .quadTable))
+
+-- ── load: 1 to 9 ────────────────────────────────────────────────────────────────────────────
+
+-- what the call returns, and both tables at its end
+pub record LoadResult : Type 0 where
+  pub returned : Loaded
+  pub termTable : List ℕ
+  pub quadTable : List ℕ
+
+unfoldable pub loadTests : Lent → Result Checked
+loadTests l = do
+  require 1 (lengthsFit l)
+  check (l .terms) (l .schema) (l .script)
+
+unfoldable pub loadResult : Lent → Result Checked → LoadResult
+loadResult l (refused n) =
+    record { returned = record { answer = LoadAnswers.Refused n; saved = noRun }; termTable = l .termTable; quadTable = l .quadTable }
+loadResult l (passed c) =
+    let s = loaded (c .terms) (c .root) in
+    record {
+      returned = record { answer = LoadAnswers.Accepted; saved = savedOf (reported c) s };
+      termTable = termTable (s .store .terms);
+      quadTable = quadTable (s .store .quads);
+    }
+
+unfoldable pub load : Lent → LoadResult
+load l = loadResult l (loadTests l)
+
+-- ── 10: saved run and tables unsound ────────────────────────────────────────────────────────
+
+-- a sound state with what loading finds
+pub record Sound : Type 0 where
+  pub checked : Checked
+  pub state : State
+
+unfoldable pub checkedOf : Result Checked → Option Checked
+checkedOf (refused n) = none
+checkedOf (passed c) = some c
+
+-- the records load; reported types are those worked out; the tables and the saved run hold a state that is sound
+unfoldable pub soundIn : Lent → SavedRun → Option Sound
+soundIn l saved =
+    onward (checkedOf (check (l .terms) (l .schema) (l .script))) (λ c.
+    provided (sameBytes (saved .types) (reported c)) (onward (held (c .root) (l .termTable) (l .quadTable) saved) (λ s.
+    provided (stateSound (c .schema) (c .types) (c .terms) (c .root) s) (some (record { checked = c; state = s })))))
+
+-- ── run: 1, 10, 11 ──────────────────────────────────────────────────────────────────────────
+
+-- the machine's part of a run call
+unfoldable pub runIn : Checked → (budget : ℕ) → (now : ℤ) → State → Result (Outcome Run)
+runIn c budget now s = do
+  require 11 (leb budget budgetLimit && isDateTime now)
+  passed (run (c .schema) (typeAt (c .types)) now budget s)
+
+-- where the machine runs: what loading finds, the state before, and the run
+pub record Running : Type 0 where
+  pub checked : Checked
+  pub state : State
+  pub run : Outcome Run
+
+unfoldable pub runTests : Lent → SavedRun → (budget : ℕ) → (now : ℤ) → Result Running
+runTests l saved budget now = do
+  require 1 (lengthsFit l)
+  x ← given 10 (soundIn l saved)
+  r ← runIn (x .checked) budget now (x .state)
+  passed (record { checked = x .checked; state = x .state; run = r })
+
+-- the steps taken and how the run ended, with the state after its last step
+unfoldable pub ranOf : Checked → State → Run → Ran
+ranOf c s r = record { answer = RunAnswers.Ran (length (r .passed)) (r .ending); saved = savedOf (reported c) (lastOf s (r .passed)) }
+
+unfoldable pub runResult : SavedRun → Result Running → Outcome Ran
+runResult saved (refused n) = ok (record { answer = RunAnswers.Refused n; saved = saved })
+runResult saved (passed x) = Outcomes._>>=_ (x .run) (λ r. ok (ranOf (x .checked) (x .state) r))
+
+-- The tables are only read. A fault of the machine is a fault here: that there is none is for the call to promise.
+unfoldable pub runCall : Lent → SavedRun → (budget : ℕ) → (now : ℤ) → Outcome Ran
+runCall l saved budget now = runResult saved (runTests l saved budget now)
+
+-- ── page: 1, 10, 12, 13, 14 ─────────────────────────────────────────────────────────────────
+
+abbrev pub isGraph : Option Term → Bool
+isGraph none = false
+isGraph (some t) = isURI t
+
+-- over 65,536 bytes or a bad record in it: none
+unfoldable pub pageIn : List ℕ → Option (List Triple)
+pageIn page = provided (leb (length page) pageLimit) (readPage page)
+
+-- the skipped count and the state after the page
+pub record PageTaken : Type 0 where
+  pub skipped : ℕ
+  pub state : State
+
+abbrev pub pageTaken : (graph : ℕ) → Taken → State → PageTaken
+pageTaken g k s = record { skipped = k .skipped; state = record { control = s .control; store = withPage g k (s .store) } }
+
+-- the machine's part of a page call
+unfoldable pub takeIn : Checked → (graph : ℕ) → (page : List ℕ) → State → Result PageTaken
+takeIn c g page s = do
+  require 12 (isGraph (getElem? (s .store .terms) g))
+  triples ← given 13 (pageIn page)
+  let k = taken (c .schema) g triples (s .store)
+  require 14 (inLimits (withPage g k (s .store)))
+  passed (pageTaken g k s)
+
+pub record Taking : Type 0 where
+  pub checked : Checked
+  pub taken : PageTaken
+
+unfoldable pub pageTests : Lent → SavedRun → (graph : ℕ) → (page : List ℕ) → Result Taking
+pageTests l saved g page = do
+  require 1 (lengthsFit l)
+  x ← given 10 (soundIn l saved)
+  k ← takeIn (x .checked) g page (x .state)
+  passed (record { checked = x .checked; taken = k })
+
+pub record PageResult : Type 0 where
+  pub returned : Paged
+  pub termTable : List ℕ
+  pub quadTable : List ℕ
+
+unfoldable pub pageResult : Lent → SavedRun → Result Taking → PageResult
+pageResult l saved (refused n) =
+    record { returned = record { answer = PageAnswers.Refused n; saved = saved }; termTable = l .termTable; quadTable = l .quadTable }
+pageResult l saved (passed x) =
+    let s = x .taken .state in
+    record {
+      returned = record { answer = PageAnswers.Taken (x .taken .skipped); saved = savedOf (reported (x .checked)) s };
+      termTable = termTable (s .store .terms);
+      quadTable = quadTable (s .store .quads);
+    }
+
+unfoldable pub pageCall : Lent → SavedRun → (graph : ℕ) → (page : List ℕ) → PageResult
+pageCall l saved g page = pageResult l saved (pageTests l saved g page)

@@ -1,0 +1,200 @@
+-- The calls on bytes, as other programs link them: saved run and report are lent as bytes too, and count as lent tables.
+use Prim.Native.Nat.{ℕ, zero, suc, _+_, _*_}
+use mathlib.Core.List.{List, [], _∷_, _++_, map}
+use mathlib.Core.Bool.{Bool, true, false, cond, _&&_}
+use mathlib.Core.Option.{Option, none, some}
+use lib.Dec.{eqb, leb}
+use lib.IntN.{ℤ}
+use lib.ListN.{length, replicate}
+use Rattle.definitions.specs.Limits.{variableLimit, graphLimit, depthLimit, pairLimit}
+use Rattle.definitions.specs.Lists.{every}
+use Rattle.definitions.specs.Bytes.{byte, word, littleBytes, part, provided}
+use Rattle.definitions.specs.Outcome.{Outcome, ok, fault, _>>=_}
+use Rattle.definitions.specs.Saved.{zeroItem}
+use Rattle.definitions.specs.Calls.{Lent, lengthsFit, LoadResult, load, runCall, PageResult, pageCall}
+use Rattle.definitions.specs.Numbers.{loadNumber, runNumber, pageNumber, stateNumber, wantedGraph}
+use Rattle.definitions.specs.declared.SavedItem.{SavedItem}
+use Rattle.definitions.specs.declared.SavedRun.{SavedRun}
+use Rattle.definitions.specs.declared.Ran.{Ran}
+use Rattle.definitions.specs.declared.RunAnswer.{RunAnswer}
+use Rattle.definitions.specs.declared.PageAnswer.{PageAnswer}
+use Rattle.definitions.specs.declared.RunAnswer.the-variants as RunAnswers
+use Rattle.definitions.specs.declared.PageAnswer.the-variants as PageAnswers
+
+-- ── the saved run in 486 bytes ──────────────────────────────────────────────────────────────
+
+abbrev pub typesOffset : ℕ
+typesOffset = 6
+
+abbrev pub boundOffset : ℕ
+boundOffset = 22
+
+abbrev pub bindingsOffset : ℕ
+bindingsOffset = 38
+
+abbrev pub fetchedOffset : ℕ
+fetchedOffset = 70
+
+abbrev pub itemsOffset : ℕ
+itemsOffset = 198
+
+abbrev pub itemWidth : ℕ
+itemWidth = 12
+
+abbrev pub savedWidth : ℕ
+savedWidth = itemsOffset + depthLimit * itemWidth
+
+abbrev pub markOf : Bool → ℕ
+markOf false = 0
+markOf true = 1
+
+unfoldable pub words : List ℕ → List ℕ
+words [] = []
+words (n ∷ ns) = littleBytes 2 n ++ words ns
+
+-- offset of the record, 1 if it has a last tuple, zero, the last tuple
+abbrev pub itemBytes : SavedItem → List ℕ
+itemBytes i = littleBytes 2 (i .«at») ++ (markOf (i .started) ∷ 0 ∷ words (i .last))
+
+unfoldable pub itemsBytes : List SavedItem → List ℕ
+itemsBytes [] = []
+itemsBytes (i ∷ is) = itemBytes i ++ itemsBytes is
+
+unfoldable pub savedBytes : SavedRun → List ℕ
+savedBytes r =
+    words (r .height ∷ r .quads ∷ r .graphs ∷ [])
+    ++ (r .types ++ (map markOf (r .bound) ++ (words (r .bindings) ++ (words (r .fetched) ++ itemsBytes (r .items)))))
+
+-- ── and back ────────────────────────────────────────────────────────────────────────────────
+
+-- so many 2-byte numbers from an offset on
+unfoldable pub wordsFrom : (count : ℕ) → List ℕ → ℕ → List ℕ
+wordsFrom zero b at = []
+wordsFrom (suc n) b at = word b at ∷ wordsFrom n b (at + 2)
+
+abbrev pub itemAt : List ℕ → ℕ → SavedItem
+itemAt b at = record { «at» = word b at; started = eqb (byte b (at + 2)) 1; last = wordsFrom pairLimit b (at + 4) }
+
+-- the items in use; the places above the height are not looked at
+unfoldable pub itemsFrom : (left height : ℕ) → List ℕ → ℕ → List SavedItem
+itemsFrom zero height b at = []
+itemsFrom (suc left) zero b at = zeroItem ∷ itemsFrom left zero b (at + itemWidth)
+itemsFrom (suc left) (suc n) b at = itemAt b at ∷ itemsFrom left n b (at + itemWidth)
+
+-- a mark is 0 or 1, and the byte after an item's mark is zero, in each item in use
+unfoldable pub itemsGood : (height : ℕ) → List ℕ → ℕ → Bool
+itemsGood zero b at = true
+itemsGood (suc n) b at = leb (byte b (at + 2)) 1 && (eqb (byte b (at + 3)) 0 && itemsGood n b (at + itemWidth))
+
+-- the saved run that bytes hold; none where no saved run has these bytes
+unfoldable pub savedFrom : List ℕ → Option SavedRun
+savedFrom b =
+    let height = word b 0 in
+    provided (leb height depthLimit && (every (λ m. leb m 1) (part b boundOffset variableLimit) && itemsGood height b itemsOffset))
+    (some (record {
+      height = height;
+      quads = word b 2;
+      graphs = word b 4;
+      types = part b typesOffset variableLimit;
+      bound = map (eqb 1) (part b boundOffset variableLimit);
+      bindings = wordsFrom variableLimit b bindingsOffset;
+      fetched = wordsFrom graphLimit b fetchedOffset;
+      items = itemsFrom depthLimit height b itemsOffset;
+    }))
+
+-- ── reports ─────────────────────────────────────────────────────────────────────────────────
+
+abbrev pub runReportWidth : ℕ
+runReportWidth = 8
+
+abbrev pub pageReportWidth : ℕ
+pageReportWidth = 4
+
+-- steps taken, state, zero, the wanted graph's term number or zero; a refused call leaves the report as it was
+unfoldable pub runReport : List ℕ → RunAnswer → List ℕ
+runReport report (RunAnswers.Ran steps state) = littleBytes 4 steps ++ (stateNumber state ∷ 0 ∷ littleBytes 2 (wantedGraph state))
+runReport report (RunAnswers.Refused n) = report
+
+-- the skipped count
+unfoldable pub pageReport : List ℕ → PageAnswer → List ℕ
+pageReport report (PageAnswers.Taken skipped) = littleBytes 4 skipped
+pageReport report (PageAnswers.Refused n) = report
+
+-- ── the three calls: the number returned, and every lent buffer at the end ──────────────────
+
+pub record LoadExport : Type 0 where
+  pub number : ℕ
+  pub termTable : List ℕ
+  pub quadTable : List ℕ
+  pub saved : List ℕ
+
+pub record RunExport : Type 0 where
+  pub number : ℕ
+  pub saved : List ℕ
+  pub report : List ℕ
+
+pub record PageExport : Type 0 where
+  pub number : ℕ
+  pub termTable : List ℕ
+  pub quadTable : List ℕ
+  pub saved : List ℕ
+  pub report : List ℕ
+
+-- the saved run's bytes where nothing was refused, else those that were lent
+abbrev pub savedAfter : (number : ℕ) → SavedRun → (lent : List ℕ) → List ℕ
+savedAfter zero r lent = savedBytes r
+savedAfter (suc n) r lent = lent
+
+unfoldable pub loadExport : Lent → (saved : List ℕ) → LoadExport
+loadExport l saved =
+    let r = load l in
+    let n = loadNumber (r .returned .answer) in
+    elim (eqb (length saved) savedWidth) [
+      | true ↦ record { number = n; termTable = r .termTable; quadTable = r .quadTable; saved = savedAfter n (r .returned .saved) saved }
+      | false ↦ record { number = 1; termTable = l .termTable; quadTable = l .quadTable; saved = saved }
+    ]
+
+abbrev pub refusedRun : ℕ → (saved report : List ℕ) → RunExport
+refusedRun n saved report = record { number = n; saved = saved; report = report }
+
+abbrev pub ranExport : (saved report : List ℕ) → Ran → RunExport
+ranExport saved report r =
+    let n = runNumber (r .answer) in
+    record { number = n; saved = savedAfter n (r .saved) saved; report = runReport report (r .answer) }
+
+-- bytes that no saved run has are unsound
+abbrev pub runOn : Lent → (budget : ℕ) → (now : ℤ) → (saved report : List ℕ) → Option SavedRun → Outcome RunExport
+runOn l budget now saved report none = ok (refusedRun 10 saved report)
+runOn l budget now saved report (some r) = runCall l r budget now >>= λ x. ok (ranExport saved report x)
+
+unfoldable pub runExport : Lent → (saved : List ℕ) → (budget : ℕ) → (now : ℤ) → (report : List ℕ) → Outcome RunExport
+runExport l saved budget now report =
+    elim (lengthsFit l && (eqb (length saved) savedWidth && eqb (length report) runReportWidth)) [
+      | true ↦ runOn l budget now saved report (savedFrom saved)
+      | false ↦ ok (refusedRun 1 saved report)
+    ]
+
+abbrev pub refusedPage : ℕ → Lent → (saved report : List ℕ) → PageExport
+refusedPage n l saved report = record { number = n; termTable = l .termTable; quadTable = l .quadTable; saved = saved; report = report }
+
+abbrev pub pagedExport : (saved report : List ℕ) → PageResult → PageExport
+pagedExport saved report r =
+    let n = pageNumber (r .returned .answer) in
+    record {
+      number = n;
+      termTable = r .termTable;
+      quadTable = r .quadTable;
+      saved = savedAfter n (r .returned .saved) saved;
+      report = pageReport report (r .returned .answer);
+    }
+
+abbrev pub pageOn : Lent → (graph : ℕ) → (page : List ℕ) → (saved report : List ℕ) → Option SavedRun → PageExport
+pageOn l g page saved report none = refusedPage 10 l saved report
+pageOn l g page saved report (some r) = pagedExport saved report (pageCall l r g page)
+
+unfoldable pub pageExport : Lent → (saved : List ℕ) → (graph : ℕ) → (page : List ℕ) → (report : List ℕ) → PageExport
+pageExport l saved g page report =
+    elim (lengthsFit l && (eqb (length saved) savedWidth && eqb (length report) pageReportWidth)) [
+      | true ↦ pageOn l g page saved report (savedFrom saved)
+      | false ↦ refusedPage 1 l saved report
+    ]

@@ -1,0 +1,260 @@
+-- Document 01, "Values": what expressions give, a value of a kind or "no value" of that kind; arithmetic, str and comparisons.
+use Prim.Native.Nat.{ℕ, zero, suc, _+_, _-_, _*_, _/_, _%_, _^_}
+use mathlib.Core.List.{List, [], _∷_, _++_}
+use mathlib.Core.Bool.{Bool, true, false, _&&_, _||_, cond}
+use mathlib.Core.Option.{Option, none, some}
+use lib.Dec.{ltb, eqb}
+use lib.IntN.{ℤ, pos, negsuc, natAbs, _+ℤ_, _-ℤ_, _*ℤ_}
+use lib.ListN.{getD}
+use lib.Signed.{ltZ}
+use Rattle.definitions.specs.Ascii.{ascii}
+use Rattle.definitions.specs.Bytes.{sameBytes, provided}
+use Rattle.definitions.specs.Types.{Datatype}
+use Rattle.definitions.specs.Terms.{Term, Text, isInteger, isDecimal, sameNumber}
+use Rattle.definitions.specs.Calendar.{digits, dateTimeText}
+use Rattle.definitions.specs.Outcome.{Outcome, ok, fault, _>>=_, arithmeticOnNoNumber, nothingInCommon, textTestOnNoString}
+
+-- a string's tag and text
+pub record Tagged : Type 0 where
+  pub tag : Text
+  pub text : Text
+
+-- none: "no value" of that kind
+pub data Value : Type 0 where
+  uri : Text → Value
+  string : Option Tagged → Value
+  integer : Option ℤ → Value
+  decimal : (millionths : Option ℤ) → Value
+  dateTime : (seconds : ℤ) → Value
+
+abbrev pub kind : Value → Datatype
+kind (Value.uri u) = Datatype.anyURI
+kind (Value.string s) = Datatype.string
+kind (Value.integer n) = Datatype.integer
+kind (Value.decimal n) = Datatype.decimal
+kind (Value.dateTime n) = Datatype.dateTime
+
+unfoldable pub valueOf : Term → Value
+valueOf (Term.uri u) = Value.uri u
+valueOf (Term.string g t) = Value.string (some (record { tag = g; text = t }))
+valueOf (Term.integer n) = Value.integer (some n)
+valueOf (Term.decimal n) = Value.decimal (some n)
+valueOf (Term.dateTime n) = Value.dateTime n
+
+-- ── arithmetic ──────────────────────────────────────────────────────────────────────────────
+
+abbrev pub million : ℕ
+million = 10 ^ 6
+
+-- what arithmetic sees in a value
+pub data Number : Type 0 where
+  whole : Option ℤ → Number
+  millionths : Option ℤ → Number
+
+unfoldable pub numberIn : Value → Outcome Number
+numberIn (Value.uri u) = fault arithmeticOnNoNumber
+numberIn (Value.string s) = fault arithmeticOnNoNumber
+numberIn (Value.integer n) = ok (whole n)
+numberIn (Value.decimal n) = ok (millionths n)
+numberIn (Value.dateTime n) = fault arithmeticOnNoNumber
+
+-- an integer as a decimal
+abbrev pub widened : Option ℤ → Option ℤ
+widened none = none
+widened (some n) = some (n *ℤ pos million)
+
+-- a result outside its kind's limits is no value, and so is anything of no value
+unfoldable pub lifted : (ℤ → Bool) → (ℤ → ℤ) → Option ℤ → Option ℤ
+lifted within f none = none
+lifted within f (some n) = provided (within (f n)) (some (f n))
+
+unfoldable pub lifted₂ : (ℤ → Bool) → (ℤ → ℤ → ℤ) → Option ℤ → Option ℤ → Option ℤ
+lifted₂ within f none b = none
+lifted₂ within f (some a) none = none
+lifted₂ within f (some a) (some b) = provided (within (f a b)) (some (f a b))
+
+-- integer with integer gives an integer, else a decimal
+abbrev pub combine : (ℤ → ℤ → ℤ) → Number → Number → Value
+combine f (whole a) (whole b) = Value.integer (lifted₂ isInteger f a b)
+combine f (whole a) (millionths b) = Value.decimal (lifted₂ isDecimal f (widened a) b)
+combine f (millionths a) (whole b) = Value.decimal (lifted₂ isDecimal f a (widened b))
+combine f (millionths a) (millionths b) = Value.decimal (lifted₂ isDecimal f a b)
+
+abbrev pub distance : Number → Value
+distance (whole a) = Value.integer (lifted isInteger (λ n. pos (natAbs n)) a)
+distance (millionths a) = Value.decimal (lifted isDecimal (λ n. pos (natAbs n)) a)
+
+unfoldable pub sum : Value → Value → Outcome Value
+sum a b = do
+  m ← numberIn a
+  n ← numberIn b
+  ok (combine _+ℤ_ m n)
+
+unfoldable pub difference : Value → Value → Outcome Value
+difference a b = do
+  m ← numberIn a
+  n ← numberIn b
+  ok (combine _-ℤ_ m n)
+
+unfoldable pub absolute : Value → Outcome Value
+absolute a = do
+  n ← numberIn a
+  ok (distance n)
+
+-- ── str ─────────────────────────────────────────────────────────────────────────────────────
+
+-- a number's digits, with no needless zero in front; `left` bounds their number
+unfoldable pub shortDigits : (left : ℕ) → ℕ → Text
+shortDigits zero n = []
+shortDigits (suc left) n =
+    elim (ltb n 10) [
+      | true ↦ (0x30 + n) ∷ []
+      | false ↦ shortDigits left (n / 10) ++ ((0x30 + n % 10) ∷ [])
+    ]
+
+unfoldable pub naturalText : ℕ → Text
+naturalText n = shortDigits 20 n
+
+unfoldable pub signText : ℤ → Text
+signText (pos n) = []
+signText (negsuc n) = ascii "-"
+
+-- an integer's digits (-3)
+unfoldable pub integerText : ℤ → Text
+integerText z = signText z ++ naturalText (natAbs z)
+
+-- a fraction of n digits, with at least one digit and no needless zero
+unfoldable pub fractionText : (n : ℕ) → ℕ → Text
+fractionText zero m = ascii "0"
+fractionText (suc zero) m = digits 1 m
+fractionText (suc (suc n)) m =
+    elim (eqb (m % 10) 0) [
+      | true ↦ fractionText (suc n) (m / 10)
+      | false ↦ digits (suc (suc n)) m
+    ]
+
+-- a decimal with at least one digit on both sides of the point (-0.5, 3.0)
+unfoldable pub decimalText : (millionths : ℤ) → Text
+decimalText z = signText z ++ (naturalText (natAbs z / million) ++ (ascii "." ++ fractionText 6 (natAbs z % million)))
+
+abbrev pub untagged : Text → Option Tagged
+untagged t = some (record { tag = []; text = t })
+
+-- a URI's or string's text without tag
+unfoldable pub textOf : Value → Option Tagged
+textOf (Value.uri u) = untagged u
+textOf (Value.string none) = none
+textOf (Value.string (some s)) = untagged (s .text)
+textOf (Value.integer none) = none
+textOf (Value.integer (some n)) = untagged (integerText n)
+textOf (Value.decimal none) = none
+textOf (Value.decimal (some n)) = untagged (decimalText n)
+textOf (Value.dateTime n) = untagged (dateTimeText n)
+
+-- ── the order of strings ────────────────────────────────────────────────────────────────────
+
+-- The rank of each byte from 20 to 7E: blank, digits, letters as A a B b to Z z, then the others by byte.
+unfoldable pub ranks : List ℕ
+ranks =
+    0 ∷ 63 ∷ 64 ∷ 65 ∷ 66 ∷ 67 ∷ 68 ∷ 69 ∷ 70 ∷ 71 ∷ 72 ∷ 73 ∷ 74 ∷ 75 ∷ 76 ∷ 77
+    ∷ 1 ∷ 2 ∷ 3 ∷ 4 ∷ 5 ∷ 6 ∷ 7 ∷ 8 ∷ 9 ∷ 10 ∷ 78 ∷ 79 ∷ 80 ∷ 81 ∷ 82 ∷ 83
+    ∷ 84 ∷ 11 ∷ 13 ∷ 15 ∷ 17 ∷ 19 ∷ 21 ∷ 23 ∷ 25 ∷ 27 ∷ 29 ∷ 31 ∷ 33 ∷ 35 ∷ 37 ∷ 39
+    ∷ 41 ∷ 43 ∷ 45 ∷ 47 ∷ 49 ∷ 51 ∷ 53 ∷ 55 ∷ 57 ∷ 59 ∷ 61 ∷ 85 ∷ 86 ∷ 87 ∷ 88 ∷ 89
+    ∷ 90 ∷ 12 ∷ 14 ∷ 16 ∷ 18 ∷ 20 ∷ 22 ∷ 24 ∷ 26 ∷ 28 ∷ 30 ∷ 32 ∷ 34 ∷ 36 ∷ 38 ∷ 40
+    ∷ 42 ∷ 44 ∷ 46 ∷ 48 ∷ 50 ∷ 52 ∷ 54 ∷ 56 ∷ 58 ∷ 60 ∷ 62 ∷ 91 ∷ 92 ∷ 93 ∷ 94 ∷ []
+
+unfoldable pub rankIn : (table : List ℕ) → ℕ → ℕ
+rankIn table b = getD table (b - 0x20) 0
+
+-- in order by a rank of the elements; the end comes first
+unfoldable pub before : (rank : ℕ → ℕ) → List ℕ → List ℕ → Bool
+before rank [] [] = false
+before rank [] (b ∷ t) = true
+before rank (a ∷ s) [] = false
+before rank (a ∷ s) (b ∷ t) = ltb (rank a) (rank b) || (eqb (rank a) (rank b) && before rank s t)
+
+-- by text, then tag, under a rank table
+unfoldable pub stringBefore : (table : List ℕ) → Tagged → Tagged → Bool
+stringBefore table a b =
+    before (rankIn table) (a .text) (b .text) || (sameBytes (a .text) (b .text) && before (rankIn table) (a .tag) (b .tag))
+
+-- ── equal and less ──────────────────────────────────────────────────────────────────────────
+
+-- two values with a common datatype; numbers in millionths
+pub data Pair : Type 0 where
+  uris : Text → Text → Pair
+  strings : Option Tagged → Option Tagged → Pair
+  numbers : Option ℤ → Option ℤ → Pair
+  dateTimes : ℤ → ℤ → Pair
+
+abbrev pub withURI : Text → Value → Outcome Pair
+withURI a (Value.uri b) = ok (uris a b)
+withURI a (Value.string b) = fault nothingInCommon
+withURI a (Value.integer b) = fault nothingInCommon
+withURI a (Value.decimal b) = fault nothingInCommon
+withURI a (Value.dateTime b) = fault nothingInCommon
+
+abbrev pub withString : Option Tagged → Value → Outcome Pair
+withString a (Value.uri b) = fault nothingInCommon
+withString a (Value.string b) = ok (strings a b)
+withString a (Value.integer b) = fault nothingInCommon
+withString a (Value.decimal b) = fault nothingInCommon
+withString a (Value.dateTime b) = fault nothingInCommon
+
+abbrev pub withNumber : Option ℤ → Value → Outcome Pair
+withNumber a (Value.uri b) = fault nothingInCommon
+withNumber a (Value.string b) = fault nothingInCommon
+withNumber a (Value.integer b) = ok (numbers a (widened b))
+withNumber a (Value.decimal b) = ok (numbers a b)
+withNumber a (Value.dateTime b) = fault nothingInCommon
+
+abbrev pub withDateTime : ℤ → Value → Outcome Pair
+withDateTime a (Value.uri b) = fault nothingInCommon
+withDateTime a (Value.string b) = fault nothingInCommon
+withDateTime a (Value.integer b) = fault nothingInCommon
+withDateTime a (Value.decimal b) = fault nothingInCommon
+withDateTime a (Value.dateTime b) = ok (dateTimes a b)
+
+unfoldable pub paired : Value → Value → Outcome Pair
+paired (Value.uri a) b = withURI a b
+paired (Value.string a) b = withString a b
+paired (Value.integer a) b = withNumber (widened a) b
+paired (Value.decimal a) b = withNumber a b
+paired (Value.dateTime a) b = withDateTime a b
+
+-- a comparison that holds no value is false
+unfoldable pub present : {A : Type 0} → (A → A → Bool) → Option A → Option A → Bool
+present f none b = false
+present f (some a) none = false
+present f (some a) (some b) = f a b
+
+unfoldable pub sameTagged : Tagged → Tagged → Bool
+sameTagged a b = sameBytes (a .tag) (b .tag) && sameBytes (a .text) (b .text)
+
+-- equal on strings compares tag and text; numbers compare by amount, dateTimes by seconds
+unfoldable pub equalPair : Pair → Bool
+equalPair (uris a b) = sameBytes a b
+equalPair (strings a b) = present sameTagged a b
+equalPair (numbers a b) = present sameNumber a b
+equalPair (dateTimes a b) = sameNumber a b
+
+-- URIs go by bytes
+unfoldable pub lessPair : Pair → Bool
+lessPair (uris a b) = before (λ n. n) a b
+lessPair (strings a b) = present (stringBefore ranks) a b
+lessPair (numbers a b) = present ltZ a b
+lessPair (dateTimes a b) = ltZ a b
+
+-- ── regex and langMatches want a string ─────────────────────────────────────────────────────
+
+unfoldable pub stringIn : Value → Outcome (Option Tagged)
+stringIn (Value.uri u) = fault textTestOnNoString
+stringIn (Value.string s) = ok s
+stringIn (Value.integer n) = fault textTestOnNoString
+stringIn (Value.decimal n) = fault textTestOnNoString
+stringIn (Value.dateTime n) = fault textTestOnNoString
+
+-- a test that holds no value is false
+unfoldable pub holdsOf : (Tagged → Bool) → Option Tagged → Bool
+holdsOf f none = false
+holdsOf f (some s) = f s

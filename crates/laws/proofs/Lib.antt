@@ -1,0 +1,11 @@
+pub mod Tests
+pub mod Order
+pub mod Sound
+pub mod Ranges
+pub mod Options
+pub mod Reading
+pub mod More
+pub mod Walking
+pub mod ReadBounds
+pub mod Lists
+pub mod Typings

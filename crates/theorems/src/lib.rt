@@ -1,0 +1,1 @@
+// The demands and what they rest on, as theorems. No code.

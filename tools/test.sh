@@ -1,0 +1,36 @@
+#!/usr/bin/env bash
+# The gate: every crate proved from nothing, must-fail edits refused, programs compared; then the Rust side.
+# Prints the sum as its last line, 'N passed, M failed', and fails where anything did.
+set -uo pipefail
+cd "$(dirname "$0")/.."
+export PATH="$HOME/.cargo/bin:$PATH"
+log=$(mktemp -d)
+trap 'rm -rf "$log"' EXIT
+passed=0 failed=0
+
+# counts NAME LOG STATUS: adds up every 'N passed, M failed' and 'N passed; M failed' of a log; a failed command counts as one at least
+counts() {
+  local p f
+  p=$(grep -oE '[0-9]+ passed[,;]' "$2" | awk '{s += $1} END {print s + 0}')
+  f=$(grep -oE '[0-9]+ failed' "$2" | awk '{s += $1} END {print s + 0}')
+  [ "$3" -eq 0 ] || [ "$f" -gt 0 ] || f=1
+  passed=$((passed + p)) failed=$((failed + f))
+  echo "== $1: $p passed, $f failed ($((SECONDS - began)) s)"
+}
+
+part() {
+  local name=$1
+  shift
+  began=$SECONDS
+  echo "== $name"
+  "$@" 2>&1 | tee "$log/part"
+  counts "$name" "$log/part" "${PIPESTATUS[0]}"
+}
+
+part 'rt ci' rt ci
+if [ -f host/Cargo.toml ]; then
+  part 'cargo test' cargo test --offline --quiet --manifest-path host/Cargo.toml
+fi
+echo "== the whole gate took $SECONDS s"
+echo "$passed passed, $failed failed"
+[ "$failed" -eq 0 ]
