@@ -9,3 +9,15 @@ pub mod Walking
 pub mod ReadBounds
 pub mod Lists
 pub mod Typings
+pub mod All
+pub mod Same
+pub mod Sorts
+pub mod Fine
+pub mod Bindings
+pub mod Evaluate
+pub mod Answers
+pub mod Places
+pub mod Results
+pub mod Numbering
+pub mod Check
+pub mod Bytes

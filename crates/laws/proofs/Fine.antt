@@ -1,0 +1,37 @@
+-- No fault: an outcome that is a value with a property.
+use mathlib.Core.Path.{_≡_, refl}
+use mathlib.Core.Bool.{Bool, true, false}
+use lib.Dec.{T}
+use Rattle.definitions.specs.Outcome.{Outcome, ok, fault, _>>=_, _>>_, demand, Fault}
+
+pub data Fine {A : Type 0} (P : A → Type 0) : Outcome A → Type 0 where
+  fine : {a : A} → P a → Fine P (ok a)
+
+-- with no more to say than that there is a value
+abbrev pub Any : {A : Type 0} → A → Type 0
+Any a = Unit {0}
+
+module _ {A B : Type 0} {P : A → Type 0} {Q : B → Type 0} where
+  pub fine-then : {m : Outcome A} {f : A → Outcome B} → Fine P m → ((a : A) → P a → Fine Q (f a)) → Fine Q (m >>= f)
+  unfolding _>>=_
+  fine-then (fine {a} p) k = k a p
+
+  pub fine-and : {m : Outcome A} {n : Outcome B} → Fine P m → Fine Q n → Fine Q (m >> n)
+  unfolding _>>_
+  fine-and (fine p) h = h
+
+pub fine-demand : (b : Bool) (x : Fault) → T b → Fine Any (demand b x)
+unfolding demand
+fine-demand true x h = fine tt
+fine-demand false x h = absurd h
+
+module _ {A : Type 0} {P : A → Type 0} where
+  pub fine-map : {Q : A → Type 0} {m : Outcome A} → Fine P m → ((a : A) → P a → Q a) → Fine Q m
+  fine-map (fine {a} p) k = fine (k a p)
+
+  -- the value
+  pub fine-ok : {m : Outcome A} → Fine P m → (a : A) × (m ≡ ok a) × P a
+  fine-ok (fine {a} p) = (a, refl, p)
+
+  pub ok-fine : {m : Outcome A} (a : A) → m ≡ ok a → P a → Fine P m
+  ok-fine a e p = rw e (fine p)

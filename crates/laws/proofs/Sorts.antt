@@ -1,0 +1,64 @@
+-- The types of a term: a sort has exactly the types above a least one.
+use mathlib.Core.Path.{_≡_, refl, sym}
+use mathlib.Core.Bool.{Bool, true, false, _||_, Bool·beq}
+use mathlib.Core.Option.{Option, none, some}
+use lib.Dec.{T}
+use Rattle.definitions.specs.Types.{Datatype, Ty, plain, range, leq, sameType, leqDatatype}
+use Rattle.definitions.specs.Terms.{Term, Schema, datatypeIn, Sort, has, sortOf, hasType}
+use Rattle.definitions.specs.Evaluate.{isURI}
+use Rattle.laws.proofs.Tests.{trueIs}
+use Rattle.laws.proofs.Order.{byType, byDatatype, everyType, leq-trans, leq-refl}
+
+-- the least type that a sort has
+unfoldable pub least : Sort → Ty
+least (Sort.uri none) = plain Datatype.anyURI
+least (Sort.uri (some d)) = range d
+least (Sort.literal d) = plain d
+
+agree : (a b : Bool) → T (Bool·beq a b) → a ≡ b
+agree true true h = refl
+agree true false h = absurd h
+agree false true h = absurd h
+agree false false h = refl
+
+pub has-least : (σ : Sort) (τ : Ty) → has σ τ ≡ leq (least σ) τ
+unfolding least
+has-least (Sort.uri none) τ =
+    agree (has (Sort.uri none) τ) (leq (plain Datatype.anyURI) τ) (byType (λ τ. Bool·beq (has (Sort.uri none) τ) (leq (plain Datatype.anyURI) τ)) tt τ)
+has-least (Sort.uri (some d)) τ =
+    let same : Datatype → Ty → Bool = λ d τ. Bool·beq (has (Sort.uri (some d)) τ) (leq (range d) τ) in
+    agree (has (Sort.uri (some d)) τ) (leq (range d) τ) (byType (same d) (byDatatype (λ d. everyType (same d)) tt d) τ)
+has-least (Sort.literal d) τ = refl
+
+pub has-of-least : (σ : Sort) (τ : Ty) → T (leq (least σ) τ) → T (has σ τ)
+has-of-least σ τ h = rw (has-least σ τ) h
+
+pub least-of-has : (σ : Sort) (τ : Ty) → T (has σ τ) → T (leq (least σ) τ)
+least-of-has σ τ h = rw (has-least σ τ) at h
+
+-- what has a type has every type above it
+pub has-above : (σ : Sort) (τ ρ : Ty) → T (has σ τ) → T (leq τ ρ) → T (has σ ρ)
+has-above σ τ ρ h k = has-of-least σ ρ (leq-trans (least σ) τ ρ (least-of-has σ τ h) k)
+
+-- ── URIs ────────────────────────────────────────────────────────────────────────────────────
+
+pub uri-has : (o : Option Datatype) → T (has (Sort.uri o) (plain Datatype.anyURI))
+uri-has none = tt
+uri-has (some d) = tt
+
+-- a term has type anyURI exactly where it is a URI
+pub is-uri : (S : Schema) (t : Term) → T (hasType S t (plain Datatype.anyURI)) → T (isURI t)
+unfolding sortOf
+is-uri S (Term.uri u) h = tt
+is-uri S (Term.string g t) h = h
+is-uri S (Term.integer n) h = h
+is-uri S (Term.decimal n) h = h
+is-uri S (Term.dateTime n) h = h
+
+pub of-uri : (S : Schema) (t : Term) → T (isURI t) → T (hasType S t (plain Datatype.anyURI))
+unfolding sortOf
+of-uri S (Term.uri u) h = uri-has (datatypeIn S u)
+of-uri S (Term.string g t) h = h
+of-uri S (Term.integer n) h = h
+of-uri S (Term.decimal n) h = h
+of-uri S (Term.dateTime n) h = h
