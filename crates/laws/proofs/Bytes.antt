@@ -7,7 +7,7 @@ use mathlib.Core.Path.{_≡_, refl, sym, ap, ap₂, subst, _∙_}
 use mathlib.Core.Logic.{⊎-elim}
 use native.Mathlib.Omega.{arith}
 use native.Mathlib.Nat.{pow-suc, div-lt-iff-lt-mul, mod-lt, mod-add-div}
-use lib.Dec.{T, eqb, leb, ltb, leb→le, eqb→eq, eqb-refl}
+use lib.Dec.{T, T-not, eqb, leb, ltb, leb→le, eqb→eq, eqb-refl}
 use lib.IntN.{ℤ, pos, negsuc, negℤ}
 use lib.Signed.{mag, leZ}
 use lib.ListN.{length, getD, take, drop, replicate, length-append, length-replicate, length-take, length-drop, List·getD-eq-default}
@@ -138,6 +138,9 @@ text-within width text = omega (arith, length-append text (replicate (width - le
 -- no byte of a text is zero
 abbrev pub NoZero : (ℕ → Bool) → Type 0
 NoZero ok = (b : ℕ) → T (ok b) → b ≡ 0 → ⊥
+
+pub no-zero : (ok : ℕ → Bool) → T (not (ok 0)) → NoZero ok
+no-zero ok t b h e = T-not (ok 0) t (subst (λ (k : ℕ). T (ok k)) e h)
 
 unfilled-zeros : (n : ℕ) → unfilled (replicate n 0) ≡ []
 unfolding unfilled

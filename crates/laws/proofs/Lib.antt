@@ -21,3 +21,8 @@ pub mod Results
 pub mod Numbering
 pub mod Check
 pub mod Bytes
+pub mod PageCheck
+pub mod Valid
+pub mod Slots
+pub mod Tables
+pub mod ScriptReads

@@ -3,10 +3,10 @@ use Prim.Native.Nat.{ℕ, zero, suc, _+_, _-_, _≤_, _<_}
 use mathlib.Core.Bool.{Bool, true, false, cond, not, _&&_}
 use mathlib.Core.List.{List, [], _∷_}
 use mathlib.Core.Option.{Option, none, some}
-use mathlib.Core.Path.{_≡_, refl, sym, ap, _∙_}
+use mathlib.Core.Path.{_≡_, refl, sym, ap, subst, _∙_}
 use native.Mathlib.Omega.{arith}
 use native.Mathlib.Numerals.{sub-one}
-use lib.Dec.{T, ltb, eqb, ltb→lt}
+use lib.Dec.{T, ltb, eqb, ltb→lt, eqb→eq}
 use borrow.Author.Tests.{ne-eqb, le-leb, lt-leb, lt-ltb, le-ltb}
 use lib.ListN.{length, List·getD-eq-default}
 use Rattle.definitions.specs.Limits.{variableLimit, blockWidth, pairLimit}
@@ -15,7 +15,7 @@ use Rattle.definitions.specs.Tree.{Name, var, const, Expr, Cond, Query, Binder,
 use Rattle.definitions.specs.Reading.{andThen, oneOf, twoOf, fourOf, NameShape, nameRows, nameOf, readName, ExprShape, exprRows, exprOf, readExpr}
 use Rattle.definitions.specs.Reading.{CondShape, condRows, condOf, readCond, withBody, QueryShape, queryRows, queryOf, readQuery}
 use Rattle.definitions.specs.Reading.{ScriptShape, scriptRows, scriptOf, readScript, withBinders, bindersAt, isEach}
-use Rattle.laws.proofs.Tests.{andLeft, andRight, isFalse}
+use Rattle.laws.proofs.Tests.{andLeft, andRight, isFalse, by-test}
 use Rattle.laws.proofs.Ranges.{everyFrom, every-in}
 use Rattle.laws.proofs.Options.{some-not-none}
 
@@ -118,13 +118,20 @@ module _ {A : Type 0} where
   AllRows P [] = Unit {0}
   AllRows P (p ∷ rows) = P (p .1) × AllRows P rows
 
-  pick-all : (P : A → Type 0) (b : Bool) (x y : A) → P x → P y → P (cond b x y)
-  pick-all P true x y px py = px
-  pick-all P false x y px py = py
-
   pub row-all : (P : A → Type 0) (k : ℕ) (rows : List (ℕ × A)) (other : A) → AllRows P rows → P other → P (row k rows other)
   row-all P k [] other all o = o
-  row-all P k (p ∷ rows) other all o = pick-all P (eqb k (p .0)) (p .1) (row k rows other) (all .0) (row-all P k rows other (all .1) o)
+  row-all P k (p ∷ rows) other all o = by-test P (eqb k (p .0)) (p .1) (row k rows other) (λ t. all .0) (λ t. row-all P k rows other (all .1) o)
+
+  -- the same of each row with its key
+  abbrev pub AllKeys : (ℕ → A → Type 0) → List (ℕ × A) → Type 0
+  AllKeys P [] = Unit {0}
+  AllKeys P (p ∷ rows) = P (p .0) (p .1) × AllKeys P rows
+
+  pub row-keys : (P : ℕ → A → Type 0) (k : ℕ) (rows : List (ℕ × A)) (other : A) → AllKeys P rows → P k other → P k (row k rows other)
+  row-keys P k [] other all o = o
+  row-keys P k (p ∷ rows) other all o =
+      by-test (P k) (eqb k (p .0)) (p .1) (row k rows other)
+      (λ t. subst (λ (j : ℕ). P j (p .1)) (sym (eqb→eq k (p .0) t)) (all .0)) (λ t. row-keys P k rows other (all .1) o)
 
 -- ── one level of each reader ────────────────────────────────────────────────────────────────
 

@@ -1,0 +1,52 @@
+-- Operations on the saved run, place by place. What they leave unused is zero.
+use Prim.Native.Nat.{ℕ, _+_, _-_}
+use mathlib.Core.Bool.{true, false}
+use mathlib.Core.List.{List, [], _∷_}
+use lib.ListN.{set, getD}
+use Rattle.definitions.specs.Saved.{noItem}
+use Rattle.definitions.specs.declared.SavedItem.{SavedItem}
+use Rattle.definitions.specs.declared.SavedRun.{SavedRun}
+
+-- another stack
+abbrev pub withItems : SavedRun → ℕ → List SavedItem → SavedRun
+withItems r height items =
+    record {
+      height = height;
+      quads = r .quads;
+      graphs = r .graphs;
+      types = r .types;
+      bound = r .bound;
+      bindings = r .bindings;
+      fetched = r .fetched;
+      items = items;
+    }
+
+-- an item that has used no tuple
+abbrev pub freshItem : ℕ → SavedItem
+freshItem at = record { «at» = at; started = false; last = 0 ∷ 0 ∷ 0 ∷ 0 ∷ [] }
+
+abbrev pub pushed : SavedRun → SavedItem → SavedRun
+pushed r i = withItems r (r .height + 1) (set (r .items) (r .height) i)
+
+abbrev pub popped : SavedRun → SavedRun
+popped r = withItems r (r .height - 1) (set (r .items) (r .height - 1) (freshItem 0))
+
+abbrev pub replaced : SavedRun → SavedItem → SavedRun
+replaced r i = withItems r (r .height) (set (r .items) (r .height - 1) i)
+
+abbrev pub topOf : SavedRun → SavedItem
+topOf r = getD (r .items) (r .height - 1) noItem
+
+-- a variable bound to a term
+abbrev pub boundTo : SavedRun → ℕ → ℕ → SavedRun
+boundTo r v term =
+    record {
+      height = r .height;
+      quads = r .quads;
+      graphs = r .graphs;
+      types = r .types;
+      bound = set (r .bound) v true;
+      bindings = set (r .bindings) v term;
+      fetched = r .fetched;
+      items = r .items;
+    }
