@@ -28,9 +28,22 @@ part() {
 }
 
 part 'rt ci' rt ci
-if [ -f host/Cargo.toml ]; then
-  part 'cargo test' cargo test --offline --quiet --manifest-path host/Cargo.toml
-fi
+# check NAME COMMAND: a part that has no count of its own counts as one
+check() {
+  local name=$1
+  shift
+  began=$SECONDS
+  echo "== $name"
+  if "$@"; then passed=$((passed + 1)); else failed=$((failed + 1)); echo "FAILED: $name"; fi
+  echo "== $name: done ($((SECONDS - began)) s)"
+}
+
+host() { (cd host && "$@"); }
+check 'cargo fmt' host cargo fmt --check
+check 'cargo clippy' host cargo clippy --offline --quiet --all-targets -- -D warnings
+part 'cargo test' host cargo test --offline --quiet
+check 'the comparison' host cargo run --offline --quiet --release -p compare -- --cases 50000 --seed 1
+
 echo "== the whole gate took $SECONDS s"
 echo "$passed passed, $failed failed"
 [ "$failed" -eq 0 ]

@@ -1,22 +1,22 @@
 -- Laws of bytes: little endian numbers, two's complement, fields filled with zeros; each there and back.
 use Prim.Native.Nat.{ℕ, zero, suc, _+_, _*_, _-_, _/_, _%_, _^_, _≤_, _<_}
-use mathlib.Core.Bool.{Bool, true, false, not, _&&_}
+use mathlib.Core.Bool.{Bool, true, not, _&&_}
 use mathlib.Core.List.{List, [], _∷_, _++_}
-use mathlib.Core.Option.{Option, none, some}
+use mathlib.Core.Option.{some}
 use mathlib.Core.Path.{_≡_, refl, sym, ap, ap₂, subst, _∙_}
 use mathlib.Core.Logic.{⊎-elim}
 use native.Mathlib.Omega.{arith}
-use native.Mathlib.Nat.{pow-suc, div-lt-iff-lt-mul, mod-lt, mod-add-div}
-use lib.Dec.{T, T-not, eqb, leb, ltb, leb→le, eqb→eq, eqb-refl}
+use native.Mathlib.Nat.{pow-suc, div-lt-iff-lt-mul, mod-add-div}
+use lib.Dec.{T, T-not, eqb, leb, leb→le, eqb→eq}
 use lib.IntN.{ℤ, pos, negsuc, negℤ}
 use lib.Signed.{mag, leZ}
-use lib.ListN.{length, getD, take, drop, replicate, length-append, length-replicate, length-take, length-drop, List·getD-eq-default}
+use lib.ListN.{length, take, drop, replicate, length-append, length-replicate, length-take, List·getD-eq-default}
 use lib.Seq.{getD-drop, getD-take}
 use borrow.Author.Tests.{lt-ltb, le-ltb, ne-eqb}
 use Rattle.definitions.specs.Lists.{every}
-use Rattle.definitions.specs.Bytes.{sameBytes, byte, part, word, little, littleBytes, signed, unsigned, allZero, filled, unfilled, provided}
+use Rattle.definitions.specs.Bytes.{sameBytes, byte, part, word, little, littleBytes, signed, unsigned, allZero, filled, unfilled}
 use Rattle.definitions.specs.Terms.{Text, fieldText, withinLimits}
-use Rattle.laws.proofs.Tests.{andLeft, andRight, andMake, isFalse}
+use Rattle.laws.proofs.Tests.{andLeft, andRight, andMake}
 use Rattle.laws.proofs.Ranges.{split}
 use Rattle.laws.proofs.Options.{some-is, provided-inv, provided-holds}
 use Rattle.laws.proofs.Same.{same-bytes, bytes-refl}

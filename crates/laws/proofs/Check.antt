@@ -1,10 +1,10 @@
 -- What the checks of terms, schema and script (refusals 2 to 9) find where nothing is refused.
-use Prim.Native.Nat.{ℕ, zero, suc, _≤_, _<_}
+use Prim.Native.Nat.{ℕ, suc, _≤_, _<_}
 use mathlib.Core.Bool.{Bool, true, false, not, _&&_, _||_}
-use mathlib.Core.List.{List, [], _∷_, _++_, map}
-use mathlib.Core.Option.{Option, none, some}
+use mathlib.Core.List.{List, [], _∷_, map}
+use mathlib.Core.Option.{some}
 use mathlib.Core.Path.{_≡_, refl, sym, ap, subst, _∙_}
-use mathlib.Core.Logic.{_⊎_, inl, inr, ⊎-elim}
+use mathlib.Core.Logic.{⊎-elim}
 use native.Mathlib.Omega.{arith}
 use borrow.Author.Needs.{zero≤}
 use lib.Dec.{T, T-not, eqb, leb, ltb, leb→le, ltb→lt, eqb→eq}
@@ -16,9 +16,10 @@ use Rattle.definitions.specs.Terms.{Term, Schema, Sort, sameTerm, sameProperty,
 use Rattle.definitions.specs.Tree.{Name, var, const, Expr, Cond, Query, Script, success, fromNamed, block, sequence}
 use Rattle.definitions.specs.Reading.{parsed}
 use Rattle.definitions.specs.Scope.{variables, variablesOf, inName, inExpr, inCond, inQuery, isFree, bindersOf, inScope}
-use Rattle.definitions.specs.Typing.{Written, unbound, undecided, fixed, writtenTypes, choices, eachWith, assignments, typeAt, those, typings, above, scriptTyped, Verdict, noTyping, noGreatest, greatest, firstAbove, judge, verdict}
+use Rattle.definitions.specs.Typing.{Written, unbound, undecided, fixed, writtenTypes, choices, eachWith, assignments, typeAt, those, typings}
+use Rattle.definitions.specs.Typing.{above, scriptTyped, Verdict, noTyping, noGreatest, greatest, firstAbove, judge, verdict}
 use Rattle.definitions.specs.Machine.{withProperties}
-use Rattle.definitions.specs.Result.{Result, refused, passed, _>>=_, _>>_, require, given}
+use Rattle.definitions.specs.Result.{Result, passed, _>>=_, _>>_, require, given}
 use Rattle.definitions.specs.Calls.{Checked, constantsOf, typesOf, sizesFit, check, reportedType, reportedTypes, reported}
 use Rattle.laws.proofs.Tests.{andLeft, andRight, orCases, trueIs}
 use Rattle.laws.proofs.Order.{byType}
@@ -26,7 +27,7 @@ use Rattle.laws.proofs.Ranges.{every-in}
 use Rattle.laws.proofs.All.{All, all-append, all-map}
 use Rattle.laws.proofs.Numbering.{distinct-properties}
 use Rattle.laws.proofs.Results.{passed-is, not-refused, bind-inv, given-bind-inv, require-after-inv}
-use Rattle.laws.proofs.Sound.{NameBounded, ExprBounded, CondBounded, QueryBounded, ScriptBounded, Placed, height, Accepted}
+use Rattle.laws.proofs.Sound.{NameBounded, ExprBounded, CondBounded, QueryBounded, ScriptBounded, Placed, Accepted}
 use Rattle.laws.proofs.ReadBounds.{ScriptIn, parsed-in}
 
 -- ── the checks, one by one ──────────────────────────────────────────────────────────────────
@@ -183,7 +184,8 @@ unfolding those
 all-those P p [] h = tt
 all-those {A} P p (x ∷ xs) h = go (p x) refl (all-those P p xs (h .1))
   where
-    go : (b : Bool) → p x ≡ b → All (λ y. T (p y) × P y) (those p xs) → All (λ y. T (p y) × P y) (elim b as (λ c. List A) [ true ↦ x ∷ those p xs | false ↦ those p xs ])
+    go : (b : Bool) → p x ≡ b → All (λ y. T (p y) × P y) (those p xs)
+        → All (λ y. T (p y) × P y) (elim b as (λ c. List A) [ true ↦ x ∷ those p xs | false ↦ those p xs ])
     go true e r = ((trueIs (p x) e, h .0), r)
     go false e r = r
 
@@ -224,19 +226,26 @@ placed-to lo hi hi′ (sequence at c d) l h = (h .0, (h .1 .0, h .1 .1, placed-t
 
 module _ (terms schema script : List ℕ) (c : Checked) (p : Passed terms schema script c) where
   -- refusal 6's limits, and the script that was read
-  pub terms-fit : length (c .terms) ≤ termLimit
+  sizes : (length (c .terms) ≤ termLimit) × (length (c .schema) ≤ entryLimit) × (length script ≤ scriptLimit)
   unfolding sizesFit
-  terms-fit = leb→le (length (c .terms)) termLimit (andLeft (leb (length (c .terms)) termLimit) (leb (length (c .schema)) entryLimit && leb (length script) scriptLimit) (p .sizes))
+  sizes =
+      let terms-test = leb (length (c .terms)) termLimit in
+      let schema-test = leb (length (c .schema)) entryLimit in
+      let script-test = leb (length script) scriptLimit in
+      let rest = andRight terms-test (schema-test && script-test) (p .sizes) in (
+        leb→le (length (c .terms)) termLimit (andLeft terms-test (schema-test && script-test) (p .sizes)),
+        leb→le (length (c .schema)) entryLimit (andLeft schema-test script-test rest),
+        leb→le (length script) scriptLimit (andRight schema-test script-test rest),
+      )
 
-  rest-fits : T (leb (length (c .schema)) entryLimit && leb (length script) scriptLimit)
-  unfolding sizesFit
-  rest-fits = andRight (leb (length (c .terms)) termLimit) (leb (length (c .schema)) entryLimit && leb (length script) scriptLimit) (p .sizes)
+  pub terms-fit : length (c .terms) ≤ termLimit
+  terms-fit = sizes .0
 
   pub schema-fits : length (c .schema) ≤ entryLimit
-  schema-fits = leb→le (length (c .schema)) entryLimit (andLeft (leb (length (c .schema)) entryLimit) (leb (length script) scriptLimit) rest-fits)
+  schema-fits = sizes .1
 
   pub script-fits : length script ≤ scriptLimit
-  script-fits = leb→le (length script) scriptLimit (andRight (leb (length (c .schema)) entryLimit) (leb (length script) scriptLimit) rest-fits)
+  script-fits = sizes .2
 
   pub script-in : ScriptIn script (length (c .terms)) depthLimit 0 (c .root) (length script)
   script-in = parsed-in (length (c .terms)) script (c .root) (p .parses)

@@ -26,3 +26,7 @@ pub mod Valid
 pub mod Slots
 pub mod Tables
 pub mod ScriptReads
+pub mod RunStore
+pub mod Records
+pub mod Fill
+pub mod Every

@@ -10,8 +10,9 @@ use lib.Dec.{ltb}
 use Rattle.definitions.specs.Limits.{patternWidth, languageRangeWidth, blockWidth, pairLimit}
 use Rattle.definitions.specs.Bytes.{Got, provided, onward, row, byte, past, whole, body}
 use Rattle.definitions.specs.Text.{patternOf, languageRangeOf}
-use Rattle.definitions.specs.Tree.{Name, Expr, Cond, Query, Script}
-use Rattle.definitions.specs.Reading.{andThen, oneOf, twoOf, fourOf, readName, ExprShape, exprRows, exprOf, readExpr, CondShape, condRows, condOf, readCond, withBody}
+use Rattle.definitions.specs.Tree.{Name, Expr, Cond, Query, Binder, Script}
+use Rattle.definitions.specs.Reading.{andThen, oneOf, twoOf, fourOf, readName, ExprShape, exprRows, exprOf, readExpr}
+use Rattle.definitions.specs.Reading.{CondShape, condRows, condOf, readCond, withBody}
 use Rattle.definitions.specs.Reading.{QueryShape, queryRows, queryOf, readQuery, ScriptShape, scriptRows, scriptOf, readScript, withBinders, bindersAt, isEach}
 use Rattle.laws.proofs.Options.{some-not-none}
 
@@ -43,7 +44,8 @@ module _ {A B : Type 0} (f : A → A → A → A → B) (p p′ : ℕ → Got A)
   unfolding fourOf
   four-more at =
       then-more (λ a n. andThen (p n) (λ b k. twoOf (f a b) p p k)) (λ a n. andThen (p′ n) (λ b k. twoOf (f a b) p′ p′ k))
-      (λ a n. then-more (λ b k. twoOf (f a b) p p k) (λ b k. twoOf (f a b) p′ p′ k) (λ b k. two-more (f a b) p p′ p p′ m m k) (p n) (p′ n) (m n)) (p at) (p′ at) (m at)
+      (λ a n. then-more (λ b k. twoOf (f a b) p p k) (λ b k. twoOf (f a b) p′ p′ k) (λ b k. two-more (f a b) p p′ p p′ m m k) (p n) (p′ n) (m n))
+      (p at) (p′ at) (m at)
 
 provided-more : {A : Type 0} (t : Bool) (o o′ : Got A) → More o o′ → More (provided t o) (provided t o′)
 unfolding provided
@@ -69,12 +71,14 @@ module _ (s : List ℕ) (at : ℕ) where
   module _ (expr expr′ : ℕ → Got Expr) (me : (k : ℕ) → More (expr k) (expr′ k)) where
     body-more : {A : Type 0} (n : ℕ) (good : List ℕ → Option A) (f : A → Expr → Cond) → More (withBody n good f s at expr) (withBody n good f s at expr′)
     unfolding withBody
-    body-more n good f =
-        provided-more (whole s at n) (onward (good (body s at n)) (λ a. oneOf (f a) (expr (past at n)))) (onward (good (body s at n)) (λ a. oneOf (f a) (expr′ (past at n))))
-        (onward-more (good (body s at n)) (λ a. oneOf (f a) (expr (past at n))) (λ a. oneOf (f a) (expr′ (past at n)))
+    body-more {A} n good f =
+        let with : (ℕ → Got Expr) → A → Got Cond = λ e a. oneOf (f a) (e (past at n)) in
+        provided-more (whole s at n) (onward (good (body s at n)) (with expr)) (onward (good (body s at n)) (with expr′))
+        (onward-more (good (body s at n)) (with expr) (with expr′)
         (λ a. one-more (f a) (expr (past at n)) (expr′ (past at n)) (me (past at n))))
 
-    cond-level : (sh : CondShape) (rest rest′ : ℕ → Got Cond) → ((k : ℕ) → More (rest k) (rest′ k)) → More (condOf sh s at expr rest) (condOf sh s at expr′ rest′)
+    cond-level : (sh : CondShape) (rest rest′ : ℕ → Got Cond) → ((k : ℕ) → More (rest k) (rest′ k))
+        → More (condOf sh s at expr rest) (condOf sh s at expr′ rest′)
     cond-level (CondShape.leaf c) rest rest′ m = λ a n e. e
     cond-level (CondShape.one f) rest rest′ m = one-more f (rest (at + 1)) (rest′ (at + 1)) (m (at + 1))
     cond-level (CondShape.two f) rest rest′ m = two-more f rest rest′ rest rest′ m m (at + 1)
@@ -92,15 +96,16 @@ module _ (s : List ℕ) (at : ℕ) where
     query-level QueryShape.unknown test test′ rest rest′ mt m = none-more none
     query-level (QueryShape.two f) test test′ rest rest′ mt m = two-more f rest rest′ rest rest′ m m (at + 1)
 
-    module _ (query query′ : ℕ → Got Query) (rest rest′ : ℕ → Got Script) (mq : (k : ℕ) → More (query k) (query′ k)) (m : (k : ℕ) → More (rest k) (rest′ k)) where
+    module _ (query query′ : ℕ → Got Query) (rest rest′ : ℕ → Got Script)
+        (mq : (k : ℕ) → More (query k) (query′ k)) (m : (k : ℕ) → More (rest k) (rest′ k)) where
       block-more : More (withBinders s at query rest) (withBinders s at query′ rest′)
       unfolding withBinders
       block-more =
-          provided-more (whole s at blockWidth && ltb (byte s (at + 1)) 2)
-          (onward (bindersAt pairLimit (byte s (at + 2)) s (at + 3)) (λ bs. twoOf (Script.block at (isEach s at) bs) query rest (past at blockWidth)))
-          (onward (bindersAt pairLimit (byte s (at + 2)) s (at + 3)) (λ bs. twoOf (Script.block at (isEach s at) bs) query′ rest′ (past at blockWidth)))
-          (onward-more (bindersAt pairLimit (byte s (at + 2)) s (at + 3))
-          (λ bs. twoOf (Script.block at (isEach s at) bs) query rest (past at blockWidth)) (λ bs. twoOf (Script.block at (isEach s at) bs) query′ rest′ (past at blockWidth))
+          let binders = bindersAt pairLimit (byte s (at + 2)) s (at + 3) in
+          let with : (ℕ → Got Query) → (ℕ → Got Script) → List Binder → Got Script = λ q r bs.
+          twoOf (Script.block at (isEach s at) bs) q r (past at blockWidth) in
+          provided-more (whole s at blockWidth && ltb (byte s (at + 1)) 2) (onward binders (with query rest)) (onward binders (with query′ rest′))
+          (onward-more binders (with query rest) (with query′ rest′)
           (λ bs. two-more (Script.block at (isEach s at) bs) query query′ rest rest′ mq m (past at blockWidth)))
 
       script-level : (sh : ScriptShape) → More (scriptOf sh s at name query rest) (scriptOf sh s at name′ query′ rest′)

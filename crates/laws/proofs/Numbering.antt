@@ -1,13 +1,12 @@
 -- Terms as loading and pages number them: what holds of all terms, and that they are distinct, is kept by a new number.
-use Prim.Native.Nat.{ℕ, zero}
-use mathlib.Core.Bool.{Bool, true, false, not, _&&_}
+use Prim.Native.Nat.{zero}
+use mathlib.Core.Bool.{Bool, true, false, not}
 use mathlib.Core.List.{List, [], _∷_}
-use mathlib.Core.Path.{_≡_, refl}
 use lib.Dec.{T}
 use Rattle.definitions.specs.Lists.{every, distinct}
-use Rattle.definitions.specs.Terms.{Term, Schema, Entry, sameTerm}
+use Rattle.definitions.specs.Terms.{Term, Schema, sameTerm}
 use Rattle.definitions.specs.Machine.{Numbered, numbered, afterTerm, withProperties}
-use Rattle.laws.proofs.Tests.{andLeft, andRight, andMake, falseIs}
+use Rattle.laws.proofs.Tests.{andLeft, andRight, andMake}
 use Rattle.laws.proofs.All.{All, not-other-way}
 use Rattle.laws.proofs.Same.{same-term, term-refl}
 

@@ -1,8 +1,8 @@
 -- What the machine's part of a page call (refusals 12 to 14) finds where nothing is refused.
 use Prim.Native.Nat.{ℕ}
 use mathlib.Core.List.{List}
-use mathlib.Core.Option.{Option, some}
-use mathlib.Core.Path.{_≡_, refl, sym}
+use mathlib.Core.Option.{some}
+use mathlib.Core.Path.{_≡_, sym}
 use lib.Dec.{T}
 use lib.ListN.{getElem?}
 use Rattle.definitions.specs.Terms.{Triple}

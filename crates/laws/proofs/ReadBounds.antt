@@ -1,13 +1,13 @@
 -- What reading gives is bounded: variables and constants, offsets, depth, pairs; and it lies within the script.
-use Prim.Native.Nat.{ℕ, zero, suc, _+_, _≤_, _<_, max}
-use mathlib.Core.Bool.{Bool, true, false, _&&_}
-use mathlib.Core.List.{List, [], _∷_}
+use Prim.Native.Nat.{ℕ, zero, suc, _+_, _≤_, _<_}
+use mathlib.Core.Bool.{Bool, _&&_}
+use mathlib.Core.List.{List, _∷_}
 use mathlib.Core.Option.{Option, none, some}
-use mathlib.Core.Path.{_≡_, refl, sym, ap, subst}
+use mathlib.Core.Path.{_≡_, refl, ap, subst}
 use mathlib.Core.Logic.{⊎-elim}
 use native.Mathlib.Omega.{arith}
 use lib.ListN.{length}
-use lib.Dec.{T, leb, ltb, eqb, leb→le, ltb→lt, eqb→eq}
+use lib.Dec.{T, ltb, eqb, leb→le, ltb→lt, eqb→eq}
 use Rattle.definitions.specs.Limits.{variableLimit, patternWidth, languageRangeWidth, blockWidth, pairLimit, depthLimit}
 use Rattle.definitions.specs.Bytes.{Got, provided, onward, row, byte, word, past, whole, body}
 use Rattle.definitions.specs.Text.{patternOf, languageRangeOf}
@@ -18,7 +18,7 @@ use Rattle.definitions.specs.Reading.{ScriptShape, scriptRows, scriptOf, readSc
 use Rattle.laws.proofs.Tests.{andLeft, andRight}
 use Rattle.laws.proofs.Ranges.{split}
 use Rattle.laws.proofs.Options.{some-not-none, some-is, onward-inv, provided-inv}
-use Rattle.laws.proofs.Reading.{byte-out, row-all, same-read}
+use Rattle.laws.proofs.Reading.{byte-out, row-all}
 use Rattle.laws.proofs.Sound.{NameBounded, ExprBounded, CondBounded, QueryBounded, BindersBounded, ScriptBounded, Placed, height}
 
 -- ── a property of what is read and of where it ends ─────────────────────────────────────────
@@ -51,7 +51,8 @@ module _ {A B : Type 0} (P : A → ℕ → Type 0) (Q : B → ℕ → Type 0) wh
 
 -- the second child begins where the first ends
 module _ {A B C : Type 0} (P : A → ℕ → Type 0) (R : ℕ → B → ℕ → Type 0) (Q : C → ℕ → Type 0) (q : ℕ → Got B) (hq : (m : ℕ) → Reads (R m) (q m)) where
-  two-reads : (f : A → B → C) (p : ℕ → Got A) (at : ℕ) → Reads P (p at) → ((a : A) (m : ℕ) (b : B) (n : ℕ) → P a m → R m b n → Q (f a b) n) → Reads Q (twoOf f p q at)
+  two-reads : (f : A → B → C) (p : ℕ → Got A) (at : ℕ) → Reads P (p at)
+      → ((a : A) (m : ℕ) (b : B) (n : ℕ) → P a m → R m b n → Q (f a b) n) → Reads Q (twoOf f p q at)
   unfolding twoOf
   two-reads f p at h k = then-reads P Q (p at) (λ a m. oneOf (f a) (q m)) h (λ a m x. one-reads (R m) Q (f a) (q m) (hq m) (λ b n y. k a m b n x y))
 
@@ -128,15 +129,16 @@ module _ (s : List ℕ) (terms : ℕ) where
   QueryIn at = Within (QueryBounded terms) s at
 
   -- a name whose n bytes of body lie within the script and pass a test
-  name-body : (at n : ℕ) (name : Name) (good : Bool) → (T good → NameBounded terms name) → Reads (NameIn at) (provided (whole s at n && good) (some (name, past at n)))
+  name-body : (at n : ℕ) (name : Name) (good : Bool) → (T good → NameBounded terms name)
+      → Reads (NameIn at) (provided (whole s at n && good) (some (name, past at n)))
   name-body at n name good h =
       provided-reads (NameIn at) (whole s at n && good) (some (name, past at n)) (λ t.
       let w : past at n ≤ length s = leb→le (past at n) (length s) (andLeft (whole s at n) good t) in
       leaf-reads (NameIn at) name (past at n) (record { bounded = h (andRight (whole s at n) good t); from = omega arith; to = w }))
 
   name-level : (at : ℕ) (sh : NameShape) → Reads (NameIn at) (nameOf sh s terms at)
-  name-level at NameShape.variable = name-body at 1 (var (byte s (at + 1))) (ltb (byte s (at + 1)) variableLimit) (λ t. ltb→lt (byte s (at + 1)) variableLimit t)
-  name-level at NameShape.constant = name-body at 2 (const (word s (at + 1))) (ltb (word s (at + 1)) terms) (λ t. ltb→lt (word s (at + 1)) terms t)
+  name-level at NameShape.variable = let v = byte s (at + 1) in name-body at 1 (var v) (ltb v variableLimit) (ltb→lt v variableLimit)
+  name-level at NameShape.constant = let c = word s (at + 1) in name-body at 2 (const c) (ltb c terms) (ltb→lt c terms)
   name-level at NameShape.unknown = none-reads (NameIn at)
 
   pub name-within : (left at : ℕ) → Reads (NameIn at) (readName s terms left at)
@@ -152,7 +154,8 @@ module _ (s : List ℕ) (terms : ℕ) where
     expr-level ExprShape.unknown fine name rest hn h = none-reads (ExprIn at)
     expr-level (ExprShape.leaf e) fine name rest hn h = leaf-reads (ExprIn at) e (at + 1) (record { bounded = fine; from = omega arith; to = omega arith })
     expr-level (ExprShape.one f) fine name rest hn h =
-        one-reads (ExprIn (at + 1)) (ExprIn at) f (rest (at + 1)) (h (at + 1)) (λ a n x. record { bounded = fine a (x .bounded); from = omega arith; to = x .to })
+        one-reads (ExprIn (at + 1)) (ExprIn at) f (rest (at + 1)) (h (at + 1))
+        (λ a n x. record { bounded = fine a (x .bounded); from = omega arith; to = x .to })
     expr-level (ExprShape.two f) fine name rest hn h =
         two-reads (ExprIn (at + 1)) ExprIn (ExprIn at) rest h f rest (at + 1) (h (at + 1))
         (λ a m b n x y. record { bounded = fine a b (x .bounded) (y .bounded); from = omega arith; to = y .to })
@@ -170,7 +173,8 @@ module _ (s : List ℕ) (terms : ℕ) where
         → ((m : ℕ) → Reads (ExprIn m) (expr m)) → ((m : ℕ) → Reads (CondIn m) (rest m)) → Reads (CondIn at) (condOf sh s at expr rest)
     cond-level (CondShape.leaf c) fine expr rest he h = leaf-reads (CondIn at) c (at + 1) (record { bounded = fine; from = omega arith; to = omega arith })
     cond-level (CondShape.one f) fine expr rest he h =
-        one-reads (CondIn (at + 1)) (CondIn at) f (rest (at + 1)) (h (at + 1)) (λ a n x. record { bounded = fine a (x .bounded); from = omega arith; to = x .to })
+        one-reads (CondIn (at + 1)) (CondIn at) f (rest (at + 1)) (h (at + 1))
+        (λ a n x. record { bounded = fine a (x .bounded); from = omega arith; to = x .to })
     cond-level (CondShape.two f) fine expr rest he h =
         two-reads (CondIn (at + 1)) CondIn (CondIn at) rest h f rest (at + 1) (h (at + 1))
         (λ a m b n x y. record { bounded = fine a b (x .bounded) (y .bounded); from = omega arith; to = y .to })
@@ -185,8 +189,9 @@ module _ (s : List ℕ) (terms : ℕ) where
     four-reads : (name : ℕ → Got Name) → ((m : ℕ) → Reads (NameIn m) (name m)) → Reads (QueryIn at) (fourOf Query.pattern name (at + 1))
     unfolding fourOf
     four-reads name h =
-        then-reads (NameIn (at + 1)) (QueryIn at) (name (at + 1)) (λ a i. andThen (name i) (λ b j. twoOf (Query.pattern a b) name name j)) (h (at + 1)) (λ a i x.
-        then-reads (NameIn i) (QueryIn at) (name i) (λ b j. twoOf (Query.pattern a b) name name j) (h i) (λ b j y.
+        let last : Name → Name → ℕ → Got Query = λ a b j. twoOf (Query.pattern a b) name name j in
+        then-reads (NameIn (at + 1)) (QueryIn at) (name (at + 1)) (λ a i. andThen (name i) (last a)) (h (at + 1)) (λ a i x.
+        then-reads (NameIn i) (QueryIn at) (name i) (last a) (h i) (λ b j y.
         two-reads (NameIn j) NameIn (QueryIn at) name h (Query.pattern a b) name j (h j)
         (λ c k d n z w. record { bounded = (x .bounded, y .bounded, z .bounded, w .bounded); from = omega arith; to = w .to })))
 
@@ -195,7 +200,8 @@ module _ (s : List ℕ) (terms : ℕ) where
         → Reads (QueryIn at) (queryOf sh at name test rest)
     query-level QueryShape.four fine name test rest hn ht h = four-reads name hn
     query-level QueryShape.filtered fine name test rest hn ht h =
-        one-reads (CondIn (at + 1)) (QueryIn at) Query.filter (test (at + 1)) (ht (at + 1)) (λ a n x. record { bounded = x .bounded; from = omega arith; to = x .to })
+        one-reads (CondIn (at + 1)) (QueryIn at) Query.filter (test (at + 1)) (ht (at + 1))
+        (λ a n x. record { bounded = x .bounded; from = omega arith; to = x .to })
     query-level QueryShape.leaf fine name test rest hn ht h =
         leaf-reads (QueryIn at) Query.empty (at + 1) (record { bounded = tt; from = omega arith; to = omega arith })
     query-level QueryShape.unknown fine name test rest hn ht h = none-reads (QueryIn at)
@@ -223,8 +229,10 @@ module _ (s : List ℕ) (terms : ℕ) where
   unfolding readQuery
   query-within zero at = none-reads (QueryIn at)
   query-within (suc left) at =
-      inside (QueryIn at) s at queryRows QueryShape.unknown (λ sh. queryOf sh at (readName s terms left) (readCond s terms left) (readQuery s terms left)) refl (λ l.
-      query-level at l (row (byte s at) queryRows QueryShape.unknown) (query-fine terms (byte s at)) (readName s terms left) (readCond s terms left) (readQuery s terms left)
+      inside (QueryIn at) s at queryRows QueryShape.unknown
+      (λ sh. queryOf sh at (readName s terms left) (readCond s terms left) (readQuery s terms left)) refl (λ l.
+      query-level at l (row (byte s at) queryRows QueryShape.unknown) (query-fine terms (byte s at))
+      (readName s terms left) (readCond s terms left) (readQuery s terms left)
       (λ m. name-within left m) (λ m. cond-within left m) (λ m. query-within left m))
 
 -- ── pairs of a block ────────────────────────────────────────────────────────────────────────
@@ -288,7 +296,8 @@ module _ (s : List ℕ) (terms left at : ℕ) (here : at < length s) where
   abbrev Child : ℕ → Script → ℕ → Type 0
   Child = ScriptIn s terms left
 
-  module _ (name : ℕ → Got Name) (query : ℕ → Got Query) (rest : ℕ → Got Script) (hn : (m : ℕ) → Reads (NameIn s terms m) (name m)) (hq : (m : ℕ) → Reads (QueryIn s terms m) (query m)) (h : (m : ℕ) → Reads (Child m) (rest m)) where
+  module _ (name : ℕ → Got Name) (query : ℕ → Got Query) (rest : ℕ → Got Script)
+      (hn : (m : ℕ) → Reads (NameIn s terms m) (name m)) (hq : (m : ℕ) → Reads (QueryIn s terms m) (query m)) (h : (m : ℕ) → Reads (Child m) (rest m)) where
     block-reads : Reads Whole (withBinders s at query rest)
     unfolding withBinders
     block-reads =

@@ -1,6 +1,6 @@
 -- Laws of reading: what a level of the script reads, from what its children read.
 use Prim.Native.Nat.{ℕ, zero, suc, _+_, _-_, _≤_, _<_}
-use mathlib.Core.Bool.{Bool, true, false, cond, not, _&&_}
+use mathlib.Core.Bool.{Bool, true, not, _&&_}
 use mathlib.Core.List.{List, [], _∷_}
 use mathlib.Core.Option.{Option, none, some}
 use mathlib.Core.Path.{_≡_, refl, sym, ap, subst, _∙_}
@@ -56,7 +56,8 @@ one-inv {A} {B} f (some p) {b} {n} e =
     let h : (f (p .0) ≡ b) × (p .1 ≡ n) = same-read {o = some (f (p .0), p .1)} refl e in
     (p .0, ap {B = Got A} (λ (m : ℕ). some (p .0, m)) (h .1), h .0)
 
-pub then-inv : {A B : Type 0} (o : Got A) (f : A → ℕ → Got B) {b : B} {n : ℕ} → andThen o f ≡ some (b, n) → (a : A) × (m : ℕ) × (o ≡ some (a, m)) × (f a m ≡ some (b, n))
+pub then-inv : {A B : Type 0} (o : Got A) (f : A → ℕ → Got B) {b : B} {n : ℕ}
+    → andThen o f ≡ some (b, n) → (a : A) × (m : ℕ) × (o ≡ some (a, m)) × (f a m ≡ some (b, n))
 unfolding andThen
 then-inv none f e = absurd (some-not-none e refl)
 then-inv (some p) f e = (p .0, p .1, refl, e)
@@ -104,7 +105,7 @@ module _ {A : Type 0} where
   Others N k [] = N
   Others N k (p ∷ rows) = Others (N × (k ≡ p .0 → ⊥)) k rows
 
-  others-first : (N : Type 0) (k : ℕ) (rows : List (ℕ × A)) → Others N k rows → N
+  pub others-first : (N : Type 0) (k : ℕ) (rows : List (ℕ × A)) → Others N k rows → N
   others-first N k [] h = h
   others-first N k (p ∷ rows) h = others-first (N × (k ≡ p .0 → ⊥)) k rows h .0
 
@@ -328,7 +329,8 @@ module _ (s : List ℕ) (at : ℕ) (query : ℕ → Got Query) (rest : ℕ → G
   unfolding withBinders provided onward
   block-is h l e = rw (le-leb (past at blockWidth) (length s) h, lt-ltb (byte s (at + 1)) 2 l, e)
 
-  pub block-bad : past at blockWidth ≤ length s → byte s (at + 1) < 2 → bindersAt pairLimit (byte s (at + 2)) s (at + 3) ≡ none → withBinders s at query rest ≡ none
+  pub block-bad : past at blockWidth ≤ length s → byte s (at + 1) < 2 → bindersAt pairLimit (byte s (at + 2)) s (at + 3) ≡ none
+      → withBinders s at query rest ≡ none
   unfolding withBinders provided onward
   block-bad h l e = rw (le-leb (past at blockWidth) (length s) h, lt-ltb (byte s (at + 1)) 2 l, e)
 

@@ -1,36 +1,39 @@
 -- Terms and their bytes: bodies, and the slots of the term table; each there and back, for valid terms.
-use Prim.Native.Nat.{ℕ, zero, suc, _+_, _-_, _^_, _≤_, _<_}
-use mathlib.Core.Bool.{Bool, true, false, _&&_}
-use mathlib.Core.List.{List, [], _∷_, _++_}
-use mathlib.Core.Option.{Option, none, some}
+use Prim.Native.Nat.{ℕ, suc, _+_, _-_, _^_, _≤_, _<_}
+use mathlib.Core.Bool.{Bool, true, false}
+use mathlib.Core.List.{List, _∷_, _++_}
+use mathlib.Core.Option.{none, some}
 use mathlib.Core.Path.{_≡_, refl, sym, ap, ap₂, subst, _∙_}
 use native.Mathlib.Omega.{arith}
 use lib.Dec.{T, leb, eqb, le→leb}
-use lib.ListN.{length, take, drop, replicate, length-append, length-take, length-drop, length-replicate, take-append-drop}
+use lib.ListN.{length, take, drop, replicate, length-append, length-take, length-drop, take-append-drop}
 use lib.Seq.{take-at, drop-at, take-all, drop-drop, drop-cons}
 use lib.IntN.{ℤ}
 use lib.Signed.{mag}
 use borrow.Author.Tests.{le-leb}
 use Rattle.definitions.specs.Limits.{textWidth, tagWidth, numberWidth, slotWidth, integerLimit, decimalLimit, secondsBefore, secondsAfter}
-use Rattle.definitions.specs.Bytes.{sameBytes, byte, part, little, littleBytes, signed, unsigned, allZero, filled, provided, onward, row}
+use Rattle.definitions.specs.Bytes.{sameBytes, byte, part, little, littleBytes, signed, unsigned, allZero, filled, provided, onward}
 use Rattle.definitions.specs.Types.{Datatype}
-use Rattle.definitions.specs.Terms.{Text, Term, fieldText, uriByte, textByte, tagByte, uriText, isInteger, isDecimal, isDateTime, datatype, termKind, kindRows, ofTermKind}
+use Rattle.definitions.specs.Terms.{Text, Term, uriByte, textByte, tagByte, uriText, isInteger, isDecimal, isDateTime, datatype, termKind, kindRows, ofTermKind}
 use Rattle.definitions.specs.Terms.{bodyWidth, numberTerm, termOfBody, bodyOf, recordOf, slotOf, bodyAt, readTerm, sameTerm}
 use Rattle.definitions.specs.Saved.{slotTerm}
-use Rattle.laws.proofs.Tests.{isTrue, isFalse}
-use Rattle.laws.proofs.Options.{some-is, pair-is, some-not-none, onward-inv, provided-holds, provided-inv}
+use Rattle.laws.proofs.Tests.{isTrue}
+use Rattle.laws.proofs.Options.{some-is, some-not-none, onward-inv, provided-holds, provided-inv}
 use Rattle.laws.proofs.Reading.{row-keys}
 use Rattle.laws.proofs.Same.{same-term, term-refl, same-bytes, bytes-refl}
-use Rattle.laws.proofs.Bytes.{AreBytes, part-bytes, take-bytes, drop-bytes, little-length, little-of, bytes-of, little-small, signed-unsigned, unsigned-signed, unsigned-small, within-limits}
-use Rattle.laws.proofs.Bytes.{all-zero, zeros, filled-length, no-zero, field-of, FieldOf}
-use Rattle.laws.proofs.Valid.{Field, ValidURI, Valid, uri-inv, string-inv, number-inv, body-valid, body-at-inv}
+use Rattle.laws.proofs.Bytes.{AreBytes, part-bytes, little-length, little-of, bytes-of, little-small}
+use Rattle.laws.proofs.Bytes.{signed-unsigned, unsigned-signed, unsigned-small, within-limits}
+use Rattle.laws.proofs.Bytes.{all-zero, zeros, filled-length, no-zero, field-of}
+use Rattle.laws.proofs.Valid.{ValidURI, Valid, uri-inv, string-inv, number-inv, body-valid, body-at-inv}
 
 -- ── numbers ─────────────────────────────────────────────────────────────────────────────────
 
 -- a number that 8 bytes hold
-pub number-of : (ok : ℤ → Bool) (make : ℤ → Term) (n : ℤ) → mag n < 2 ^ 63 → T (ok n) → numberTerm ok make (littleBytes numberWidth (unsigned n)) ≡ some (make n)
+pub number-of : (ok : ℤ → Bool) (make : ℤ → Term) (n : ℤ) → mag n < 2 ^ 63 → T (ok n)
+    → numberTerm ok make (littleBytes numberWidth (unsigned n)) ≡ some (make n)
 number-of ok make n m h =
-    let e : signed (little (littleBytes numberWidth (unsigned n))) ≡ n = ap signed (little-of numberWidth (unsigned n) (unsigned-small n m)) ∙ signed-unsigned n m in
+    let u = unsigned n in
+    let e : signed (little (littleBytes numberWidth u)) ≡ n = ap signed (little-of numberWidth u (unsigned-small n m)) ∙ signed-unsigned n m in
     rw e (provided-holds (ok n) h refl)
 
 pub number-bytes : (b : List ℕ) → length b ≡ numberWidth → AreBytes b → littleBytes numberWidth (unsigned (signed (little b))) ≡ b
@@ -90,7 +93,8 @@ module _ (b : List ℕ) (t : Term) where
       let whole : filled tagWidth (s .0) ++ filled textWidth (s .1) ≡ b = ap₂ _++_ (s .3 .whole) (s .4 .whole ∙ rest) ∙ take-append-drop tagWidth b in
       rw (s .2) (refl, whole)
 
-  number-body : (ok : ℤ → Bool) (make : ℤ → Term) (d : Datatype) → ((n : ℤ) → datatype (make n) ≡ d) → ((n : ℤ) → bodyOf (make n) ≡ littleBytes numberWidth (unsigned n))
+  number-body : (ok : ℤ → Bool) (make : ℤ → Term) (d : Datatype) → ((n : ℤ) → datatype (make n) ≡ d)
+      → ((n : ℤ) → bodyOf (make n) ≡ littleBytes numberWidth (unsigned n))
       → length b ≡ numberWidth → AreBytes b → numberTerm ok make b ≡ some t → (datatype t ≡ d) × (bodyOf t ≡ b)
   number-body ok make d kind bytes l h e =
       let n = number-inv ok make b t e in

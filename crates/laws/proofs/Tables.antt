@@ -2,23 +2,22 @@
 use Prim.Native.Nat.{ℕ, zero, suc, _+_, _*_, _-_, _/_, _%_, _≤_, _<_}
 use mathlib.Core.Bool.{Bool, true, false, _&&_}
 use mathlib.Core.List.{List, [], _∷_, _++_, append-assoc}
-use mathlib.Core.Option.{Option, none, some}
+use mathlib.Core.Option.{Option, some}
 use mathlib.Core.Path.{_≡_, refl, sym, ap, ap₂, subst, _∙_}
 use native.Mathlib.Omega.{arith}
 use native.Mathlib.Numerals.{add-one}
-use lib.Dec.{T, leb, eqb, leb→le, le→leb, eqb→eq}
+use lib.Dec.{T, leb, eqb, leb→le, le→leb}
 use lib.ListN.{length, take, drop, replicate, length-append, length-take, length-drop, length-replicate, take-append-drop, drop-of-length-le}
 use lib.Seq.{take-at, drop-at, drop-drop, drop-cons}
-use borrow.Author.Tests.{eq-eqb}
 use Rattle.definitions.specs.Limits.{slotWidth, quadWidth, termLimit, quadLimit, termTableWidth, quadTableWidth}
 use Rattle.definitions.specs.Bytes.{byte, word, part, littleBytes, allZero, filled, provided, onward}
-use Rattle.definitions.specs.Terms.{Term, datatype, termKind, recordOf, slotOf}
+use Rattle.definitions.specs.Terms.{Term, datatype, slotOf}
 use Rattle.definitions.specs.Evaluate.{Quad}
 use Rattle.definitions.specs.Saved.{slots, termTable, slotTerm, termsFrom, termsIn, quadBytes, quadTable, quadAt, quadsFrom, quadsIn}
 use Rattle.laws.proofs.Tests.{andLeft, andRight, andMake, isTrue}
-use Rattle.laws.proofs.Options.{some-is, some-not-none, onward-inv, provided-holds, provided-inv}
+use Rattle.laws.proofs.Options.{some-is, onward-inv, provided-holds, provided-inv}
 use Rattle.laws.proofs.All.{All}
-use Rattle.laws.proofs.Bytes.{AreBytes, byte-from, word-from, drop-bytes, part-bytes, little-length, all-zero, zeros, filled-length}
+use Rattle.laws.proofs.Bytes.{AreBytes, byte-from, word-from, drop-bytes, part-bytes, all-zero, zeros, filled-length}
 use Rattle.laws.proofs.Valid.{Valid}
 use Rattle.laws.proofs.Slots.{kind-not-zero, slot-length, slot-of, slot-inv}
 
@@ -43,8 +42,8 @@ module _ (left : ℕ) (table : List ℕ) (at : ℕ) where
   unfolding termsFrom provided
   none-more f z = rw (isTrue (eqb (byte table at) 0) f, isTrue (allZero (drop at table)) z, termsFrom)
 
-  one-more : eqb (byte table at) 0 ≡ false → (t : Term) (ts : List Term) → slotTerm (part table at slotWidth) ≡ some t → termsFrom left table (at + slotWidth) ≡ some ts
-      → termsFrom (suc left) table at ≡ some (t ∷ ts)
+  one-more : eqb (byte table at) 0 ≡ false → (t : Term) (ts : List Term) → slotTerm (part table at slotWidth) ≡ some t
+      → termsFrom left table (at + slotWidth) ≡ some ts → termsFrom (suc left) table at ≡ some (t ∷ ts)
   unfolding termsFrom onward
   one-more f t ts e k = rw (f, e, k, termsFrom)
 
@@ -197,10 +196,11 @@ pub quads-of : (qs : List Quad) → All Small qs → length qs ≤ quadLimit →
 unfolding quadsIn quadTable filled
 quads-of qs h l =
     let n = quadTableWidth - length (quadBytes qs) in
-    let after : drop (quadWidth * length qs) (quadTable qs) ≡ replicate n 0 = drop-at (quadBytes qs) (replicate n 0) (quadWidth * length qs) (quads-length qs) in
-    let z : T (allZero (drop (quadWidth * length qs) (quadTable qs))) = rw after (all-zero n) in
-    provided-holds (leb (length qs) quadLimit && allZero (drop (quadWidth * length qs) (quadTable qs)))
-    (andMake (leb (length qs) quadLimit) (allZero (drop (quadWidth * length qs) (quadTable qs))) (le→leb (length qs) quadLimit l) z)
+    let end = quadWidth * length qs in
+    let fits = leb (length qs) quadLimit in
+    let after : drop end (quadTable qs) ≡ replicate n 0 = drop-at (quadBytes qs) (replicate n 0) end (quads-length qs) in
+    let z : T (allZero (drop end (quadTable qs))) = rw after (all-zero n) in
+    provided-holds (fits && allZero (drop end (quadTable qs))) (andMake fits (allZero (drop end (quadTable qs))) (le→leb (length qs) quadLimit l) z)
     (ap some (quads-from qs 0 (quadTable qs) (replicate n 0) h refl))
 
 -- two bytes, read and written
@@ -230,7 +230,13 @@ word-small : (s : List ℕ) → AreBytes s → (k : ℕ) → word s k < 65536
 word-small s h k = let b₀ = h k in let b₁ = h (k + 1) in omega arith
 
 quad-small : (s : List ℕ) → AreBytes s → (at : ℕ) → Small (quadAt s at)
-quad-small s h at = record { graph = word-small s h at; subject = word-small s h (at + 2); property = word-small s h (at + 4); object = word-small s h (at + 6) }
+quad-small s h at =
+    record {
+      graph = word-small s h at;
+      subject = word-small s h (at + 2);
+      property = word-small s h (at + 4);
+      object = word-small s h (at + 6);
+    }
 
 -- a table, read and written: from an offset on there are the quads and what comes after them
 pub record QuadsAt (count : ℕ) (table : List ℕ) (at : ℕ) (qs : List Quad) : Type 0 where
@@ -284,5 +290,6 @@ module _ (table : List ℕ) (h : AreBytes table) where
         let rest = drop (0 + quadWidth * count) table in
         let at : quadWidth * count ≡ 0 + quadWidth * count = omega arith in
         let z : T (allZero rest) = subst (λ (n : ℕ). T (allZero (drop n table))) at (tests .0 .1) in
-        let n : length rest ≡ quadTableWidth - length (quadBytes qs) = omega (arith, length-drop (0 + quadWidth * count) table, quads-length qs, quads-in-count) in
+        let n : length rest ≡ quadTableWidth - length (quadBytes qs) =
+        omega (arith, length-drop (0 + quadWidth * count) table, quads-length qs, quads-in-count) in
         quads-at .bytes ∙ ap (λ s. quadBytes qs ++ s) (zeros rest z ∙ ap (λ (n : ℕ). replicate n 0) n)

@@ -1,28 +1,29 @@
 -- Valid terms: those that a record can say. What reading gives is valid, and loading and a page keep it.
-use Prim.Native.Nat.{ℕ, zero, suc, _+_, _≤_, _<_}
+use Prim.Native.Nat.{ℕ, zero, suc, _+_, _≤_}
 use mathlib.Core.Bool.{Bool, true, false, not, _&&_}
 use mathlib.Core.List.{List, [], _∷_}
 use mathlib.Core.Option.{Option, none, some}
 use mathlib.Core.Path.{_≡_, refl, sym, ap, subst, _∙_}
 use native.Mathlib.Omega.{arith}
 use lib.Dec.{T, leb, eqb, leb→le}
-use lib.ListN.{length, take, drop, length-take, length-drop}
+use lib.ListN.{length, drop, length-take}
 use lib.IntN.{ℤ}
 use Rattle.definitions.specs.Limits.{textWidth, tagWidth, pageLimit}
 use Rattle.definitions.specs.Lists.{every, keep}
 use Rattle.definitions.specs.Bytes.{Got, part, byte, little, signed, provided, onward, whole, inFront, recordsFrom, records}
 use Rattle.definitions.specs.Types.{Datatype, datatypeOfCode}
 use Rattle.definitions.specs.Terms.{Text, Term, Entry, Schema, Triple, fieldText, uriByte, textByte, tagByte, uriText, isInteger, isDecimal, isDateTime}
-use Rattle.definitions.specs.Terms.{bodyWidth, numberTerm, termOfBody, bodyAt, uriAt, ofTermKind, ofPageKind, readTerm, readEntry, readTriple, readTerms, readSchema, readPage}
-use Rattle.definitions.specs.Machine.{State, Store, Taken, numbered, store, skip, wellTyped, takeOne, takeAll, taken, withPage, ofGraph, loaded}
-use Rattle.definitions.specs.Result.{Result, passed}
+use Rattle.definitions.specs.Terms.{bodyWidth, numberTerm, termOfBody, bodyAt, uriAt, ofTermKind, ofPageKind}
+use Rattle.definitions.specs.Terms.{readTerm, readEntry, readTriple, readTerms, readSchema, readPage}
+use Rattle.definitions.specs.Machine.{State, Taken, numbered, store, skip, wellTyped, takeOne, takeAll, taken, withPage, ofGraph, loaded}
+use Rattle.definitions.specs.Result.{passed}
 use Rattle.definitions.specs.Calls.{Checked, check, pageIn, PageTaken, takeIn}
 use Rattle.laws.proofs.Options.{some-is, pair-is, some-not-none, provided-inv, onward-inv}
 use Rattle.laws.proofs.All.{All}
 use Rattle.laws.proofs.Bytes.{FieldOf, field-inv}
 use Rattle.laws.proofs.Numbering.{all-numbered, all-properties}
-use Rattle.laws.proofs.Check.{Passed, check-passed}
-use Rattle.laws.proofs.PageCheck.{PagePassed, page-passed}
+use Rattle.laws.proofs.Check.{check-passed}
+use Rattle.laws.proofs.PageCheck.{page-passed}
 
 -- ── what is valid ───────────────────────────────────────────────────────────────────────────
 
@@ -86,7 +87,9 @@ body-valid Datatype.anyURI b t l e =
     rw (← some-is (u .2)) (uri-valid b (u .0) l (u .1))
 body-valid Datatype.string b t l e =
     let s = string-inv b t e in
-    rw (s .2) (record { good = s .3 .good; fits = s .3 .fits (part-fits b 0 tagWidth) }, record { good = s .4 .good; fits = s .4 .fits (part-fits b tagWidth textWidth) })
+    let tag : Field tagByte tagWidth (s .0) = record { good = s .3 .good; fits = s .3 .fits (part-fits b 0 tagWidth) } in
+    let text : Field textByte textWidth (s .1) = record { good = s .4 .good; fits = s .4 .fits (part-fits b tagWidth textWidth) } in
+    rw (s .2) (tag, text)
 body-valid Datatype.decimal b t l e = let n = number-inv isDecimal Term.decimal b t e in rw (n .0) (n .1)
 body-valid Datatype.dateTime b t l e = let n = number-inv isDateTime Term.dateTime b t e in rw (n .0) (n .1)
 body-valid Datatype.integer b t l e = let n = number-inv isInteger Term.integer b t e in rw (n .0) (n .1)
@@ -162,7 +165,10 @@ module _ {A : Type 0} (read : List ℕ → ℕ → Got A) (P : A → Type 0) (ea
   records-from-all (suc left) s at xs e = go (leb (length s) at) (λ at ys h. records-from-all left s at ys h) e
     where
       go : (b : Bool) → ((at : ℕ) (ys : List A) → recordsFrom read left s at ≡ some ys → All P ys)
-          → (elim b as (λ c. Option (List A)) [ true ↦ some [] | false ↦ onward (read s at) (λ r. inFront read (r .0) (recordsFrom read left s (r .1))) ]) ≡ some xs → All P xs
+          → (elim b as (λ c. Option (List A)) [
+            | true ↦ some []
+            | false ↦ onward (read s at) (λ r. inFront read (r .0) (recordsFrom read left s (r .1)))
+          ]) ≡ some xs → All P xs
       go true rest e = subst (All P) (some-is e) tt
       go false rest e =
           let r = onward-inv (read s at) (λ r. inFront read (r .0) (recordsFrom read left s (r .1))) e in
@@ -189,7 +195,8 @@ page-valid s rs e = records-all readTriple ValidTriple triple-valid s rs e
 pub check-valid : (terms schema script : List ℕ) (c : Checked) → check terms schema script ≡ passed c → All Valid (c .terms)
 check-valid terms schema script c e =
     let p = check-passed terms schema script c e in
-    subst (All Valid) (p .numbering) (all-properties Valid (c .schema) (p .listed) (terms-valid terms (p .listed) (p .read)) (schema-valid schema (c .schema) (p .entries)))
+    let listed = terms-valid terms (p .listed) (p .read) in
+    subst (All Valid) (p .numbering) (all-properties Valid (c .schema) (p .listed) listed (schema-valid schema (c .schema) (p .entries)))
 
 -- every term of a state is valid
 abbrev pub ValidIn : State → Type 0

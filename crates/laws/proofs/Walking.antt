@@ -1,7 +1,7 @@
 -- Laws of walks over what was read, for any tree and any value: what the children load and answer, and what the node then answers.
 use Prim.Native.Nat.{ℕ}
-use mathlib.Core.Option.{Option, none, some}
-use mathlib.Core.Path.{_≡_, refl, sym, ap, ap₂, _∙_}
+use mathlib.Core.Option.{none, some}
+use mathlib.Core.Path.{_≡_, sym, ap, ap₂, _∙_}
 use Rattle.definitions.specs.Bytes.{Got}
 use Rattle.definitions.specs.Reading.{oneOf, twoOf}
 use Rattle.laws.proofs.Options.{some-not-none}

@@ -16,29 +16,8 @@ use Rattle.definitions.specs.Machine.{State, Control, Item, fresh, withStack}
 use Rattle.definitions.specs.Saved.{savedItem, savedItems, savedOf, zeroItem, noItem, isBound, numberOrZero, offsetOf, lastNumbers, hasTuple}
 use Rattle.definitions.specs.declared.SavedItem.{SavedItem}
 use Rattle.definitions.specs.declared.SavedRun.{SavedRun}
+use Rattle.laws.proofs.Fill.{set-end, set-back, get-last, set-last}
 use Rattle.machine.specs.Stack.{withItems, freshItem, pushed, popped, replaced, topOf, boundTo}
-
--- ── a list and what fills it up ─────────────────────────────────────────────────────────────
-
-module _ {A : Type 0} (z x : A) where
-  -- the first place after the list is taken
-  pub set-end : (l : List A) (n : ℕ) → set (l ++ replicate (suc n) z) (length l) x ≡ (l ++ (x ∷ [])) ++ replicate n z
-  set-end [] n = refl
-  set-end (a ∷ l) n = ap (λ m. a ∷ m) (set-end l n)
-
-  -- the last place is given back
-  pub set-back : (l : List A) (n : ℕ) → set ((l ++ (x ∷ [])) ++ replicate n z) (length l) z ≡ l ++ replicate (suc n) z
-  set-back [] n = refl
-  set-back (a ∷ l) n = ap (λ m. a ∷ m) (set-back l n)
-
-  -- the last place is what was put there, and takes another
-  pub get-last : (l m : List A) (d : A) → getD ((l ++ (x ∷ [])) ++ m) (length l) d ≡ x
-  get-last [] m d = refl
-  get-last (a ∷ l) m d = get-last l m d
-
-  pub set-last : (y : A) (l m : List A) → set ((l ++ (x ∷ [])) ++ m) (length l) y ≡ (l ++ (y ∷ [])) ++ m
-  set-last y [] m = refl
-  set-last y (a ∷ l) m = ap (λ k. a ∷ k) (set-last y l m)
 
 -- ── the stack ───────────────────────────────────────────────────────────────────────────────
 

@@ -1,0 +1,180 @@
+-- The fast search for a block's first answer, on the tree: variable by variable, the least number from which on the query could still hold.
+-- `end`, the number of terms, stands for "none".
+use Prim.Native.Nat.{ℕ, zero, suc, _-_, min}
+use mathlib.Core.List.{List, [], _∷_}
+use mathlib.Core.Bool.{Bool, true, false, cond, _&&_}
+use mathlib.Core.Option.{Option, none, some}
+use lib.Dec.{eqb, leb, ltb}
+use lib.ListN.{length}
+use lib.IntN.{ℤ}
+use Rattle.definitions.specs.Lists.{isIn}
+use Rattle.definitions.specs.Types.{Ty}
+use Rattle.definitions.specs.Terms.{Term, Schema}
+use Rattle.definitions.specs.Tree.{Name, var, const, Expr, Cond, Query}
+use Rattle.definitions.specs.Outcome.{Outcome, ok, fault}
+use Rattle.definitions.specs.Evaluate.{Bindings, Quad, condition, query}
+use Rattle.definitions.specs.Search.{Typing, Tuple}
+use Rattle.definitions.specs.Saved.{isBound}
+use Rattle.definitions.specs.Sound.{numberHas}
+
+-- whether a test holds, a fault being no pass
+abbrev pub passes : Outcome Bool → Bool
+passes (ok b) = b
+passes (fault x) = false
+
+-- ── one pattern over the quads ──────────────────────────────────────────────────────────────
+
+-- a place of a pattern: of a known number, of the variable sought, of a variable still to choose
+pub data Place : Type 0 where
+  fixed : ℕ → Place
+  sought free : Place
+
+abbrev pub known : Option ℕ → Place
+known none = free
+known (some i) = fixed i
+
+abbrev pub placeOf : Bindings → (v : ℕ) → Name → Place
+placeOf γ v (var w) = cond (eqb w v) sought (known (γ w))
+placeOf γ v (const c) = fixed c
+
+pub record Places : Type 0 where
+  pub graph : Place
+  pub subject : Place
+  pub property : Place
+  pub object : Place
+
+abbrev pub placesOf : Bindings → (v : ℕ) → (graph subject property object : Name) → Places
+placesOf γ v g s p o = record { graph = placeOf γ v g; subject = placeOf γ v s; property = placeOf γ v p; object = placeOf γ v o }
+
+-- a quad's number x at a place, where the variable sought is c
+abbrev pub agrees : Place → (c x : ℕ) → Bool
+agrees (fixed n) c x = eqb x n
+agrees sought c x = eqb x c
+agrees free c x = true
+
+-- the number x at the place sought, or else d
+abbrev pub pick : Place → (x d : ℕ) → ℕ
+pick (fixed n) x d = d
+pick sought x d = x
+pick free x d = d
+
+module _ (P : Places) (lo : ℕ) where
+  -- what a quad gives the variable; the floor, where no place is sought
+  unfoldable pub candidate : Quad → ℕ
+  candidate r = pick (P .graph) (r .graph) (pick (P .subject) (r .subject) (pick (P .property) (r .property) (pick (P .object) (r .object) lo)))
+
+  unfoldable pub fits : Quad → Bool
+  fits r =
+      let c = candidate r in
+      leb lo c
+      && (agrees (P .graph) c (r .graph)
+      && (agrees (P .subject) c (r .subject)
+      && (agrees (P .property) c (r .property)
+      && agrees (P .object) c (r .object))))
+
+  unfoldable pub better : (best : ℕ) → Quad → ℕ
+  better best r = cond (fits r && ltb (candidate r) best) (candidate r) best
+
+  -- the least that a quad gives, below the best so far
+  unfoldable pub scan : (best : ℕ) → List Quad → ℕ
+  scan best [] = best
+  scan best (r ∷ rs) = scan (better best r) rs
+
+-- ── filters whose variables are all known ───────────────────────────────────────────────────
+
+module _ (γ : Bindings) where
+  unfoldable pub nameKnown : Name → Bool
+  nameKnown (var v) = isBound (γ v)
+  nameKnown (const c) = true
+
+  unfoldable pub exprKnown : Expr → Bool
+  exprKnown (Expr.name n) = nameKnown n
+  exprKnown Expr.now = true
+  exprKnown (Expr.str e) = exprKnown e
+  exprKnown (Expr.abs e) = exprKnown e
+  exprKnown (Expr.plus e f) = exprKnown e && exprKnown f
+  exprKnown (Expr.minus e f) = exprKnown e && exprKnown f
+
+  unfoldable pub condKnown : Cond → Bool
+  condKnown Cond.no = true
+  condKnown Cond.yes = true
+  condKnown (Cond.or c d) = condKnown c && condKnown d
+  condKnown (Cond.and c d) = condKnown c && condKnown d
+  condKnown (Cond.not c) = condKnown c
+  condKnown (Cond.regex p e) = exprKnown e
+  condKnown (Cond.langMatches r e) = exprKnown e
+  condKnown (Cond.equal e f) = exprKnown e && exprKnown f
+  condKnown (Cond.less e f) = exprKnown e && exprKnown f
+
+-- ── the query: the least number from lo on that the variable v can have ─────────────────────
+
+module _ (S : Schema) (clock : ℤ) (terms : List Term) (quads : List Quad) (γ : Bindings) (v : ℕ) where
+  unfoldable pub seek : Query → (lo : ℕ) → ℕ
+  seek (Query.pattern g s p o) lo = scan (placesOf γ v g s p o) lo (length terms) quads
+  seek (Query.both q r) lo = seek r (seek q lo)
+  seek (Query.union q r) lo = min (seek q lo) (seek r lo)
+  seek (Query.filter c) lo = cond (condKnown γ c) (cond (passes (condition S clock terms quads γ c)) lo (length terms)) lo
+  seek Query.empty lo = lo
+
+-- ── terms of the variable's type ────────────────────────────────────────────────────────────
+
+-- the next number of a term of the type, from i on, n numbers at most
+unfoldable pub skip : Schema → Ty → List Term → (n i : ℕ) → ℕ
+skip S τ terms zero i = i
+skip S τ terms (suc n) i = cond (numberHas S terms i τ) i (skip S τ terms n (suc i))
+
+-- ── tuples ──────────────────────────────────────────────────────────────────────────────────
+
+abbrev pub set : (v i : ℕ) → Bindings → Bindings
+set v i γ = λ x. cond (eqb x v) (some i) (γ x)
+
+-- a block's variables are not known at first
+abbrev pub clear : List ℕ → Bindings → Bindings
+clear vs β = λ x. cond (isIn x vs) none (β x)
+
+-- the least first number of a tuple after the last one, and what the others must come after
+abbrev pub startAt : (last : Option Tuple) → ℕ
+startAt none = zero
+startAt (some []) = zero
+startAt (some (l ∷ ls)) = l
+
+abbrev pub restOf : (last : Option Tuple) → ℕ → Option Tuple
+restOf none i = none
+restOf (some []) i = none
+restOf (some (l ∷ ls)) i = cond (eqb i l) (some ls) none
+
+abbrev pub found : ℕ → Option Tuple → Option Tuple → Option Tuple
+found i (some t) more = some (i ∷ t)
+found i none more = more
+
+-- the numbers that next gives, from lo on, until body finds the rest of a tuple; n bounds how many are tried
+unfoldable pub tries : (body : ℕ → Option Tuple) → (next : ℕ → ℕ) → (end n lo : ℕ) → Option Tuple
+tries body next end zero lo = none
+tries body next end (suc n) lo = cond (ltb (next lo) end) (found (next lo) (body (next lo)) (tries body next end n (suc (next lo)))) none
+
+-- all but the first
+abbrev pub but : List ℕ → List ℕ
+but [] = []
+but (v ∷ vs) = vs
+
+module _ (S : Schema) (Γ : Typing) (clock : ℤ) (terms : List Term) (quads : List Quad) (q : Query) where
+  abbrev pub least : Bindings → (v lo : ℕ) → ℕ
+  least γ v lo = seek S clock terms quads γ v q lo
+
+  unfoldable pub next : Bindings → (v lo : ℕ) → ℕ
+  next γ v lo = skip S (Γ v) terms (length terms - least γ v lo) (least γ v lo)
+
+  -- no variable of these is without a number; two passes
+  unfoldable pub hopeful : Bindings → List ℕ → Bool
+  hopeful γ [] = true
+  hopeful γ (w ∷ ws) = ltb (least γ w (least γ w zero)) (length terms) && hopeful γ ws
+
+  -- The first answer after a tuple: vs are the variables still to choose. The look-ahead leaves out the next one, which the next level asks.
+  unfoldable pub find : (variables : List ℕ) → Bindings → (last : Option Tuple) → Option Tuple
+  find [] γ none = cond (passes (query S clock terms quads γ q)) (some []) none
+  find [] γ (some l) = none
+  find (v ∷ vs) γ last =
+      tries (λ i. cond (hopeful (set v i γ) (but vs)) (find vs (set v i γ) (restOf last i)) none) (next γ v) (length terms) (length terms) (startAt last)
+
+  unfoldable pub fastAnswer : Bindings → (variables : List ℕ) → (last : Option Tuple) → Option Tuple
+  fastAnswer β vs last = find vs (clear vs β) last

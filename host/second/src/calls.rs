@@ -1,0 +1,198 @@
+//! The three calls over bytes, as the C interface has them.
+
+use crate::check::{check, Typer};
+use crate::eval::{Fault, Quad, Store};
+use crate::limits::{BUDGET, PAGE_REPORT, QUAD_TABLE, RUN_REPORT, SAVED, SLOT, TERM_TABLE};
+use crate::machine::{Machine, State, World};
+use crate::refusal::{demand, Refusal};
+use crate::saved;
+use crate::search::{Naive, Search};
+use crate::seek::Seek;
+use crate::sound::{sound, Lent};
+use crate::term::is_second;
+use crate::terms::Terms;
+use crate::{arcs, assignments, page as pages};
+
+/// An engine: how it works out types and how it finds answers.
+#[derive(Clone, Copy)]
+pub struct Engine<'a> {
+    /// How types are worked out.
+    pub typer: Typer,
+    /// How answers are found.
+    pub search: &'a dyn Search,
+}
+
+/// Added to the number of a fault where the machine meets one. No call on an accepted script returns this.
+pub const FAULT: u32 = 1000;
+
+type Outcome = Result<(), Refusal>;
+
+/// The bytes of a lent table, or refusal 1 for another length.
+fn lent<const N: usize>(bytes: &mut [u8]) -> Result<&mut [u8; N], Refusal> {
+    bytes.try_into().or(Err(Refusal { number: 1, why: "lent table's length" }))
+}
+
+fn lengths(term_table: &[u8], quad_table: &[u8]) -> Outcome {
+    demand(term_table.len() == TERM_TABLE, 1, "term table's length")?;
+    demand(quad_table.len() == QUAD_TABLE, 1, "quad table's length")
+}
+
+fn write_terms(terms: &Terms, table: &mut [u8]) {
+    table.fill(0);
+    for (term, slot) in terms.iter().zip(table.chunks_mut(SLOT)) {
+        slot.copy_from_slice(&term.slot());
+    }
+}
+
+fn write_quads(quads: &[Quad], table: &mut [u8]) {
+    table.fill(0);
+    for (number, bytes) in quads.iter().flatten().zip(table.chunks_mut(2)) {
+        bytes.copy_from_slice(&number.to_le_bytes());
+    }
+}
+
+fn faulted(fault: Fault) -> Refusal {
+    Refusal { number: FAULT + fault as u32, why: "fault" }
+}
+
+impl Engine<'_> {
+    /// The fast engine.
+    pub const fn fast() -> Engine<'static> {
+        Engine { typer: arcs::solve, search: &Seek }
+    }
+
+    /// The engine by the definitions.
+    pub const fn plain() -> Engine<'static> {
+        Engine { typer: assignments::solve, search: &Naive }
+    }
+
+    /// Loads terms, schema and script: writes both tables and the saved run.
+    pub fn load(
+        &self,
+        [terms, schema, script]: [&[u8]; 3],
+        term_table: &mut [u8],
+        quad_table: &mut [u8],
+        saved: &mut [u8],
+    ) -> Outcome {
+        lengths(term_table, quad_table)?;
+        let saved = lent::<SAVED>(saved)?;
+        let loaded = check(self.typer, terms, schema, script)?;
+        write_terms(&loaded.terms, term_table);
+        quad_table.fill(0);
+        *saved = saved::encode(&loaded.script, &loaded.types, &Machine::fresh(), 0);
+        Ok(())
+    }
+
+    /// Takes up to `budget` steps: writes the saved run and the report.
+    pub fn run(
+        &self,
+        [terms, schema, script]: [&[u8]; 3],
+        [term_table, quad_table]: [&[u8]; 2],
+        saved: &mut [u8],
+        (budget, now): (u64, i64),
+        report: &mut [u8],
+    ) -> Outcome {
+        lengths(term_table, quad_table)?;
+        let saved = lent::<SAVED>(saved)?;
+        let report = lent::<RUN_REPORT>(report)?;
+        let mut held = sound(self.typer, &Lent { terms, schema, script, term_table, quad_table, saved })?;
+        demand(budget <= BUDGET, 11, "budget")?;
+        demand(is_second(now), 11, "now")?;
+        let store = Store { terms: &held.loaded.terms, quads: &held.quads, now };
+        let (script, types) = (&held.loaded.script, &held.loaded.types);
+        let world = World { script, types, store, search: self.search };
+        let (steps, state) = held.machine.run(&world, budget).map_err(faulted)?;
+        *saved = saved::encode(script, types, &held.machine, held.quads.len());
+        *report = [0; RUN_REPORT];
+        report[..4].copy_from_slice(&(steps as u32).to_le_bytes());
+        report[4] = match state {
+            State::Ended => 0,
+            State::Wanted(_) => 1,
+            State::Waiting => 2,
+            State::Spent => 3,
+        };
+        if let State::Wanted(graph) = state {
+            report[6..].copy_from_slice(&graph.to_le_bytes());
+        }
+        Ok(())
+    }
+
+    /// Takes a page in: writes both tables, the saved run and the report.
+    #[allow(clippy::too_many_arguments)]
+    pub fn page(
+        &self,
+        [terms, schema, script]: [&[u8]; 3],
+        term_table: &mut [u8],
+        quad_table: &mut [u8],
+        saved: &mut [u8],
+        graph: u64,
+        page: &[u8],
+        report: &mut [u8],
+    ) -> Outcome {
+        lengths(term_table, quad_table)?;
+        let saved = lent::<SAVED>(saved)?;
+        let report = lent::<PAGE_REPORT>(report)?;
+        let mut held = sound(self.typer, &Lent { terms, schema, script, term_table, quad_table, saved })?;
+        let loaded = &mut held.loaded;
+        let number = usize::try_from(graph).unwrap_or(usize::MAX);
+        demand(number < loaded.terms.len(), 12, "page graph no term")?;
+        demand(loaded.terms.is_uri(number), 12, "page graph no URI")?;
+        let triples = pages::read(page)?;
+        let machine = &mut held.machine;
+        let skipped =
+            pages::take_in(&triples, number as u16, &loaded.schema, &mut loaded.terms, &mut held.quads, machine)?;
+        write_terms(&loaded.terms, term_table);
+        write_quads(&held.quads, quad_table);
+        *saved = saved::encode(&loaded.script, &loaded.types, machine, held.quads.len());
+        *report = skipped.to_le_bytes();
+        Ok(())
+    }
+}
+
+fn code(outcome: Outcome) -> u32 {
+    outcome.err().map_or(0, |refusal| refusal.number)
+}
+
+/// `willetcoffer_load` by the fast engine.
+pub fn load(
+    terms: &[u8],
+    schema: &[u8],
+    script: &[u8],
+    term_table: &mut [u8],
+    quad_table: &mut [u8],
+    saved: &mut [u8],
+) -> u32 {
+    code(Engine::fast().load([terms, schema, script], term_table, quad_table, saved))
+}
+
+/// `willetcoffer_run` by the fast engine.
+#[allow(clippy::too_many_arguments)]
+pub fn run(
+    terms: &[u8],
+    schema: &[u8],
+    script: &[u8],
+    term_table: &[u8],
+    quad_table: &[u8],
+    saved: &mut [u8],
+    budget: u64,
+    now: i64,
+    report: &mut [u8],
+) -> u32 {
+    code(Engine::fast().run([terms, schema, script], [term_table, quad_table], saved, (budget, now), report))
+}
+
+/// `willetcoffer_page` by the fast engine.
+#[allow(clippy::too_many_arguments)]
+pub fn page(
+    terms: &[u8],
+    schema: &[u8],
+    script: &[u8],
+    term_table: &mut [u8],
+    quad_table: &mut [u8],
+    saved: &mut [u8],
+    graph: u64,
+    page: &[u8],
+    report: &mut [u8],
+) -> u32 {
+    code(Engine::fast().page([terms, schema, script], term_table, quad_table, saved, graph, page, report))
+}

@@ -1,0 +1,130 @@
+//! The untyped evaluation of a query for one tuple: a boolean or one of the eight faults. All parts are evaluated.
+
+use crate::script::{Cond, Expr, Name, Query};
+use crate::term::trim;
+use crate::terms::Terms;
+use crate::types::Type;
+use crate::value::Value;
+use std::cmp::Ordering;
+
+/// A quad by term numbers: graph, subject, property, object.
+pub type Quad = [u16; 4];
+
+/// The eight faults, in the order of document 01.
+#[derive(Clone, Copy, PartialEq, Eq, Debug)]
+pub enum Fault {
+    /// A graph not a URI.
+    Graph = 1,
+    /// A subject not a URI.
+    Subject = 2,
+    /// A property not a schema URI.
+    Property = 3,
+    /// An object without that property's datatype.
+    Object = 4,
+    /// From named on no URI.
+    FromNamed = 5,
+    /// Regex or langMatches on no string.
+    NoString = 6,
+    /// Arithmetic on no number.
+    NoNumber = 7,
+    /// A comparison with no common datatype.
+    Comparison = 8,
+}
+
+/// The variables' terms.
+pub type Bindings = [Option<u16>; 16];
+
+/// What a query is evaluated over.
+#[derive(Clone, Copy)]
+pub struct Store<'a> {
+    /// The terms in use.
+    pub terms: &'a Terms,
+    /// The stored quads.
+    pub quads: &'a [Quad],
+    /// The value of now.
+    pub now: i64,
+}
+
+/// The term number that a name stands for. Scope and soundness see to it that a variable in use is bound.
+pub fn number(name: &Name, bindings: &Bindings) -> u16 {
+    match name {
+        Name::Const(number) => *number,
+        Name::Var(v) => bindings[usize::from(*v)].expect("a variable in use is bound"),
+    }
+}
+
+impl Store<'_> {
+    /// The value of an expression.
+    pub fn expr(&self, expr: &Expr, bindings: &Bindings) -> Result<Value, Fault> {
+        match expr {
+            Expr::Name(name) => {
+                let term = self.terms.get(usize::from(number(name, bindings)));
+                Ok(Value::from(term.expect("a term number in use has a term")))
+            }
+            Expr::Now => Ok(Value::Time(self.now)),
+            Expr::Str(e) => Ok(self.expr(e, bindings)?.str()),
+            Expr::Abs(e) => self.expr(e, bindings)?.abs().ok_or(Fault::NoNumber),
+            Expr::Plus(a, b) => self.arithmetic(a, b, |a, b| a + b, bindings),
+            Expr::Minus(a, b) => self.arithmetic(a, b, |a, b| a - b, bindings),
+        }
+    }
+
+    fn arithmetic(&self, a: &Expr, b: &Expr, f: fn(i64, i64) -> i64, bindings: &Bindings) -> Result<Value, Fault> {
+        let (a, b) = (self.expr(a, bindings)?, self.expr(b, bindings)?);
+        a.arithmetic(&b, f).ok_or(Fault::NoNumber)
+    }
+
+    fn compare(&self, a: &Expr, b: &Expr, bindings: &Bindings) -> Result<Option<Ordering>, Fault> {
+        let (a, b) = (self.expr(a, bindings)?, self.expr(b, bindings)?);
+        a.compare(&b).ok_or(Fault::Comparison)
+    }
+
+    /// Whether a boolean holds.
+    pub fn cond(&self, cond: &Cond, bindings: &Bindings) -> Result<bool, Fault> {
+        match cond {
+            Cond::False => Ok(false),
+            Cond::True => Ok(true),
+            Cond::Or(a, b) => Ok(self.cond(a, bindings)? | self.cond(b, bindings)?),
+            Cond::And(a, b) => Ok(self.cond(a, bindings)? & self.cond(b, bindings)?),
+            Cond::Not(a) => Ok(!self.cond(a, bindings)?),
+            Cond::Regex(pattern, e) => match self.expr(e, bindings)? {
+                Value::Str(string) => Ok(string.is_some_and(|(_, text)| pattern.accepts(trim(&text)))),
+                _ => Err(Fault::NoString),
+            },
+            Cond::LangMatches(range, e) => match self.expr(e, bindings)? {
+                Value::Str(string) => Ok(string.is_some_and(|(tag, _)| range.accepts(&tag))),
+                _ => Err(Fault::NoString),
+            },
+            Cond::Equal(a, b) => Ok(self.compare(a, b, bindings)? == Some(Ordering::Equal)),
+            Cond::Less(a, b) => Ok(self.compare(a, b, bindings)? == Some(Ordering::Less)),
+        }
+    }
+
+    /// Whether a pattern's quad is stored.
+    pub fn pattern(&self, names: &[Name; 4], bindings: &Bindings) -> Result<bool, Fault> {
+        let quad = names.map(|name| number(&name, bindings));
+        let [graph, subject, property, object] = quad.map(usize::from);
+        if !self.terms.is_uri(graph) {
+            return Err(Fault::Graph);
+        }
+        if !self.terms.is_uri(subject) {
+            return Err(Fault::Subject);
+        }
+        let datatype = self.terms.range(property).ok_or(Fault::Property)?;
+        if !self.terms.has_type(object, Type::Data(datatype)) {
+            return Err(Fault::Object);
+        }
+        Ok(self.quads.contains(&quad))
+    }
+
+    /// Whether a query holds.
+    pub fn query(&self, query: &Query, bindings: &Bindings) -> Result<bool, Fault> {
+        match query {
+            Query::Pattern(names) => self.pattern(names, bindings),
+            Query::Both(a, b) => Ok(self.query(a, bindings)? & self.query(b, bindings)?),
+            Query::Union(a, b) => Ok(self.query(a, bindings)? | self.query(b, bindings)?),
+            Query::Filter(cond, _) => self.cond(cond, bindings),
+            Query::Empty => Ok(true),
+        }
+    }
+}

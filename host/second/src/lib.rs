@@ -1,0 +1,50 @@
+//! A second engine for page scripts over Linked Data triples.
+//!
+//! It is written from the specification (document 01) and the settled readings alone, with a structure of its own:
+//! bytes are decoded into Rust data, the work is done there, and the result is encoded back. Nothing but `std` is used.
+//!
+//! Whatever has a plain definition has it here twice: once as the definition reads, once fast.
+//!
+//! | what | as defined | fast |
+//! |---|---|---|
+//! | types of a script | [`assignments`]: every assignment, judged by [`rules`] | [`arcs`]: arc consistency on sets of types |
+//! | first answer of a block | [`search::Naive`]: every tuple, all parts evaluated | [`seek::Seek`]: driven by the patterns |
+//!
+//! An [`Engine`] holds one of each; [`Engine::fast`] and [`Engine::plain`] are the two that the comparison uses. The
+//! three calls take and give the bytes of the C interface; each returns 0 or the number of its refusal.
+#![forbid(unsafe_code)]
+#![warn(missing_docs)]
+
+pub mod arcs;
+pub mod assignments;
+pub mod calendar;
+pub mod calls;
+pub mod check;
+pub mod eval;
+pub mod hash;
+pub mod lang;
+pub mod limits;
+pub mod machine;
+pub mod page;
+pub mod pattern;
+pub mod printer;
+pub mod rank;
+pub mod reader;
+pub mod refusal;
+pub mod rules;
+pub mod saved;
+pub mod schema;
+pub mod scope;
+pub mod script;
+pub mod search;
+pub mod seek;
+pub mod sound;
+pub mod term;
+pub mod terms;
+pub mod types;
+pub mod value;
+pub mod write;
+
+pub use calls::{load, page, run, Engine};
+pub use printer::print_types;
+pub use refusal::Refusal;

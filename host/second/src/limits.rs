@@ -1,0 +1,52 @@
+//! The limits and widths of document 01, each named once.
+
+/// Bytes of URI text and of string text in a record.
+pub const TEXT: usize = 40;
+/// Bytes of a language tag and of a language range.
+pub const TAG: usize = 8;
+/// Bytes of a pattern.
+pub const PATTERN: usize = 16;
+/// Bytes of a term slot: the longest term record.
+pub const SLOT: usize = 49;
+/// Terms in use, at most.
+pub const TERMS: usize = 512;
+/// Stored quads, at most.
+pub const QUADS: usize = 512;
+/// Fetched graphs, at most.
+pub const GRAPHS: usize = 64;
+/// Schema entries, at most.
+pub const ENTRIES: usize = 128;
+/// Script bytes, at most.
+pub const SCRIPT: usize = 2048;
+/// Depth of a record, the root being at 1, at most.
+pub const DEPTH: usize = 24;
+/// Variables.
+pub const VARIABLES: usize = 16;
+/// Variables of one block, at most.
+pub const PAIRS: usize = 4;
+/// Bytes of the term table.
+pub const TERM_TABLE: usize = TERMS * SLOT;
+/// Bytes of the quad table.
+pub const QUAD_TABLE: usize = QUADS * 8;
+/// Bytes of the saved run.
+pub const SAVED: usize = 486;
+/// Bytes of a run's report.
+pub const RUN_REPORT: usize = 8;
+/// Bytes of a page call's report.
+pub const PAGE_REPORT: usize = 4;
+/// Steps of one run call, at most.
+pub const BUDGET: u64 = 60_000;
+/// Bytes of a page, at most.
+pub const PAGE: usize = 65_536;
+/// Bytes of the type printer's input, at most.
+pub const PRINTER: usize = 32_512;
+/// Largest amount of an integer.
+pub const INTEGER: i64 = 1_000_000_000_000;
+/// Millionths in one.
+pub const MILLION: i64 = 1_000_000;
+/// Largest amount of a decimal, in millionths.
+pub const DECIMAL: i64 = 1_000_000_000_000_000_000;
+/// First dateTime, 0001-01-01T00:00:00Z, in seconds from 1970.
+pub const FIRST_SECOND: i64 = -62_135_596_800;
+/// Last dateTime, 9999-12-31T23:59:59Z.
+pub const LAST_SECOND: i64 = 253_402_300_799;

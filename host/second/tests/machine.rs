@@ -1,0 +1,195 @@
+//! Runs and pages: steps, states, tables and the saved run, byte for byte.
+
+mod common;
+use common::{stock, Station};
+use second::term::{fill, Term};
+use second::write::*;
+
+/// Terms: 0 g:stock, 1 is 60; then p:speed 2, p:addr 3, p:name 4.
+const G: usize = 0;
+const SIXTY: usize = 1;
+const SPEED: usize = 2;
+const NAME: usize = 4;
+const ENDED: u8 = 0;
+const WANTED: u8 = 1;
+const WAITING: u8 = 2;
+const SPENT: u8 = 3;
+
+fn listed() -> Vec<u8> {
+    terms(&[uri("g:stock"), Term::Int(60)])
+}
+
+fn station(script: Bytes) -> Station {
+    Station::loaded(listed(), stock(), script)
+}
+
+fn speed(subject: &str, millionths: i64) -> Bytes {
+    triple(&fill(subject.as_bytes()), &fill(b"p:speed"), &Term::Dec(millionths))
+}
+
+fn name(subject: &str, text: &str) -> Bytes {
+    triple(&fill(subject.as_bytes()), &fill(b"p:name"), &string(text))
+}
+
+/// $s 0 in the stock with a speed $v 1 over 60, and its name $n 2.
+fn fast_stock(each: bool, then: Bytes) -> Bytes {
+    let speed = pattern(con(G), var(0), con(SPEED), var(1));
+    let name = pattern(con(G), var(0), con(NAME), var(2));
+    let query = both(both(speed, name), filter(less(con(SIXTY), var(1))));
+    from_named(con(G), block(each, &[(0, 0), (1, 0), (2, 0)], query, then))
+}
+
+#[test]
+fn a_load_leaves_the_root_alone() {
+    let s = station(fast_stock(true, success()));
+    assert_eq!(s.terms_in_use()[2..], [uri("p:speed"), uri("p:addr"), uri("p:name")]);
+    assert!(s.term_table[5 * 49..].iter().all(|b| *b == 0) && s.quad_table.iter().all(|b| *b == 0));
+    let mut saved = vec![0; 486];
+    saved[0] = 1;
+    saved[6..9].copy_from_slice(&[1, 3, 2]);
+    assert_eq!(s.saved, saved);
+}
+
+#[test]
+fn each_block_with_pages_in_between() {
+    let mut s = station(fast_stock(true, success()));
+    assert_eq!(s.run(10, 0), Ok((0, WANTED, G as u16)));
+    // A record of the wrong type and one without a schema entry are skipped; a repeat is neither stored nor counted.
+    let wrong = triple(&fill(b"l:x"), &fill(b"p:speed"), &string("fast"));
+    let unknown = triple(&fill(b"l:y"), &fill(b"p:none"), &Term::Int(1));
+    let loco = |n: &str, v: i64| [speed(&format!("l:{n}"), v), name(&format!("l:{n}"), n)].concat();
+    let page = [loco("a", 70_000_000), wrong, loco("b", 50_000_000), unknown, speed("l:a", 70_000_000)].concat();
+    assert_eq!(s.page(0, &page), Ok(2));
+    // New terms in page order, subject before object.
+    let [l_a, seventy, a] = [uri("l:a"), Term::Dec(70_000_000), string("a")];
+    assert_eq!(s.terms_in_use()[5..], [l_a, seventy, a, uri("l:b"), Term::Dec(50_000_000), string("b")]);
+    assert_eq!(s.quads(), vec![[0, 5, 2, 6], [0, 5, 4, 7], [0, 8, 2, 9], [0, 8, 4, 10]]);
+    // From named, then the block's first answer.
+    assert_eq!(s.run(2, 0), Ok((2, SPENT, 0)));
+    assert_eq!([0, 1, 2].map(|v| s.bound(v)), [Some(5), Some(6), Some(7)]);
+    assert_eq!(s.number(0), 2, "the block and its script");
+    // The block begins after 72 and a constant (4 bytes), its script after its head (11), two 62s, two patterns of 11
+    // and a filter of 7 bytes: at 4 + 11 + 2 + 22 + 7.
+    assert_eq!(s.saved[198..222], [4, 0, 1, 0, 5, 0, 6, 0, 7, 0, 0, 0, 46, 0, 0, 0, 0, 0, 0, 0, 0, 0, 0, 0]);
+    // The page is rewritten: l:b is fast now, l:c is new, l:a is gone. Answers are those of the moment.
+    let page = [loco("c", 90_000_000), loco("b", 61_000_000)].concat();
+    assert_eq!(s.page(0, &page), Ok(0));
+    assert_eq!(s.quads().len(), 4);
+    assert_eq!(s.bound(0), Some(5), "bindings stay");
+    // Success dropped, then l:b (8) and l:c (11), each with its success, then the block is dropped.
+    assert_eq!(s.run(2, 0), Ok((2, SPENT, 0)));
+    assert_eq!(s.bound(0), Some(8));
+    assert_eq!(s.run(100, 0), Ok((4, ENDED, 0)));
+    assert_eq!(s.bound(0), Some(11));
+    assert_eq!(s.run(100, 0), Ok((0, ENDED, 0)));
+    assert_eq!(s.run(0, 0), Ok((0, ENDED, 0)));
+}
+
+#[test]
+fn once_block_waits() {
+    let mut s = station(fast_stock(false, success()));
+    assert_eq!(s.page(0, &[]), Ok(0));
+    assert_eq!(s.run(0, 0), Ok((0, SPENT, 0)));
+    assert_eq!(s.run(1, 0), Ok((1, WAITING, 0)));
+    assert_eq!(s.run(9, 0), Ok((0, WAITING, 0)));
+    assert_eq!(s.page(0, &[speed("l:a", 60_000_001), name("l:a", "a")].concat()), Ok(0));
+    assert_eq!(s.run(0, 0), Ok((0, SPENT, 0)), "it has an answer now");
+    assert_eq!(s.run(9, 0), Ok((2, ENDED, 0)));
+}
+
+#[test]
+fn blocks_without_variables() {
+    // The empty tuple is tried once by an each block, and is not the same as no tuple.
+    let mut s = station(each(&[], empty(), success()));
+    assert_eq!(s.run(1, 0), Ok((1, SPENT, 0)));
+    assert_eq!(s.saved[198..204], [0, 0, 1, 0, 0, 0]);
+    assert_eq!(s.run(9, 0), Ok((2, ENDED, 0)));
+    let mut s = station(once(&[], filter(vec![0x50]), success()));
+    assert_eq!(s.run(9, 0), Ok((0, WAITING, 0)));
+    let mut s = station(sequence(once(&[], empty(), success()), success()));
+    assert_eq!(s.run(9, 0), Ok((4, ENDED, 0)));
+}
+
+#[test]
+fn tuples_in_order_over_all_terms_in_use() {
+    // range(integer) is had by properties of integer and decimal, range(decimal) by decimal only.
+    let run_to_end = |code: u8| {
+        let mut s = station(each(&[(3, code)], empty(), success()));
+        let mut seen = Vec::new();
+        while s.run(1, 0).unwrap().1 != ENDED {
+            seen.extend(s.bound(3));
+            s.run(1, 0).unwrap();
+        }
+        seen
+    };
+    assert_eq!(run_to_end(1), [0, 2, 3, 4]);
+    assert_eq!(run_to_end(13), [2, 3]);
+    assert_eq!(run_to_end(11), [2]);
+    assert_eq!(run_to_end(10), [4]);
+    assert_eq!(run_to_end(9), []);
+    assert_eq!(run_to_end(5), [1]);
+    assert_eq!(run_to_end(3), [1]);
+    assert_eq!(run_to_end(4), []);
+}
+
+#[test]
+fn now_and_no_value() {
+    let holds = |query: Bytes, now: i64| {
+        let mut s = Station::loaded(
+            terms(&[Term::Time(5), Term::Int(1_000_000_000_000), string("x")]),
+            stock(),
+            once(&[], query, success()),
+        );
+        s.run(9, now).unwrap().1 == ENDED
+    };
+    assert!(holds(filter(less(con(0), now())), 6) && !holds(filter(less(con(0), now())), 5));
+    let over = plus(con(1), con(1));
+    let none = str(over.clone());
+    for cond in [
+        equal(over.clone(), over.clone()),
+        less(con(1), over.clone()),
+        regex("", none.clone()),
+        lang_matches("*", none.clone()),
+        equal(none, con(2)),
+    ] {
+        assert!(!holds(filter(cond.clone()), 0) && holds(filter(not(cond)), 0));
+    }
+    assert!(!holds(filter(equal(minus(over.clone(), over), con(1))), 0));
+}
+
+#[test]
+fn a_page_names_any_uri_and_replaces_only_its_graph() {
+    let mut s = station(success());
+    assert_eq!(s.page(0, &[name("l:a", "a"), name("l:b", "b")].concat()), Ok(0));
+    assert_eq!(s.page(5, &name("l:a", "a")), Ok(0));
+    assert_eq!(s.page(4, &[]), Ok(0), "a schema URI is a URI");
+    let quads = s.quads();
+    assert_eq!(quads, vec![[0, 5, 4, 6], [0, 7, 4, 8], [5, 5, 4, 6]]);
+    assert_eq!(s.page(0, &name("l:b", "c")), Ok(0));
+    assert_eq!(s.quads(), vec![[5, 5, 4, 6], [0, 7, 4, 9]]);
+    assert_eq!(s.terms_in_use().len(), 10, "terms stay");
+    assert_eq!((s.number(4), s.number(70), s.number(72), s.number(74)), (3, 0, 5, 4));
+    // A bad triple given twice counts 2; a wholly skipped page empties its graph.
+    let wrong = triple(&fill(b"l:q"), &fill(b"p:addr"), &Term::Dec(1_000_000));
+    assert_eq!(s.page(0, &wrong.repeat(2)), Ok(2));
+    assert_eq!(s.quads(), vec![[5, 5, 4, 6]]);
+    assert!(s.quad_table[8..].iter().all(|b| *b == 0));
+    // A decimal property takes integers; 3 and 3.0 are two terms.
+    let page = [Term::Int(3), Term::Dec(3_000_000)].map(|o| triple(&fill(b"l:a"), &fill(b"p:speed"), &o)).concat();
+    assert_eq!(s.page(0, &page), Ok(0));
+    assert_eq!(s.quads().len(), 3);
+}
+
+#[test]
+fn what_means_nothing_is_zero_in_results() {
+    let mut s = station(sequence(success(), success()));
+    s.saved[198 + 12..].fill(0x77);
+    s.saved[198 + 4..198 + 12].fill(0x66);
+    s.saved[200] = 1;
+    s.saved[38..70].fill(0x55);
+    s.saved[70..198].fill(0x44);
+    assert_eq!(s.run(0, 0), Ok((0, SPENT, 0)));
+    let mut expected = vec![0; 486];
+    expected[0] = 1;
+    assert_eq!(s.saved, expected);
+}
