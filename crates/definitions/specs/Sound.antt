@@ -74,7 +74,7 @@ lastSound terms (block at false bs q c) (some t) = false
 lastSound terms (block at true bs q c) (some t) = eqb (length t) (length bs) && every (λ i. ltb i terms) t
 lastSound terms (sequence at c d) (some t) = false
 
--- the n-th item from the bottom stands at depth n or more
+-- the n-th item from the bottom stands at depth n or more; the item is the record that stands at its offset, since `Saved.held` made it so
 unfoldable pub itemSound : (root : Script) → (terms : ℕ) → Bindings → (place : ℕ) → Item → Bool
 itemSound root terms β n i =
     deepEnough n (placeIn root (offsetOf (i .script))) && (freeBound β (i .script) && lastSound terms (i .script) (i .last))

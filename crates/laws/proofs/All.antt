@@ -1,11 +1,11 @@
 -- What holds of all elements of a list: as a type, and as the tests of the definitions (`every`, `distinct`, `some?`).
-use Prim.Native.Nat.{ℕ, _+_}
-use mathlib.Core.Path.{_≡_, refl, ap, sym, _∙_}
+use mathlib.Core.Path.{_≡_, subst⁻¹}
+use mathlib.Core.Logic.{⊎-elim}
 use mathlib.Core.List.{List, [], _∷_, _++_, map}
 use mathlib.Core.Bool.{Bool, true, false, cond, not, _&&_, _||_}
-use lib.Dec.{T, eqb, eqb→eq, eqb-refl, T-not, not-T}
-use Rattle.definitions.specs.Lists.{every, some?, keep, distinct, isIn}
-use Rattle.laws.proofs.Tests.{andLeft, andRight, andMake, orLeft, orRight, by-test}
+use lib.Dec.{T, T-not, not-T}
+use Rattle.definitions.specs.Lists.{every, some?, keep, distinct}
+use Rattle.laws.proofs.Tests.{andLeft, andRight, andMake, orCases, by-test}
 
 notOr : (a b : Bool) → T (not (a || b)) → T (not a) × T (not b)
 notOr true b h = absurd h
@@ -36,6 +36,11 @@ module _ {A : Type 0} (P : A → Type 0) where
   pub all-map : {B : Type 0} (Q : B → Type 0) (f : A → B) → ((a : A) → P a → Q (f a)) → (xs : List A) → All P xs → All Q (map f xs)
   all-map Q f k [] h = tt
   all-map Q f k (x ∷ xs) h = (k x (h .0), all-map Q f k xs (h .1))
+
+-- what is kept passes the test
+pub kept : {A : Type 0} (p : A → Bool) (xs : List A) → All (λ x. T (p x)) (keep p xs)
+kept p [] = tt
+kept p (x ∷ xs) = all-cond (λ x. T (p x)) (p x) x (keep p xs) (λ t. t) (kept p xs)
 
 -- ── tests joined by and ─────────────────────────────────────────────────────────────────────
 
@@ -107,3 +112,8 @@ module _ {A : Type 0} (same : A → A → Bool) (is : (a b : A) → T (same a b)
       andMake (others (xs ++ (x ∷ []))) (distinct same (xs ++ (x ∷ [])))
       (every-end (λ z. not (same y z)) x xs (andLeft (others xs) (distinct same xs) h) (not-other-way x y (apart .0)))
       (distinct-end x xs (andRight (others xs) (distinct same xs) h) (apart .1))
+
+  -- what holds of all holds of one that is there
+  pub all-at : (P : A → Type 0) (x : A) (xs : List A) → All P xs → T (some? (same x) xs) → P x
+  all-at P x [] h k = absurd k
+  all-at P x (y ∷ xs) h k = ⊎-elim (λ e. subst⁻¹ P (is x y e) (h .0)) (all-at P x xs (h .1)) (orCases (same x y) (some? (same x) xs) k)

@@ -1,34 +1,34 @@
 -- The search for an answer of a well typed block meets no fault, an answer's terms have the variables' types, and what binding it does.
 use Prim.Native.Nat.{ℕ, zero, suc}
-use mathlib.Core.Path.{_≡_, refl, sym, subst, subst⁻¹}
+use mathlib.Core.Path.{_≡_, refl, subst, subst⁻¹}
 use mathlib.Core.Logic.{_⊎_, inl, inr}
-use mathlib.Core.List.{List, [], _∷_, _++_, map}
+use mathlib.Core.List.{List, [], _∷_, map}
 use mathlib.Core.Bool.{Bool, true, false, cond, not, _&&_, _||_}
 use mathlib.Core.Option.{Option, none, some}
 use lib.Dec.{T, eqb, eqb→eq}
-use lib.ListN.{length, getElem?}
+use lib.ListN.{length}
 use lib.IntN.{ℤ}
-use Rattle.definitions.specs.Lists.{keep, isIn}
+use Rattle.definitions.specs.Lists.{isIn}
 use Rattle.definitions.specs.Types.{Ty}
 use Rattle.definitions.specs.Terms.{Term, Schema, hasType}
 use Rattle.definitions.specs.Tree.{Query}
 use Rattle.definitions.specs.Scope.{inQuery}
 use Rattle.definitions.specs.Typing.{queryTyped}
-use Rattle.definitions.specs.Outcome.{Outcome, ok, fault, _>>=_}
+use Rattle.definitions.specs.Outcome.{Outcome, ok}
 use Rattle.definitions.specs.Evaluate.{Bindings, Quad, query}
 use Rattle.definitions.specs.Search.{Typing, Tuple, fitting, eachInFront, tuples, earlier, after, first, bind, answer}
 use Rattle.definitions.specs.Calls.{constantsOf}
-use Rattle.laws.proofs.Tests.{andMake, orCases}
+use Rattle.laws.proofs.Tests.{andMake}
 use Rattle.laws.proofs.All.{All, all-append, all-cond, all-keep, all-map}
 use Rattle.laws.proofs.Fine.{Fine, fine, Any, fine-then}
 use Rattle.laws.proofs.Bindings.{Extends, Holds, Bound, WellBound, BoundIn, Fits}
 use Rattle.laws.proofs.Evaluate.{query-fine}
 use Rattle.laws.proofs.Sound.{QueryBounded}
 
--- a property of what there is
-abbrev pub Given : {A : Type 0} → (A → Type 0) → Option A → Type 0
-Given P none = Unit {0}
-Given P (some a) = P a
+-- a property of what there is, if there is something
+abbrev pub IfSome : {A : Type 0} → (A → Type 0) → Option A → Type 0
+IfSome P none = Unit {0}
+IfSome P (some a) = P a
 
 -- ── the tuples tried ────────────────────────────────────────────────────────────────────────
 
@@ -62,12 +62,12 @@ module _ (S : Schema) (Γ : Typing) (terms : List Term) where
 -- ── the first that passes ───────────────────────────────────────────────────────────────────
 
 first-fine : (P : Tuple → Type 0) (test : Tuple → Outcome Bool) → ((t : Tuple) → P t → Fine Any (test t)) → (ts : List Tuple) → All P ts
-    → Fine (Given P) (first test ts)
+    → Fine (IfSome P) (first test ts)
 unfolding first
 first-fine P test f [] h = fine tt
 first-fine P test f (t ∷ ts) h = fine-then (f t (h .0)) λ holds u. go (first-fine P test f ts (h .1)) holds
   where
-    go : Fine (Given P) (first test ts) → (b : Bool) → Fine (Given P) (elim b as (λ c. Outcome (Option Tuple)) [ true ↦ ok (some t) | false ↦ first test ts ])
+    go : Fine (IfSome P) (first test ts) → (b : Bool) → Fine (IfSome P) (elim b as (λ c. Outcome (Option Tuple)) [ true ↦ ok (some t) | false ↦ first test ts ])
     go later true = fine (h .0)
     go later false = later
 
@@ -96,7 +96,8 @@ module _ (β : Bindings) where
   bind-cases (v ∷ vs) [] x j e = inr e
   bind-cases (v ∷ vs) (i ∷ t) x j e = go (eqb x v) (bind-cases vs t x j) e
     where
-      go : (b : Bool) → (bind vs t β x ≡ some j → T (isIn x vs) ⊎ (β x ≡ some j)) → cond b (some i) (bind vs t β x) ≡ some j → T (b || isIn x vs) ⊎ (β x ≡ some j)
+      go : (b : Bool) → (bind vs t β x ≡ some j → T (isIn x vs) ⊎ (β x ≡ some j)) → cond b (some i) (bind vs t β x) ≡ some j
+          → T (b || isIn x vs) ⊎ (β x ≡ some j)
       go true later k = inl tt
       go false later k = later k
 
@@ -139,7 +140,7 @@ module _ (S : Schema) (Γ : Typing) (terms : List Term) (β : Bindings) where
 module _ (S : Schema) (Γ : Typing) (clock : ℤ) (known terms : List Term) (extends : Extends known terms)
     (quads : List Quad) (β : Bindings) (wellBound : WellBound S Γ terms β) where
   pub answer-fine : (vs : List ℕ) (q : Query) → QueryBounded (length known) q → BoundIn β (λ v. not (isIn v vs) && inQuery v q)
-      → T (queryTyped (constantsOf S known) Γ q) → (last : Option Tuple) → Fine (Given (Fits S Γ terms vs)) (answer S Γ clock terms quads β vs q last)
+      → T (queryTyped (constantsOf S known) Γ q) → (last : Option Tuple) → Fine (IfSome (Fits S Γ terms vs)) (answer S Γ clock terms quads β vs q last)
   unfolding answer
   answer-fine vs q k i h last =
       first-fine (Fits S Γ terms vs) (λ t. query S clock terms quads (bind vs t β) q)

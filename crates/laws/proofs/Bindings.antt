@@ -1,14 +1,14 @@
 -- Term numbers, bindings and tuples: that they hold terms of given types, as types and as the tests of the definitions.
 use Prim.Native.Nat.{ℕ, zero, suc, _<_}
 use native.Mathlib.Omega.{arith}
-use mathlib.Core.Path.{_≡_, refl, sym, _∙_}
-use mathlib.Core.List.{List, [], _∷_, map}
-use mathlib.Core.Bool.{Bool, true, false, _||_}
+use mathlib.Core.Path.{_≡_, refl}
+use mathlib.Core.List.{List, [], _∷_}
+use mathlib.Core.Bool.{Bool, _||_}
 use mathlib.Core.Option.{Option, none, some, Option·none-ne-some, Option·some-injective}
 use lib.Dec.{T}
-use lib.ListN.{length, getD, getElem?}
-use Rattle.definitions.specs.Types.{Ty}
-use Rattle.definitions.specs.Terms.{Term, Schema, Sort, sortOf, hasType}
+use lib.ListN.{length, getElem?}
+use Rattle.definitions.specs.Types.{Datatype, Ty, plain}
+use Rattle.definitions.specs.Terms.{Term, Schema, sortOf, hasType}
 use Rattle.definitions.specs.Evaluate.{Bindings}
 use Rattle.definitions.specs.Search.{Typing, Tuple}
 use Rattle.definitions.specs.Saved.{isBound}
@@ -38,6 +38,10 @@ pub record Holds (S : Schema) (terms : List Term) (i : ℕ) (τ : Ty) : Type 0 w
   pub term : Term
   pub there : getElem? terms i ≡ some term
   pub typed : T (hasType S term τ)
+
+-- number i of the table is a URI
+abbrev pub HoldsURI : Schema → List Term → ℕ → Type 0
+HoldsURI S terms i = Holds S terms i (plain Datatype.anyURI)
 
 pub holds-more : (S : Schema) (old new : List Term) → Extends old new → (i : ℕ) (τ : Ty) → Holds S old i τ → Holds S new i τ
 holds-more S old new more i τ h = record { term = h .term; there = more i (h .term) (h .there); typed = h .typed }

@@ -1,7 +1,7 @@
 -- Well typed expressions, booleans and queries meet no fault, at every tuple of terms of the variables' types.
-use Prim.Native.Nat.{ℕ, _<_}
-use mathlib.Core.Path.{_≡_, refl, sym}
-use mathlib.Core.List.{List, [], _∷_}
+use Prim.Native.Nat.{ℕ}
+use mathlib.Core.Path.{_≡_, refl}
+use mathlib.Core.List.{List}
 use mathlib.Core.Bool.{Bool, true, false, _&&_, _||_}
 use mathlib.Core.Option.{Option, none, some}
 use lib.Dec.{T, eqb-refl}
@@ -12,12 +12,12 @@ use Rattle.definitions.specs.Terms.{Term, Schema, Sort, has, sortOf, hasType, d
 use Rattle.definitions.specs.Tree.{Name, var, const, Expr, Cond, Query}
 use Rattle.definitions.specs.Scope.{inName, inExpr, inCond, inQuery}
 use Rattle.definitions.specs.Typing.{allows, nameHas, exprHas, condTyped, propertyTyped, queryTyped}
-use Rattle.definitions.specs.Outcome.{Outcome, ok, fault, _>>=_, _>>_, demand, graphNoURI, subjectNoURI, objectNotOfDatatype}
+use Rattle.definitions.specs.Outcome.{ok, _>>=_, graphNoURI, subjectNoURI, objectNotOfDatatype}
 use Rattle.definitions.specs.Values.{Value, kind, valueOf, Number, whole, millionths, numberIn, combine, distance, sum, difference, absolute, Pair, paired, stringIn, equalPair, lessPair}
-use Rattle.definitions.specs.Evaluate.{Bindings, Quad, Named, named, numberOf, termOfNumber, withTerm, isURI, inSchema, propertyDatatype, expression, condition, query}
+use Rattle.definitions.specs.Evaluate.{Bindings, Quad, Named, named, termOfNumber, isURI, inSchema, propertyDatatype, expression, condition, query}
 use Rattle.definitions.specs.Search.{Typing}
 use Rattle.definitions.specs.Calls.{constantsOf}
-use Rattle.laws.proofs.Tests.{andLeft, andRight, orCases, implies, apply}
+use Rattle.laws.proofs.Tests.{andLeft, andRight, implies, apply}
 use Rattle.laws.proofs.Order.{byDatatype3, leq-trans, leq-refl, same-datatype, same-type}
 use Rattle.laws.proofs.Sorts.{least, has-of-least, least-of-has, has-above, is-uri}
 use Rattle.laws.proofs.Fine.{Fine, fine, Any, fine-then, fine-and, fine-demand}
@@ -287,9 +287,10 @@ module _ (S : Schema) (Γ : Typing) (clock : ℤ) (known terms : List Term) (ext
       let hasP = propertyTyped constants Γ p o in
       let h₁ = andRight hasG (hasS && hasP) h in
       let r = property-names constants Γ p o (andRight hasS hasP h₁) in
+      let i₀ = in-left β (λ v. inName v g) (λ v. inName v s || (inName v p || inName v o)) i in
       let i₁ = in-right β (λ v. inName v g) (λ v. inName v s || (inName v p || inName v o)) i in
       let i₂ = in-right β (λ v. inName v s) (λ v. inName v p || inName v o) i₁ in
-      fine-then (named-fine g any (k .0) (in-left β (λ v. inName v g) (λ v. inName v s || (inName v p || inName v o)) i) (andLeft hasG (hasS && hasP) h)) λ G hG.
+      fine-then (named-fine g any (k .0) i₀ (andLeft hasG (hasS && hasP) h)) λ G hG.
       fine-then (named-fine s any (k .1) (in-left β (λ v. inName v s) (λ v. inName v p || inName v o) i₁) (andLeft hasS hasP h₁)) λ X hX.
       fine-then (named-fine p (range (r .0)) (k .2) (in-left β (λ v. inName v p) (λ v. inName v o) i₂) (r .1)) λ P hP.
       fine-then (named-fine o (plain (r .0)) (k .3) (in-right β (λ v. inName v p) (λ v. inName v o) i₂) (r .2)) λ O hO.

@@ -35,3 +35,33 @@ module _ {A : Type 0} {P : A → Type 0} where
 
   pub ok-fine : {m : Outcome A} (a : A) → m ≡ ok a → P a → Fine P m
   ok-fine a e p = rw e (fine p)
+
+-- ── with or without a fault ─────────────────────────────────────────────────────────────────
+
+-- a property of the value, if there is one
+pub data OrFault {A : Type 0} (P : A → Type 0) : Outcome A → Type 0 where
+  holds : {a : A} → P a → OrFault P (ok a)
+  stops : {x : Fault} → OrFault P (fault x)
+
+module _ {A B : Type 0} {P : A → Type 0} {Q : B → Type 0} where
+  pub holds-then : {m : Outcome A} {f : A → Outcome B} → OrFault P m → ((a : A) → P a → OrFault Q (f a)) → OrFault Q (m >>= f)
+  unfolding _>>=_
+  holds-then (holds {a} p) k = k a p
+  holds-then stops k = stops
+
+module _ {A B : Type 0} {Q : B → Type 0} where
+  pub holds-after : (m : Outcome A) {f : A → Outcome B} → ((a : A) → OrFault Q (f a)) → OrFault Q (m >>= f)
+  unfolding _>>=_
+  holds-after (ok a) k = k a
+  holds-after (fault x) k = stops
+
+  pub holds-and : (m : Outcome A) {n : Outcome B} → OrFault Q n → OrFault Q (m >> n)
+  unfolding _>>_
+  holds-and (ok a) h = h
+  holds-and (fault x) h = stops
+
+pub holds-ok : {A : Type 0} {P : A → Type 0} {m : Outcome A} (a : A) → m ≡ ok a → OrFault P m → P a
+holds-ok {A} {P} a e h = value (rw e at h)
+  where
+    value : OrFault P (ok a) → P a
+    value (holds p) = p

@@ -30,3 +30,9 @@ pub mod RunStore
 pub mod Records
 pub mod Fill
 pub mod Every
+pub mod Numbers
+pub mod Taking
+pub mod Refusing
+pub mod SoundMeans
+pub mod Saved
+pub mod SoundIn

@@ -1,10 +1,10 @@
 -- Where a script stands in the root: the offset of its record finds it again, with its depth, and what the root keeps it keeps.
-use Prim.Native.Nat.{ℕ, zero, suc, _+_, _≤_, _<_, max}
+use Prim.Native.Nat.{ℕ, suc, _+_, _≤_, _<_}
 use native.Mathlib.Omega.{arith}
 use mathlib.Core.Path.{_≡_, refl, sym, _∙_, ap}
 use mathlib.Core.Logic.{_⊎_, inl, inr, ⊎-elim}
-use mathlib.Core.List.{List, [], _∷_, _++_, map}
-use mathlib.Core.Bool.{Bool, true, false, _&&_, _||_}
+use mathlib.Core.List.{List, [], _∷_, _++_}
+use mathlib.Core.Bool.{Bool, true, false}
 use mathlib.Core.Option.{Option, none, some, Option·none-ne-some, Option·some-injective}
 use lib.Dec.{T, eqb, eqb→eq}
 use borrow.Author.Tests.{eq-eqb, ne-eqb}
@@ -189,7 +189,8 @@ module _ (root : Script) (i : ℕ) (p : Place) where
   leads depth (block at each bs q c) a e = ⊎-elim (itself depth (block at each bs q c) a) (leads (suc depth) c (underBlock a)) (choice (eqb i at) _ _ p e)
   leads depth (sequence at c d) a e =
       ⊎-elim (itself depth (sequence at c d) a)
-      (λ k. ⊎-elim (leads (suc depth) c (underFirst a)) (leads (suc depth) d (underSecond a)) (one-of (placeFrom (suc depth) c i) (placeFrom (suc depth) d i) p k))
+      (λ k. ⊎-elim (leads (suc depth) c (underFirst a)) (leads (suc depth) d (underSecond a))
+      (one-of (placeFrom (suc depth) c i) (placeFrom (suc depth) d i) p k))
       (choice (eqb i at) _ _ p e)
 
   pub found : placeIn root i ≡ some p → Found root i p

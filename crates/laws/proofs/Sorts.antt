@@ -1,13 +1,12 @@
 -- The types of a term: a sort has exactly the types above a least one.
-use mathlib.Core.Path.{_≡_, refl, sym}
-use mathlib.Core.Bool.{Bool, true, false, _||_, Bool·beq}
+use mathlib.Core.Path.{_≡_, refl}
+use mathlib.Core.Bool.{Bool, true, false, Bool·beq}
 use mathlib.Core.Option.{Option, none, some}
 use lib.Dec.{T}
-use Rattle.definitions.specs.Types.{Datatype, Ty, plain, range, leq, sameType, leqDatatype}
+use Rattle.definitions.specs.Types.{Datatype, Ty, plain, range, leq}
 use Rattle.definitions.specs.Terms.{Term, Schema, datatypeIn, Sort, has, sortOf, hasType}
 use Rattle.definitions.specs.Evaluate.{isURI}
-use Rattle.laws.proofs.Tests.{trueIs}
-use Rattle.laws.proofs.Order.{byType, byDatatype, everyType, leq-trans, leq-refl}
+use Rattle.laws.proofs.Order.{byType, byDatatype, everyType, leq-trans}
 
 -- the least type that a sort has
 unfoldable pub least : Sort → Ty

@@ -12,7 +12,8 @@ use Rattle.definitions.specs.Terms.{sameTerm}
 use Rattle.definitions.specs.Tree.{Name, var, const, Expr, Cond, Query, Binder, Script, success, fromNamed, block, sequence}
 use Rattle.definitions.specs.Scope.{isFree}
 use Rattle.definitions.specs.Typing.{typeAt, scriptTyped}
-use Rattle.definitions.specs.Machine.{State}
+use Rattle.definitions.specs.Machine.{Item, State}
+use Rattle.definitions.specs.Saved.{offsetOf, placeIn}
 use Rattle.definitions.specs.Sound.{stateSound}
 use Rattle.definitions.specs.Calls.{Checked, constantsOf}
 
@@ -87,7 +88,13 @@ pub record Accepted (c : Checked) : Type 0 where
 
 -- ── a state that passes refusal 10's test ───────────────────────────────────────────────────
 
--- the test speaks of the 16 variables; no other is bound
+-- an item is the record of the script that stands at its offset
+abbrev pub Own : (root : Script) → List Item → Type 0
+Own root [] = Unit {0}
+Own root (i ∷ rest) = ((depth : ℕ) × (placeIn root (offsetOf (i .script)) ≡ some (record { depth = depth; script = i .script }))) × Own root rest
+
+-- the test speaks of the 16 variables; no other is bound. It finds a record at each item's offset; the item is that record.
 pub record Sound (c : Checked) (s : State) : Type 0 where
   pub test : T (stateSound (c .schema) (c .types) (c .terms) (c .root) s)
   pub few : (v i : ℕ) → s .control .bindings v ≡ some i → v < variableLimit
+  pub own : Own (c .root) (s .control .stack)

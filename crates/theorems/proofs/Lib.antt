@@ -1,2 +1,9 @@
 pub mod Verdict
 pub mod Roster
+pub mod StepBound
+pub mod StepSound
+pub mod RunSound
+pub mod PageSound
+pub mod Safety
+pub mod PageTaken
+pub mod NotVacuous

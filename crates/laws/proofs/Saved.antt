@@ -1,0 +1,335 @@
+-- The saved run: what it holds of a sound state is that state again (stack, last tuples, bindings, fetched graphs).
+use Prim.Native.Nat.{ℕ, zero, suc, _+_, _-_, _≤_, _<_}
+use mathlib.Core.Bool.{Bool, true, false, cond, _&&_}
+use mathlib.Core.List.{List, [], _∷_, _++_, map, append-assoc}
+use mathlib.Core.Option.{Option, none, some}
+use mathlib.Core.Path.{_≡_, refl, sym, ap, subst, fun-ext, _∙_}
+use mathlib.Core.Logic.{⊎-elim}
+use native.Mathlib.Omega.{arith}
+use native.Mathlib.Nat.{add-zero}
+use lib.Dec.{T, eqb, leb, ltb, leb→le, le→leb, eqb→eq}
+use lib.ListN.{length, getD, take, replicate, length-append, length-replicate}
+use lib.Seq.{take-at, getD-at}
+use borrow.Author.Tests.{lt-ltb, le-ltb, ltb-true}
+use Rattle.definitions.specs.Limits.{termLimit, quadLimit, graphLimit, depthLimit, variableLimit, pairLimit}
+use Rattle.definitions.specs.Lists.{every}
+use Rattle.definitions.specs.Bytes.{filled, provided, onward}
+use Rattle.definitions.specs.Terms.{Term}
+use Rattle.definitions.specs.Tree.{Script, success, fromNamed, block, sequence}
+use Rattle.definitions.specs.Scope.{variables}
+use Rattle.definitions.specs.Evaluate.{Quad, Bindings}
+use Rattle.definitions.specs.Search.{Tuple}
+use Rattle.definitions.specs.Machine.{Item, State, inLimits}
+use Rattle.definitions.specs.Saved.{termTable, quadTable, termsIn, quadsIn, Place, offsetOf, placeIn, lastTuple, noItem, stackFrom}
+use Rattle.definitions.specs.Saved.{savedItem, savedItems, zeroItem, lastNumbers, bindingsIn, isBound, numberOrZero, held, savedOf}
+use Rattle.definitions.specs.Sound.{lastSound, stateSound}
+use Rattle.definitions.specs.Calls.{Checked}
+use Rattle.definitions.specs.declared.SavedItem.{SavedItem}
+use Rattle.definitions.specs.declared.SavedRun.{SavedRun}
+use Rattle.laws.proofs.Tests.{andLeft, andRight, isTrue}
+use Rattle.laws.proofs.Ranges.{split}
+use Rattle.laws.proofs.Options.{some-is, some-not-none, onward-inv, provided-inv}
+use Rattle.laws.proofs.All.{All, all-append, all-weaken}
+use Rattle.laws.proofs.Bindings.{is-below}
+use Rattle.laws.proofs.Places.{found, inherits, depth-fits}
+use Rattle.laws.proofs.Sound.{height, Accepted, Sound, Own}
+use Rattle.laws.proofs.SoundMeans.{Facts, facts, StackFacts, QuadFacts}
+use Rattle.laws.proofs.Valid.{ValidIn}
+use Rattle.laws.proofs.Bytes.{filled-length}
+use Rattle.laws.proofs.ReadBounds.{PairsFit}
+use Rattle.laws.proofs.Tables.{terms-of, quads-of, Small}
+
+-- ── lists with something after them ─────────────────────────────────────────────────────────
+
+take-filled : (n width : ℕ) (t : List ℕ) → length t ≡ n → take n (filled width t) ≡ t
+unfolding filled
+take-filled n width t e = take-at t (replicate (width - length t) 0) n e
+
+-- ── last tuples ─────────────────────────────────────────────────────────────────────────────
+
+-- an item's last tuple stands in its saved item
+pub last-again : (terms : ℕ) (c : Script) (last : Option Tuple) → T (lastSound terms c last)
+    → lastTuple c (savedItem (record { script = c; last = last })) ≡ last
+unfolding lastSound lastTuple savedItem
+last-again terms (success at) none h = refl
+last-again terms (fromNamed at n c) none h = refl
+last-again terms (block at false bs q c) none h = refl
+last-again terms (block at true bs q c) none h = refl
+last-again terms (sequence at c d) none h = refl
+last-again terms (success at) (some t) h = absurd h
+last-again terms (fromNamed at n c) (some t) h = absurd h
+last-again terms (block at false bs q c) (some t) h = absurd h
+last-again terms (block at true bs q c) (some t) h =
+    let e = eqb→eq (length t) (length bs) (andLeft (eqb (length t) (length bs)) (every (λ i. ltb i terms) t) h) in
+    ap some (take-filled (length bs) pairLimit t e)
+last-again terms (sequence at c d) (some t) h = absurd h
+
+-- ── the stack ───────────────────────────────────────────────────────────────────────────────
+
+pub items-length : (stack : List Item) → length (savedItems stack) ≡ length stack
+unfolding savedItems
+items-length [] = refl
+items-length (i ∷ rest) = omega (arith, length-append (savedItems rest) (savedItem i ∷ []), items-length rest)
+
+-- one more item: its offset finds its script again
+one-item : (root : Script) (n : ℕ) (items : List SavedItem) (i : Item) (rest : List Item) (depth terms : ℕ)
+    → getD items n noItem ≡ savedItem i → placeIn root (offsetOf (i .script)) ≡ some (record { depth = depth; script = i .script })
+    → T (lastSound terms (i .script) (i .last)) → stackFrom root n items ≡ some rest → stackFrom root (suc n) items ≡ some (i ∷ rest)
+unfolding stackFrom onward savedItem
+one-item root n items i rest depth terms e p l r =
+    rw (e, p, r) (ap (λ (last : Option Tuple). some (record { script = i .script; last = last } ∷ rest)) (last-again terms (i .script) (i .last) l))
+
+-- the items of a stack, from the bottom, whatever stands after them
+pub stack-again : (root : Script) (terms : ℕ) (β : Bindings) (stack : List Item) (after : List SavedItem) → StackFacts root terms β stack → Own root stack
+    → stackFrom root (length stack) (savedItems stack ++ after) ≡ some stack
+unfolding savedItems
+stack-again root terms β [] after f o = unfold stackFrom in refl
+stack-again root terms β (i ∷ rest) after f o =
+    let items = savedItems rest ++ (savedItem i ∷ after) in
+    let here : getD items (length rest) noItem ≡ savedItem i = getD-at (savedItems rest) (savedItem i) after noItem (length rest) (items-length rest) in
+    rw (append-assoc (savedItems rest) (savedItem i ∷ []) after)
+    (one-item root (length rest) items i rest (o .0 .0) terms here (o .0 .1) (f .0 .last) (stack-again root terms β rest (savedItem i ∷ after) (f .1) (o .1)))
+
+-- the n-th item from the bottom is at depth n or more, so the stack is no higher than the script is deep
+pub stack-height : (root : Script) (terms : ℕ) (β : Bindings) (stack : List Item) → StackFacts root terms β stack → length stack ≤ height root
+stack-height root terms β [] f = omega arith
+stack-height root terms β (i ∷ rest) f = omega (arith, f .0 .deep, depth-fits (f .0 .inRoot))
+
+-- ── bindings ────────────────────────────────────────────────────────────────────────────────
+
+-- numbers from one on
+abbrev upFrom : (lo n : ℕ) → List ℕ
+upFrom lo zero = []
+upFrom lo (suc n) = lo ∷ upFrom (suc lo) n
+
+at-number : {A : Type 0} (f : ℕ → A) (d : A) (lo n v : ℕ) → v < n → getD (map f (upFrom lo n)) v d ≡ f (lo + v)
+at-number f d lo zero v l = absurd (omega arith)
+at-number f d lo (suc n) zero l = ap f (sym (add-zero lo))
+at-number f d lo (suc n) (suc v) l = at-number f d (suc lo) n v (omega arith) ∙ ap f (omega arith)
+
+-- what stands at a variable's place
+pub at-variable : {A : Type 0} (f : ℕ → A) (d : A) (v : ℕ) → v < variableLimit → getD (map f variables) v d ≡ f v
+at-variable f d v l = let e : 0 + v ≡ v = omega arith in at-number f d 0 variableLimit v l ∙ ap f e
+
+bound-again : (o : Option ℕ) → cond (isBound o) (some (numberOrZero o)) none ≡ o
+bound-again none = refl
+bound-again (some i) = refl
+
+-- only the 16 variables are bound
+pub bindings-few : (saved : SavedRun) (v i : ℕ) → bindingsIn saved v ≡ some i → v < variableLimit
+unfolding bindingsIn
+bindings-few saved v i e = go (ltb v variableLimit) refl e
+  where
+    go : (b : Bool) → ltb v variableLimit ≡ b → cond (b && getD (saved .bound) v false) (some (getD (saved .bindings) v 0)) none ≡ some i → v < variableLimit
+    go true t e = ltb-true v variableLimit t
+    go false t e = absurd (some-not-none e refl)
+
+pub bindings-again : (types : List ℕ) (s : State) → ((v i : ℕ) → s .control .bindings v ≡ some i → v < variableLimit)
+    → bindingsIn (savedOf types s) ≡ s .control .bindings
+unfolding bindingsIn savedOf
+bindings-again types s few = fun-ext (λ v. ⊎-elim (outside v) (within v) (split variableLimit v))
+  where
+    β : Bindings
+    β = s .control .bindings
+
+    within : (v : ℕ) → v < variableLimit → bindingsIn (savedOf types s) v ≡ β v
+    within v l =
+        rw (lt-ltb v variableLimit l, at-variable (λ v. isBound (β v)) false v l, at-variable (λ v. numberOrZero (β v)) 0 v l) (bound-again (β v))
+
+    nothing : (v : ℕ) → variableLimit ≤ v → (o : Option ℕ) → β v ≡ o → none ≡ o
+    nothing v h none e = refl
+    nothing v h (some i) e = absurd (omega (arith, few v i e))
+
+    outside : (v : ℕ) → variableLimit ≤ v → bindingsIn (savedOf types s) v ≡ β v
+    outside v h = rw (le-ltb v variableLimit h) (nothing v h (β v) refl)
+
+-- ── what is held, part by part ──────────────────────────────────────────────────────────────
+
+-- the parts of the state that tables and saved run hold
+pub record Holding (root : Script) (termBytes quadBytes : List ℕ) (saved : SavedRun) (s : State) : Type 0 where
+  pub terms : termsIn termBytes ≡ some (s .store .terms)
+  pub quads : quadsIn (saved .quads) quadBytes ≡ some (s .store .quads)
+  pub graphs : T (leb (saved .graphs) graphLimit)
+  pub height : T (leb (saved .height) depthLimit)
+  pub stack : stackFrom root (saved .height) (saved .items) ≡ some (s .control .stack)
+  pub bindings : bindingsIn saved ≡ s .control .bindings
+  pub fetched : take (saved .graphs) (saved .fetched) ≡ s .store .fetched
+
+module _ (root : Script) (termBytes quadBytes : List ℕ) (saved : SavedRun) (s : State) where
+  pub held-of : Holding root termBytes quadBytes saved s → held root termBytes quadBytes saved ≡ some s
+  unfolding held onward provided
+  held-of h =
+      rw (h .terms, h .quads, isTrue (leb (saved .graphs) graphLimit) (h .graphs), isTrue (leb (saved .height) depthLimit) (h .height), h .stack)
+      (λ i. some (record {
+        control = record { stack = s .control .stack; bindings = h .bindings i };
+        store = record { terms = s .store .terms; quads = s .store .quads; fetched = h .fetched i };
+      }))
+
+  pub held-inv : held root termBytes quadBytes saved ≡ some s → Holding root termBytes quadBytes saved s
+  unfolding held
+  held-inv e =
+      let fits = leb (saved .graphs) graphLimit in
+      let low = leb (saved .height) depthLimit in
+      let made : List Term → List Quad → List Item → State = λ terms quads stack.
+      record {
+        control = record { stack = stack; bindings = bindingsIn saved };
+        store = record { terms = terms; quads = quads; fetched = take (saved .graphs) (saved .fetched) };
+      } in
+      let stacked : List Term → List Quad → Option State = λ terms quads.
+      onward (stackFrom root (saved .height) (saved .items)) (λ stack. some (made terms quads stack)) in
+      let x = onward-inv (termsIn termBytes) (λ terms. onward (quadsIn (saved .quads) quadBytes) (λ quads. provided (fits && low) (stacked terms quads))) e in
+      let y = onward-inv (quadsIn (saved .quads) quadBytes) (λ quads. provided (fits && low) (stacked (x .0) quads)) (x .2) in
+      let p = provided-inv (fits && low) (stacked (x .0) (y .0)) (y .2) in
+      let z = onward-inv (stackFrom root (saved .height) (saved .items)) (λ stack. some (made (x .0) (y .0) stack)) (p .1) in
+      let held = made (x .0) (y .0) (z .0) in
+      subst (Holding root termBytes quadBytes saved) {x = held} (some-is {a = held} (z .2))
+      (record {
+        terms = x .1;
+        quads = y .1;
+        graphs = andLeft fits low (p .0);
+        height = andRight fits low (p .0);
+        stack = z .1;
+        bindings = refl;
+        fetched = refl;
+      })
+
+-- an item that is held is the record of the script at its offset
+stack-own : (root : Script) (n : ℕ) (items : List SavedItem) (stack : List Item) → stackFrom root n items ≡ some stack → Own root stack
+unfolding stackFrom
+stack-own root zero items stack e = subst (Own root) (some-is e) tt
+stack-own root (suc n) items stack e =
+    let i = getD items n noItem in
+    let item : Place → Item = λ p. record { script = p .script; last = lastTuple (p .script) i } in
+    let p = onward-inv (placeIn root (i .«at»)) (λ p. onward (stackFrom root n items) (λ rest. some (item p ∷ rest))) e in
+    let r = onward-inv (stackFrom root n items) (λ rest. some (item (p .0) ∷ rest)) (p .2) in
+    let f = found root (i .«at») (p .0) (p .1) in
+    let here : placeIn root (offsetOf (p .0 .script)) ≡ some (p .0) = ap (placeIn root) (f .offset) ∙ p .1 in
+    subst (Own root) (some-is (r .2)) ((p .0 .depth, here), stack-own root n items (r .0) (r .1))
+
+-- a state that is held and passes refusal 10's test is sound
+pub held-sound : (c : Checked) (termBytes quadBytes : List ℕ) (saved : SavedRun) (s : State) → held (c .root) termBytes quadBytes saved ≡ some s
+    → T (stateSound (c .schema) (c .types) (c .terms) (c .root) s) → Sound c s
+held-sound c termBytes quadBytes saved s e t =
+    let h = held-inv (c .root) termBytes quadBytes saved s e in
+    record {
+      test = t;
+      few = λ v i b. bindings-few saved v i (ap (λ (β : Bindings). β v) (h .bindings) ∙ b);
+      own = stack-own (c .root) (saved .height) (saved .items) (s .control .stack) (h .stack);
+    }
+
+-- ── the whole, written and read ─────────────────────────────────────────────────────────────
+
+-- a sound state's numbers fit two bytes, and its counts their limits
+module _ (c : Checked) (accepted : Accepted c) (s : State) (sound : Sound c s) where
+  pub all-facts : Facts c s
+  all-facts = facts c accepted s sound
+
+  limits : (T (leb (length (s .store .terms)) termLimit) × T (leb (length (s .store .quads)) quadLimit)) × T (leb (length (s .store .fetched)) graphLimit)
+  unfolding inLimits
+  limits =
+      let terms = leb (length (s .store .terms)) termLimit in
+      let quads = leb (length (s .store .quads)) quadLimit in
+      let graphs = leb (length (s .store .fetched)) graphLimit in
+      let rest = andRight terms (quads && graphs) (all-facts .limits) in
+      ((andLeft terms (quads && graphs) (all-facts .limits), andLeft quads graphs rest), andRight quads graphs rest)
+
+  pub terms-few : length (s .store .terms) ≤ termLimit
+  terms-few = leb→le (length (s .store .terms)) termLimit (limits .0 .0)
+
+  pub quads-few : length (s .store .quads) ≤ quadLimit
+  quads-few = leb→le (length (s .store .quads)) quadLimit (limits .0 .1)
+
+  pub graphs-few : length (s .store .fetched) ≤ graphLimit
+  graphs-few = leb→le (length (s .store .fetched)) graphLimit (limits .1)
+
+  pub stack-low : length (s .control .stack) ≤ depthLimit
+  stack-low =
+      let h = stack-height (c .root) (length (s .store .terms)) (s .control .bindings) (s .control .stack) (all-facts .stack) in
+      omega (arith, accepted .shallow)
+
+  -- a number that names a term
+  number-small : (i : ℕ) → i < length (s .store .terms) → i < 65536
+  number-small i h = omega (arith, terms-few)
+
+  pub quads-small : All Small (s .store .quads)
+  quads-small =
+      let terms = s .store .terms in
+      all-weaken (QuadFacts (c .schema) terms (s .store .fetched)) Small (λ q f.
+      record {
+        graph = number-small (q .graph) (is-below terms (q .graph) (f .graph .term) (f .graph .there));
+        subject = number-small (q .subject) (is-below terms (q .subject) (f .subject .term) (f .subject .there));
+        property = number-small (q .property) (is-below terms (q .property) (Term.uri (f .property)) (f .isProperty));
+        object = number-small (q .object) (is-below terms (q .object) (f .object .term) (f .object .there));
+      }) (s .store .quads) (all-facts .quads)
+
+  -- tables and saved run of a sound state hold it
+  pub held-again : ValidIn s → (types : List ℕ) → held (c .root) (termTable (s .store .terms)) (quadTable (s .store .quads)) (savedOf types s) ≡ some s
+  unfolding savedOf
+  held-again valid types =
+      let stack = s .control .stack in
+      let β = s .control .bindings in
+      let after = replicate (depthLimit - length (savedItems stack)) zeroItem in
+      held-of (c .root) (termTable (s .store .terms)) (quadTable (s .store .quads)) (savedOf types s) s
+      (record {
+        terms = terms-of (s .store .terms) valid terms-few;
+        quads = quads-of (s .store .quads) quads-small quads-few;
+        graphs = limits .1;
+        height = le→leb (length stack) depthLimit stack-low;
+        stack = stack-again (c .root) (length (s .store .terms)) β stack after (all-facts .stack) (sound .own);
+        bindings = bindings-again types s (sound .few);
+        fetched = take-filled (length (s .store .fetched)) graphLimit (s .store .fetched) refl;
+      })
+
+-- ── the places of the saved run ─────────────────────────────────────────────────────────────
+
+-- 16 types, 16 variables, 64 graphs and 24 items with four numbers each
+pub record Shaped (saved : SavedRun) : Type 0 where
+  pub types : length (saved .types) ≡ variableLimit
+  pub bound : length (saved .bound) ≡ variableLimit
+  pub bindings : length (saved .bindings) ≡ variableLimit
+  pub fetched : length (saved .fetched) ≡ graphLimit
+  pub items : length (saved .items) ≡ depthLimit
+  pub lasts : All (λ i. length (i .last) ≡ pairLimit) (saved .items)
+
+last-shaped : (terms : ℕ) (c : Script) (last : Option Tuple) → PairsFit c → T (lastSound terms c last) → length (lastNumbers last) ≡ pairLimit
+unfolding lastSound
+last-shaped terms c none p h = filled-length pairLimit [] (omega arith)
+last-shaped terms (success at) (some t) p h = absurd h
+last-shaped terms (fromNamed at n c) (some t) p h = absurd h
+last-shaped terms (block at false bs q c) (some t) p h = absurd h
+last-shaped terms (block at true bs q c) (some t) p h =
+    let e = eqb→eq (length t) (length bs) (andLeft (eqb (length t) (length bs)) (every (λ i. ltb i terms) t) h) in
+    filled-length pairLimit t (omega (arith, p .0))
+last-shaped terms (sequence at c d) (some t) p h = absurd h
+
+items-shaped : (root : Script) (terms : ℕ) (β : Bindings) (stack : List Item) → PairsFit root → StackFacts root terms β stack
+    → All (λ i. length (i .last) ≡ pairLimit) (savedItems stack)
+unfolding savedItems savedItem
+items-shaped root terms β [] p f = tt
+items-shaped root terms β (i ∷ rest) p f =
+    let pairs = inherits PairsFit (λ at n c k. k) (λ at each bs q c k. k .1) (λ at c d k. k .0) (λ at c d k. k .1) (f .0 .inRoot) p in
+    all-append (λ i. length (i .last) ≡ pairLimit) (savedItems rest) (savedItem i ∷ []) (items-shaped root terms β rest p (f .1))
+    (last-shaped terms (i .script) (i .last) pairs (f .0 .last), tt)
+
+zero-items : (n : ℕ) → All (λ i. length (i .last) ≡ pairLimit) (replicate n zeroItem)
+zero-items zero = tt
+zero-items (suc n) = (filled-length pairLimit [] (omega arith), zero-items n)
+
+pub saved-shaped : (c : Checked) → Accepted c → PairsFit (c .root) → (s : State) → Sound c s → (types : List ℕ)
+    → length types ≡ variableLimit → Shaped (savedOf types s)
+unfolding savedOf
+saved-shaped c accepted pairs s sound types n =
+    let stack = s .control .stack in
+    let after = depthLimit - length (savedItems stack) in
+    let f = all-facts c accepted s sound .stack in
+    let places = length-append (savedItems stack) (replicate after zeroItem) in
+    let zeroes = length-replicate {A = SavedItem} after zeroItem in
+    record {
+      types = n;
+      bound = refl;
+      bindings = refl;
+      fetched = filled-length graphLimit (s .store .fetched) (graphs-few c accepted s sound);
+      items = omega (arith, places, zeroes, items-length stack, stack-low c accepted s sound);
+      lasts = all-append (λ i. length (i .last) ≡ pairLimit) (savedItems stack) (replicate after zeroItem)
+          (items-shaped (c .root) (length (s .store .terms)) (s .control .bindings) stack pairs f) (zero-items after);
+    }
