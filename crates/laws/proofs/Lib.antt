@@ -36,3 +36,9 @@ pub mod Refusing
 pub mod SoundMeans
 pub mod Saved
 pub mod SoundIn
+pub mod Walked
+pub mod Loaded
+pub mod RecordsAt
+pub mod Fields
+pub mod SlotAt
+pub mod Writing

@@ -6,3 +6,5 @@ pub mod Filters
 pub mod Reaches
 pub mod Tries
 pub mod Fast
+pub mod CodeLaws
+pub mod RowLaws

@@ -1,1 +1,34 @@
 // Evaluating a query for one tuple, and finding a block's first answer after a tuple without trying them all.
+mod names;
+mod scan;
+
+// Codes of a pattern's places: a number below SOUGHT is a term's.
+pub const SOUGHT: usize = 65536;
+
+pub const FREE: usize = 65537;
+
+// Four numbers: a quad's, or the codes of a pattern's places.
+pub struct Four {
+    pub graph: usize,
+    pub subject: usize,
+    pub property: usize,
+    pub object: usize,
+}
+
+// A name read from the script: the offset after it, and its code.
+pub struct NameRead {
+    pub next: usize,
+    pub code: usize,
+}
+
+// A pattern's four names.
+pub struct NamesRead {
+    pub next: usize,
+    pub codes: Four,
+}
+
+// A test on what stands in the script: the offset after it, and its answer.
+pub struct Test {
+    pub next: usize,
+    pub holds: bool,
+}

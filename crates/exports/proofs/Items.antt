@@ -1,0 +1,66 @@
+-- Items read one after the other: what a loop over them has done and has still to do.
+use Prim.Native.Nat.{ℕ, zero, suc, _+_, _-_, _*_, _≤_, _<_}
+use native.Mathlib.Omega.{arith}
+use native.Mathlib.Numerals.{add-one}
+use mathlib.Core.Path.{_≡_, refl, ap, sym, _∙_}
+use mathlib.Core.List.{List, _∷_}
+use mathlib.Core.Bool.{Bool, true, false, _&&_}
+use lib.Dec.{eqb, leb}
+use lib.ListN.{set, replicate}
+use Rattle.definitions.specs.Bytes.{byte}
+use Rattle.definitions.specs.Saved.{zeroItem}
+use Rattle.definitions.specs.Exports.{itemAt, itemsFrom, itemsGood}
+use Rattle.definitions.specs.declared.SavedItem.{SavedItem}
+
+module _ (b : List ℕ) where
+  -- ── the test of each item in use ──────────────────────────────────────────────────────────
+
+  module _ (height at i : ℕ) (h : i < height) (far : itemsGood height b at ≡ itemsGood (height - i) b (at + 12 * i)) where
+    here : itemsGood height b at
+        ≡ leb (byte b (at + 12 * i + 2)) 1 && (eqb (byte b (at + 12 * i + 3)) 0 && itemsGood (height - (i + 1)) b (at + 12 * (i + 1)))
+    unfolding itemsGood
+    here =
+        let e : height - i ≡ suc (height - (i + 1)) = omega arith in
+        let k : at + 12 * (i + 1) ≡ at + 12 * i + 12 = omega arith in
+        far ∙ rw (e, k)
+
+    -- it passes: the rest decides
+    pub good-next : leb (byte b (at + 12 * i + 2)) 1 ≡ true → eqb (byte b (at + 12 * i + 3)) 0 ≡ true
+        → itemsGood height b at ≡ itemsGood (height - (i + 1)) b (at + 12 * (i + 1))
+    good-next e k = here ∙ rw (e, k)
+
+    -- its mark does not pass, or the byte after it
+    pub good-mark : leb (byte b (at + 12 * i + 2)) 1 ≡ false → false ≡ itemsGood height b at
+    good-mark e = sym (here ∙ rw e)
+
+    pub good-zero : leb (byte b (at + 12 * i + 2)) 1 ≡ true → eqb (byte b (at + 12 * i + 3)) 0 ≡ false → false ≡ itemsGood height b at
+    good-zero e k = sym (here ∙ rw (e, k))
+
+  -- none is left
+  pub good-none : (height at i : ℕ) → height ≤ i → itemsGood height b at ≡ itemsGood (height - i) b (at + 12 * i) → true ≡ itemsGood height b at
+  unfolding itemsGood
+  good-none height at i h far = let e : height - i ≡ 0 = omega arith in sym (far ∙ rw e)
+
+  -- ── the items in use, then zeros ──────────────────────────────────────────────────────────
+
+  pub items-none : (left at : ℕ) → itemsFrom left 0 b at ≡ replicate left zeroItem
+  unfolding itemsFrom
+  items-none zero at = refl
+  items-none (suc left) at = ap (λ (l : List SavedItem). zeroItem ∷ l) (items-none left (at + 12))
+
+  -- the next item takes its place
+  set-item : (left i at : ℕ) → i < left → set (itemsFrom left i b at) i (itemAt b (at + 12 * i)) ≡ itemsFrom left (suc i) b at
+  unfolding itemsFrom
+  set-item zero i at h = absurd (omega arith)
+  set-item (suc left) zero at h =
+      let e : at + 12 * 0 ≡ at = omega arith in
+      ap (λ (n : ℕ). itemAt b n ∷ itemsFrom left 0 b (at + 12)) e
+  set-item (suc left) (suc i) at h =
+      let e : at + 12 * suc i ≡ at + 12 + 12 * i = omega arith in
+      ap (λ (n : ℕ). itemAt b at ∷ set (itemsFrom left i b (at + 12)) i (itemAt b n)) e
+      ∙ ap (λ (l : List SavedItem). itemAt b at ∷ l) (set-item left i (at + 12) (omega arith))
+
+  pub items-next : (items : List SavedItem) (item : SavedItem) (left i at : ℕ) → i < left → items ≡ itemsFrom left i b at → item ≡ itemAt b (at + 12 * i)
+      → set items i item ≡ itemsFrom left (i + 1) b at
+  items-next items item left i at h e k =
+      (λ j. set (e j) i (k j)) ∙ (set-item left i at h ∙ ap (λ (n : ℕ). itemsFrom left n b at) (sym (add-one i)))

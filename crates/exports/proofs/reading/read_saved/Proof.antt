@@ -1,0 +1,73 @@
+use mathlib.Core.Path.{_≡_, ap, sym, _∙_}
+use mathlib.Core.Bool.{true}
+use borrow.Author.Tests.{not-true, not-false}
+use Rattle.exports.specs.Held.{readOf}
+use Rattle.exports.proofs.Held.{too-high, bad-marks, bad-items, all-good}
+use borrow.Author.Needs.{needs}
+use Rattle.exports.proofs.reading.read_saved.Statement.{statement}
+use Rattle.exports.proofs.reading.read_saved.Tie as tie
+
+word-at-requires : tie.Need-word-at-requires
+word-at-requires c κs = search needs
+
+unsound-requires : tie.Need-unsound-requires
+unsound-requires c κs = search needs
+
+returns : tie.Need-returns
+returns c = c .unsound .ensures ∙ ap readOf (sym (too-high _ _ (c .before .before .word-at .ensures) (c .before .if1 .taken)))
+
+sub-marks-good : tie.Need-sub-marks-good
+sub-marks-good c = search needs
+
+part-marks-good-start : tie.Need-part-marks-good-start
+part-marks-good-start c = search needs
+
+part-marks-good-end : tie.Need-part-marks-good-end
+part-marks-good-end c = search needs
+
+marks-good-requires : tie.Need-marks-good-requires
+marks-good-requires c κs = search needs
+
+unsound-requires-2 : tie.Need-unsound-requires-2
+unsound-requires-2 c κs = search needs
+
+returns-2 : tie.Need-returns-2
+returns-2 c = c .unsound2 .ensures ∙ ap readOf (sym (bad-marks _ _ (c .before .before .before .before .before .word-at .ensures) (c .before .before .before .before .if1 .left) (sym (c .before .before .marks-good .ensures) ∙ not-true _ (c .before .if2 .taken))))
+
+cast-items-good : tie.Need-cast-items-good
+cast-items-good c = search needs
+
+items-good-requires : tie.Need-items-good-requires
+items-good-requires c κs = search needs
+
+unsound-requires-3 : tie.Need-unsound-requires-3
+unsound-requires-3 c κs = search needs
+
+returns-3 : tie.Need-returns-3
+returns-3 c = c .unsound3 .ensures ∙ ap readOf (sym (bad-items _ _ (c .before .before .before .before .before .before .before .word-at .ensures) (c .before .before .before .before .before .before .if1 .left) (sym (c .before .before .before .before .marks-good .ensures) ∙ not-false _ (c .before .before .before .if2 .left)) (sym (c .before .before .items-good .ensures) ∙ not-true _ (c .before .if3 .taken))))
+
+read-fields-requires : tie.Need-read-fields-requires
+read-fields-requires c κs = search needs
+
+returns-4 : tie.Need-returns-4
+returns-4 c = let h = all-good _ _ (c .before .before .before .before .before .before .before .word-at .ensures) (c .before .before .before .before .before .before .if1 .left) (sym (c .before .before .before .before .marks-good .ensures) ∙ not-false _ (c .before .before .before .if2 .left)) (sym (c .before .before .items-good .ensures) ∙ not-false _ (c .before .if3 .left)) in ap (λ r. record { ok = true; saved = r }) (c .read-fields .ensures) ∙ ap readOf (sym h)
+
+pub read-saved-spec : {M : Type 1} → statement M
+read-saved-spec =
+    tie.close
+    (tie.spec
+    word-at-requires
+    unsound-requires
+    returns
+    sub-marks-good
+    part-marks-good-start
+    part-marks-good-end
+    marks-good-requires
+    unsound-requires-2
+    returns-2
+    cast-items-good
+    items-good-requires
+    unsound-requires-3
+    returns-3
+    read-fields-requires
+    returns-4)

@@ -1,0 +1,61 @@
+-- Numbers as the code has them. A place of a pattern: a number below 65,536 is fixed, 65,536 is sought, any other is free. What is known of a variable:
+-- a number below 65,536 is its term's, any other says that it is not known. The quads: four numbers each, one quad after the other.
+use Prim.Native.Nat.{ℕ, zero, suc, _+_}
+use mathlib.Core.List.{List, [], _∷_}
+use mathlib.Core.Bool.{Bool, true, false, cond}
+use mathlib.Core.Option.{Option, none, some}
+use lib.Dec.{eqb, ltb}
+use lib.ListN.{getD}
+use Rattle.definitions.specs.Tree.{Name, var, const, Query}
+use Rattle.definitions.specs.Evaluate.{Quad, Bindings}
+use Rattle.query.specs.Seek.{Place, fixed, sought, free, Places}
+use Rattle.query.specs.declared.Four.{Four}
+
+abbrev pub soughtCode : ℕ
+soughtCode = 65536
+
+abbrev pub freeCode : ℕ
+freeCode = 65537
+
+-- ── places ──────────────────────────────────────────────────────────────────────────────────
+
+unfoldable pub placeAt : ℕ → Place
+placeAt n = cond (eqb n soughtCode) sought (cond (ltb n soughtCode) (fixed n) free)
+
+abbrev pub placesAt : Four → Places
+placesAt c = record { graph = placeAt (c .graph); subject = placeAt (c .subject); property = placeAt (c .property); object = placeAt (c .object) }
+
+-- ── quads ───────────────────────────────────────────────────────────────────────────────────
+
+abbrev pub quadOf : Four → Quad
+quadOf r = record { graph = r .graph; subject = r .subject; property = r .property; object = r .object }
+
+abbrev pub rowAt : List ℕ → ℕ → Quad
+rowAt f at = record { graph = getD f at 0; subject = getD f (at + 1) 0; property = getD f (at + 2) 0; object = getD f (at + 3) 0 }
+
+-- so many quads from an offset on
+unfoldable pub rowsFrom : (count : ℕ) → List ℕ → (at : ℕ) → List Quad
+rowsFrom zero f at = []
+rowsFrom (suc count) f at = rowAt f at ∷ rowsFrom count f (at + 4)
+
+-- ── what is known ───────────────────────────────────────────────────────────────────────────
+
+abbrev pub numberAt : ℕ → Option ℕ
+numberAt c = cond (ltb c soughtCode) (some c) none
+
+unfoldable pub bindingsOf : List ℕ → Bindings
+bindingsOf known = λ x. numberAt (getD known x freeCode)
+
+-- the code of a name, where the variable v is sought
+unfoldable pub codeOf : (known : List ℕ) → (v : ℕ) → Name → ℕ
+codeOf known v (var w) = cond (eqb w v) soughtCode (cond (ltb (getD known w freeCode) soughtCode) (getD known w freeCode) freeCode)
+codeOf known v (const c) = c
+
+-- the codes of a pattern's names
+abbrev pub codesOf : (known : List ℕ) → (v : ℕ) → Query → Four
+codesOf known v (Query.pattern g s p o) =
+    record { graph = codeOf known v g; subject = codeOf known v s; property = codeOf known v p; object = codeOf known v o }
+codesOf known v (Query.both q r) = record { graph = 0; subject = 0; property = 0; object = 0 }
+codesOf known v (Query.union q r) = record { graph = 0; subject = 0; property = 0; object = 0 }
+codesOf known v (Query.filter c) = record { graph = 0; subject = 0; property = 0; object = 0 }
+codesOf known v Query.empty = record { graph = 0; subject = 0; property = 0; object = 0 }

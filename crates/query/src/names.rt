@@ -1,0 +1,207 @@
+// Names in the script's bytes: their codes, and whether all those of an expression or a boolean are known.
+ghost use mathlib.Core.Path.{_≡_};
+ghost use lib.ListN.{length};
+ghost use Prim.Native.Nat.{_+_, _*_, _≤_, _<_};
+ghost use Rattle.definitions.specs.Bytes.{word};
+ghost use Rattle.definitions.specs.Tree.{var, Query};
+ghost use Rattle.definitions.specs.Reading.{fourOf, readName, readExpr, readCond};
+ghost use Rattle.laws.proofs.Walking.{Loads};
+ghost use Rattle.laws.proofs.Walked.{Walked};
+ghost use Rattle.laws.proofs.Sound.{NameBounded, QueryBounded};
+ghost use Rattle.query.specs.Seek.{exprKnown, condKnown};
+ghost use Rattle.query.specs.Codes.{bindingsOf, codeOf, codesOf};
+use crate::FREE;
+use crate::Four;
+use crate::NameRead;
+use crate::NamesRead;
+use crate::SOUGHT;
+use crate::Test;
+
+fn wide(x: u8) -> usize
+    ensures { λ r. ⌜ (r ≡ x) × (r < 256) ⌝ }
+{
+    x as usize
+}
+
+fn word_at(s: &[u8], at: usize) -> usize
+    requires { ⌜ at + 2 ≤ length (now s) ⌝ }
+    ensures { λ r. ⌜ (r ≡ word (now (s .entry)) at) × (r < 65536) ⌝ }
+{
+    let low = wide(s[at]);
+    let high = wide(s[at + 1]);
+    low + 256 * high
+}
+
+// What is known of a variable, as the code of its place; where v is the variable sought.
+fn variable_code(known: &[usize], v: usize, w: usize) -> usize
+    requires { ⌜ w < length (now known) ⌝ }
+    ensures { λ r. ⌜ r ≡ codeOf (now (known .entry)) v (var w) ⌝ }
+{
+    if w == v {
+        return SOUGHT;
+    }
+    let code = known[w];
+    if code < SOUGHT {
+        return code;
+    }
+    FREE
+}
+
+// The name at an offset.
+pub fn name_at(
+    script: &[u8],
+    terms: usize,
+    at: usize,
+    left: u8,
+    known: &[usize],
+    v: usize,
+) -> NameRead
+    requires { ⌜ Loads (readName (now script) terms left at) ⌝ }
+    requires { ⌜ length (now known) ≡ 16 ⌝ }
+    ensures { λ r. ⌜ Walked (λ n. (r .code ≡ codeOf (now (known .entry)) v n) × NameBounded 65536 n) (readName (now (script .entry)) terms left at) (r .next) ⌝ }
+{
+    let kind = script[at];
+    let first = at + 1;
+    if kind == 0x31 {
+        let w = wide(script[first]);
+        let code = variable_code(known, v, w);
+        let next = at + 2;
+        return NameRead { next, code };
+    }
+    let code = word_at(script, first);
+    let next = at + 3;
+    NameRead { next, code }
+}
+
+// A pattern's four names.
+pub fn names_at(
+    script: &[u8],
+    terms: usize,
+    at: usize,
+    left: u8,
+    known: &[usize],
+    v: usize,
+) -> NamesRead
+    requires { ⌜ Loads (fourOf Query.pattern (readName (now script) terms left) at) ⌝ }
+    requires { ⌜ length (now known) ≡ 16 ⌝ }
+    ensures { λ r. ⌜ Walked (λ q. (r .codes ≡ codesOf (now (known .entry)) v q) × QueryBounded 65536 q) (fourOf Query.pattern (readName (now (script .entry)) terms left) at) (r .next) ⌝ }
+{
+    let g = name_at(script, terms, at, left, known, v);
+    let s = name_at(script, terms, g.next, left, known, v);
+    let p = name_at(script, terms, s.next, left, known, v);
+    let o = name_at(script, terms, p.next, left, known, v);
+    let codes = Four {
+        graph: g.code,
+        subject: s.code,
+        property: p.code,
+        object: o.code,
+    };
+    NamesRead {
+        next: o.next,
+        codes,
+    }
+}
+
+// Whether all variables of an expression are known.
+pub fn known_expr(script: &[u8], terms: usize, at: usize, left: u8, known: &[usize]) -> Test
+    requires { ⌜ Loads (readExpr (now script) terms left at) ⌝ }
+    requires { ⌜ length (now known) ≡ 16 ⌝ }
+    ensures { λ r. ⌜ Walked (λ e. r .holds ≡ exprKnown (bindingsOf (now (known .entry))) e) (readExpr (now (script .entry)) terms left at) (r .next) ⌝ }
+{
+    let kind = script[at];
+    let first = at + 1;
+    let below = left - 1;
+    if kind < 0x41 {
+        let n = name_at(script, terms, at, left, known, 16);
+        return Test {
+            next: n.next,
+            holds: n.code < SOUGHT,
+        };
+    }
+    match kind {
+        0x41 => Test {
+            next: first,
+            holds: true,
+        },
+        0x42 => known_expr(script, terms, first, below, known),
+        0x43 => known_expr(script, terms, first, below, known),
+        0x44 => {
+            let a = known_expr(script, terms, first, below, known);
+            let b = known_expr(script, terms, a.next, below, known);
+            Test {
+                next: b.next,
+                holds: a.holds & b.holds,
+            }
+        }
+        _ => {
+            let a = known_expr(script, terms, first, below, known);
+            let b = known_expr(script, terms, a.next, below, known);
+            Test {
+                next: b.next,
+                holds: a.holds & b.holds,
+            }
+        }
+    }
+}
+
+// Whether all variables of a boolean are known.
+pub fn known_cond(script: &[u8], terms: usize, at: usize, left: u8, known: &[usize]) -> Test
+    requires { ⌜ Loads (readCond (now script) terms left at) ⌝ }
+    requires { ⌜ length (now known) ≡ 16 ⌝ }
+    ensures { λ r. ⌜ Walked (λ c. r .holds ≡ condKnown (bindingsOf (now (known .entry))) c) (readCond (now (script .entry)) terms left at) (r .next) ⌝ }
+{
+    let kind = script[at];
+    let first = at + 1;
+    let below = left - 1;
+    match kind {
+        0x50 => Test {
+            next: first,
+            holds: true,
+        },
+        0x51 => Test {
+            next: first,
+            holds: true,
+        },
+        0x52 => {
+            let a = known_cond(script, terms, first, below, known);
+            let b = known_cond(script, terms, a.next, below, known);
+            Test {
+                next: b.next,
+                holds: a.holds & b.holds,
+            }
+        }
+        0x53 => {
+            let a = known_cond(script, terms, first, below, known);
+            let b = known_cond(script, terms, a.next, below, known);
+            Test {
+                next: b.next,
+                holds: a.holds & b.holds,
+            }
+        }
+        0x54 => known_cond(script, terms, first, below, known),
+        0x55 => {
+            let text = at + 17;
+            known_expr(script, terms, text, below, known)
+        }
+        0x56 => {
+            let text = at + 9;
+            known_expr(script, terms, text, below, known)
+        }
+        0x57 => {
+            let a = known_expr(script, terms, first, below, known);
+            let b = known_expr(script, terms, a.next, below, known);
+            Test {
+                next: b.next,
+                holds: a.holds & b.holds,
+            }
+        }
+        _ => {
+            let a = known_expr(script, terms, first, below, known);
+            let b = known_expr(script, terms, a.next, below, known);
+            Test {
+                next: b.next,
+                holds: a.holds & b.holds,
+            }
+        }
+    }
+}

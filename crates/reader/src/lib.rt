@@ -1,0 +1,9 @@
+// Reading a script: whether its records are well formed (refusal 6), whether its variables are in scope (refusal 7), and
+// what stands at an offset.
+pub mod fields; // fields.rt: patterns and language ranges
+
+// What reading a record gives: the offset after the record and its children, or that it is malformed.
+pub enum Read {
+    Next(usize),
+    Malformed,
+}

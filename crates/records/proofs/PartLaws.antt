@@ -1,0 +1,19 @@
+-- Laws of parts of a slice, as the code hands them on.
+use Prim.Native.Nat.{ℕ, _+_, _-_, _<_, _≤_}
+use mathlib.Core.List.{List, [], _∷_}
+use mathlib.Core.Path.{_≡_, refl, sym, ap, _∙_}
+use native.Mathlib.Omega.{arith}
+use lib.ListN.{length, take, drop, length-take, length-drop}
+use lib.Seq.{take-all}
+use Rattle.definitions.specs.Bytes.{part}
+
+-- `&s[at..]`
+pub rest-part : (s : List ℕ) (at : ℕ) → part s at (length s - at) ≡ drop at s
+rest-part s at = take-all (length s - at) (drop at s) (omega (arith, length-drop at s))
+
+-- `&s[at..at + n]`
+pub some-part : (s : List ℕ) (at n : ℕ) → part s at (at + n - at) ≡ part s at n
+some-part s at n = let e : at + n - at ≡ n = omega arith in rw e
+
+pub part-length : (s : List ℕ) (at n : ℕ) → at + n ≤ length s → length (part s at n) ≡ n
+part-length s at n h = omega (arith, length-take n (drop at s), length-drop at s)

@@ -1,0 +1,124 @@
+-- Equal bytes are equal terms and equal properties.
+use Prim.Native.Nat.{ℕ, suc, _+_, _-_, _<_, _≤_}
+use mathlib.Core.Bool.{Bool, true, false}
+use mathlib.Core.List.{List, [], _∷_}
+use mathlib.Core.Option.{Option, none, some}
+use mathlib.Core.Path.{_≡_, refl, sym, ap, ap₂, _∙_, subst}
+use native.Mathlib.Numerals.{add-one}
+use native.Mathlib.Omega.{arith}
+use lib.Dec.{T}
+use lib.ListN.{length, take, drop}
+use lib.Seq.{drop-cons}
+use Rattle.definitions.specs.Limits.{textWidth, slotWidth}
+use Rattle.definitions.specs.Bytes.{byte, part, sameBytes, filled}
+use Rattle.definitions.specs.Terms.{Text, Term, Entry, datatype, termKind, bodyWidth, uriText, ofTermKind, bodyOf, recordOf, slotOf, readTerm, readEntry, sameTerm, sameProperty}
+use Rattle.laws.proofs.Tests.{isTrue, trueIs}
+use Rattle.laws.proofs.Options.{some-is}
+use Rattle.laws.proofs.Bytes.{AreBytes, part-bytes}
+use Rattle.laws.proofs.Same.{same-bytes, bytes-refl, same-term, term-refl}
+use Rattle.laws.proofs.Valid.{term-valid, uri-inv}
+use Rattle.laws.proofs.Slots.{body-inv, kind-inv, slot-one}
+use Rattle.laws.proofs.RecordsAt.{TermAt, term-inv, EntryAt, entry-inv}
+use Rattle.records.specs.declared.Read.the-variants.{Next}
+use Rattle.records.specs.Answers.{isSome, nextOf, widthOf, sameIn}
+use Rattle.records.proofs.OptionLaws.{is-some, next-some, next-got}
+use Rattle.records.proofs.PartLaws.{some-part, part-length}
+
+-- a test that holds where another does
+pub test-is : (r b : Bool) → (r ≡ true → T b) → (T b → r ≡ true) → r ≡ b
+test-is true b f g = sym (isTrue b (f refl))
+test-is false true f g = g tt
+test-is false false f g = refl
+
+-- what `check::same` ensures of its result
+abbrev pub Compared : List ℕ → List ℕ → Bool → Type 0
+Compared a b r = (r ≡ true → a ≡ b) × (a ≡ b → r ≡ true)
+
+-- ── a good term record ──────────────────────────────────────────────────────────────────────
+
+module _ (s : List ℕ) (at : ℕ) (g : isSome (readTerm s at) ≡ true) where
+  found : (r : Term × ℕ) × (readTerm s at ≡ some r)
+  found = is-some (readTerm s at) g
+
+  holds : TermAt s at (found .0 .0) (found .0 .1)
+  holds = term-inv s at (found .0 .0) (found .0 .1) (found .1)
+
+  pub term-inside : at < length s
+  term-inside = omega (arith, holds .ends, holds .fits)
+
+  module _ {w : ℕ} (e : w ≡ widthOf (ofTermKind (byte s at))) where
+    width-is : w ≡ bodyWidth (holds .datatype)
+    unfolding widthOf
+    width-is = e ∙ ap widthOf (holds .kind)
+
+    pub term-ends : Next (at + 1 + w) ≡ nextOf (readTerm s at)
+    unfolding nextOf
+    term-ends = rw (found .1) (ap Next (omega (arith, holds .ends, width-is)))
+
+    pub term-fits : at + 1 + w ≤ length s
+    term-fits = omega (arith, holds .ends, holds .fits, width-is)
+
+  pub term-next : {n : ℕ} → Next n ≡ nextOf (readTerm s at) → (at < n) × (n ≤ length s)
+  term-next {n} e =
+      let r = next-got (readTerm s at) (sym e) in
+      let t = term-inv s at (r .0) n (r .1) in
+      (omega (arith, t .ends), t .fits)
+
+-- ── equal terms have equal bytes ────────────────────────────────────────────────────────────
+
+-- a record, read and written
+record-bytes : (s : List ℕ) → AreBytes s → (at : ℕ) (t : Term) (n : ℕ) → readTerm s at ≡ some (t, n) → part s at (n - at) ≡ recordOf t
+record-bytes s h at t n e =
+    let r = term-inv s at t n e in
+    let w = bodyWidth (r .datatype) in
+    let long : n - at ≡ suc w = omega (arith, r .ends) in
+    let b = body-inv (part s (at + 1) w) t (r .datatype) (part-length s (at + 1) w (omega (arith, r .ends, r .fits))) (part-bytes s (at + 1) w h) (r .body) in
+    let first : byte s at ≡ termKind (datatype t) = sym (ap termKind (b .kind) ∙ kind-inv (byte s at) (r .datatype) (r .kind)) in
+    let body : part s (suc at) w ≡ bodyOf t = ap (λ (k : ℕ). part s k w) (sym (add-one at)) ∙ sym (b .bytes) in
+    rw (long, drop-cons s at 0 (omega (arith, r .ends, r .fits))) (ap₂ _∷_ first body)
+
+pub same-terms : (s : List ℕ) → AreBytes s → (a b m n : ℕ) {r : Bool} → Next m ≡ nextOf (readTerm s a) → Next n ≡ nextOf (readTerm s b)
+    → Compared (part s a (m - a)) (part s b (n - b)) r → r ≡ sameIn sameTerm (readTerm s a) (readTerm s b)
+unfolding sameIn slotOf
+same-terms s h a b m n {r} e f c =
+    let x = next-got (readTerm s a) (sym e) in
+    let y = next-got (readTerm s b) (sym f) in
+    let p = record-bytes s h a (x .0) m (x .1) in
+    let q = record-bytes s h b (y .0) n (y .1) in
+    let one : recordOf (x .0) ≡ recordOf (y .0) → x .0 ≡ y .0 =
+    λ e. slot-one (x .0) (y .0) (term-valid s a (x .0) m (x .1)) (term-valid s b (y .0) n (y .1)) (ap (filled slotWidth) e) in
+    rw (x .1, y .1)
+    (test-is r (sameTerm (x .0) (y .0)) (λ t. rw (one (sym p ∙ c .0 t ∙ q)) (term-refl (y .0)))
+    (λ t. c .1 (p ∙ ap recordOf (same-term (x .0) (y .0) t) ∙ sym q)))
+
+-- ── a good schema record, and equal properties ──────────────────────────────────────────────
+
+module _ (s : List ℕ) (at : ℕ) (g : isSome (readEntry s at) ≡ true) where
+  pub entry : (r : Entry × ℕ) × (readEntry s at ≡ some r)
+  entry = is-some (readEntry s at) g
+
+  pub entry-holds : EntryAt s at (entry .0 .0) (entry .0 .1)
+  entry-holds = entry-inv s at (entry .0 .0) (entry .0 .1) (entry .1)
+
+  pub entry-inside : at + 42 ≤ length s
+  entry-inside = omega (arith, entry-holds .ends, entry-holds .fits)
+
+  pub entry-ends : Next (at + 42) ≡ nextOf (readEntry s at)
+  unfolding nextOf
+  entry-ends = rw (entry .1) (ap Next (sym (entry-holds .ends)))
+
+-- two URI fields
+pub same-uris : (a b : List ℕ) (u v : Text) {r : Bool} → uriText a ≡ some u → uriText b ≡ some v → Compared a b r → r ≡ sameBytes u v
+same-uris a b u v {r} e f c =
+    test-is r (sameBytes u v) (λ t. rw (some-is (sym e ∙ ap uriText (c .0 t) ∙ f)) (bytes-refl v))
+    (λ t. c .1 (sym (uri-inv a u e .0 .whole) ∙ ap (filled textWidth) (same-bytes u v t) ∙ uri-inv b v f .0 .whole))
+
+pub same-properties : (s : List ℕ) (a b : ℕ) {r : Bool} → isSome (readEntry s a) ≡ true → isSome (readEntry s b) ≡ true
+    → Compared (part s (a + 1) (a + 1 + textWidth - (a + 1))) (part s (b + 1) (b + 1 + textWidth - (b + 1))) r
+    → r ≡ sameIn sameProperty (readEntry s a) (readEntry s b)
+unfolding sameIn
+same-properties s a b {r} g h c =
+    let x = entry s a g in
+    let y = entry s b h in
+    let d : Compared (part s (a + 1) textWidth) (part s (b + 1) textWidth) r = rw (some-part s (a + 1) textWidth, some-part s (b + 1) textWidth) at c in
+    rw (x .1, y .1) (same-uris (part s (a + 1) textWidth) (part s (b + 1) textWidth) (x .0 .0 .property) (y .0 .0 .property) (entry-holds s a g .property) (entry-holds s b h .property) d)

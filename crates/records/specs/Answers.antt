@@ -1,0 +1,69 @@
+-- What the code answers of what the definitions give.
+use Prim.Native.Nat.{ℕ, _+_}
+use mathlib.Core.Bool.{Bool, true, false, _||_}
+use mathlib.Core.List.{List}
+use mathlib.Core.Option.{Option, none, some}
+use lib.Dec.{eqb, leb}
+use lib.ListN.{length}
+use Rattle.definitions.specs.Bytes.{Got, onward}
+use Rattle.definitions.specs.Lists.{some?, distinct}
+use Rattle.definitions.specs.Types.{Datatype}
+use Rattle.definitions.specs.Terms.{Term, between, bodyWidth, termOfBody, bodyAt}
+use Rattle.records.specs.declared.Counted.{Counted}
+use Rattle.records.specs.declared.Counted.the-variants as Counts
+use Rattle.records.specs.declared.Read.{Read}
+use Rattle.records.specs.declared.Read.the-variants.{Next, Malformed}
+
+-- whether there is something
+unfoldable pub isSome : {A : Type 0} → Option A → Bool
+isSome none = false
+isSome (some a) = true
+
+-- a byte from low to high, or one other
+unfoldable pub rangeOr : (low high other : ℕ) → ℕ → Bool
+rangeOr low high other b = between low high b || eqb b other
+
+-- so many bytes follow from an offset on
+unfoldable pub hasRoom : List ℕ → (at width : ℕ) → Bool
+hasRoom s at width = leb (at + width) (length s)
+
+-- the offset after what was read
+unfoldable pub nextOf : {A : Type 0} → Got A → Read
+nextOf none = Malformed
+nextOf (some r) = Next (r .1)
+
+-- ── bodies of a datatype, none for a kind that is no term's ─────────────────────────────────
+
+unfoldable pub widthOf : Option Datatype → ℕ
+widthOf none = 0
+widthOf (some d) = bodyWidth d
+
+unfoldable pub bodyTerm : Option Datatype → List ℕ → Option Term
+bodyTerm o b = onward o (λ d. termOfBody d b)
+
+unfoldable pub bodyFrom : Option Datatype → List ℕ → ℕ → Got Term
+bodyFrom o s at = onward o (λ d. bodyAt d s at)
+
+-- ── records one after the other, none where one is malformed ────────────────────────────────
+
+unfoldable pub countOf : {A : Type 0} → Option (List A) → Counted
+countOf none = Counts.Malformed
+countOf (some xs) = Counts.Count (length xs)
+
+module _ {A : Type 0} (same : A → A → Bool) where
+  -- two that were read are the same
+  unfoldable pub sameIn : Got A → Got A → Bool
+  sameIn none y = false
+  sameIn (some x) none = false
+  sameIn (some x) (some y) = same (x .0) (y .0)
+
+  -- one that was read is among others
+  unfoldable pub againIn : Got A → Option (List A) → Bool
+  againIn none xs = false
+  againIn (some x) none = false
+  againIn (some x) (some xs) = some? (same (x .0)) xs
+
+  -- no two are the same
+  unfoldable pub distinctIn : Option (List A) → Bool
+  distinctIn none = false
+  distinctIn (some xs) = distinct same xs

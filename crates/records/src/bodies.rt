@@ -1,0 +1,54 @@
+// Bodies of terms, by the kind of their record.
+use crate::fields::tag_ok;
+use crate::fields::text_ok;
+use crate::fields::uri_ok;
+use crate::numbers::long_at;
+use crate::numbers::within;
+use definitions::NUMBER_WIDTH;
+use definitions::TAG_WIDTH;
+use definitions::TEXT_WIDTH;
+ghost use mathlib.Core.Path.{_≡_};
+ghost use lib.ListN.{length};
+ghost use Rattle.definitions.specs.Terms.{ofTermKind};
+ghost use Rattle.records.specs.Answers.{isSome, widthOf, bodyTerm};
+
+// Limits of integers, of decimals in millionths, and of dateTimes in seconds before and after 1970.
+const INTEGER_LIMIT: u64 = 1000000000000;
+
+const DECIMAL_LIMIT: u64 = 1000000000000000000;
+
+const SECONDS_BEFORE: u64 = 62135596800;
+
+const SECONDS_AFTER: u64 = 253402300799;
+
+// The length of a body, 0 for a kind that is no term's.
+pub fn body_width(kind: u8) -> usize
+    ensures { λ r. ⌜ r ≡ widthOf (ofTermKind kind) ⌝ }
+{
+    match kind {
+        0x11 => TEXT_WIDTH,
+        0x12 => TAG_WIDTH + TEXT_WIDTH,
+        0x13..=0x15 => NUMBER_WIDTH,
+        _ => 0,
+    }
+}
+
+// Whether a body of its kind's length says a term.
+pub fn body_ok(kind: u8, body: &[u8]) -> bool
+    requires { ⌜ length (now body) ≡ widthOf (ofTermKind kind) ⌝ }
+    ensures { λ r. ⌜ r ≡ isSome (bodyTerm (ofTermKind kind) (now (body .entry))) ⌝ }
+{
+    match kind {
+        0x11 => uri_ok(body),
+        0x12 => {
+            if !tag_ok(&body[..TAG_WIDTH]) {
+                return false;
+            }
+            text_ok(&body[TAG_WIDTH..])
+        }
+        0x13 => within(long_at(body, 0), INTEGER_LIMIT, INTEGER_LIMIT),
+        0x14 => within(long_at(body, 0), DECIMAL_LIMIT, DECIMAL_LIMIT),
+        0x15 => within(long_at(body, 0), SECONDS_BEFORE, SECONDS_AFTER),
+        _ => false,
+    }
+}

@@ -1,0 +1,156 @@
+// Records one after the other: how many there are, and whether one is there twice.
+use crate::Counted;
+use crate::Read;
+use crate::bodies::body_width;
+use crate::reading::read_entry;
+use crate::reading::read_term;
+use crate::reading::read_triple;
+ghost use mathlib.Core.Path.{_≡_};
+ghost use mathlib.Core.Bool.{true};
+ghost use Rattle.definitions.specs.Terms.{sameTerm, sameProperty, readTerm, readEntry, readTerms, readSchema, readPage};
+ghost use Rattle.laws.proofs.RecordsAt.{recordsAt};
+ghost use Rattle.records.specs.Answers.{isSome, nextOf, countOf, sameIn, againIn, distinctIn};
+
+pub fn count_terms(s: &[u8]) -> Counted
+    ensures { λ r. ⌜ r ≡ countOf (readTerms (now (s .entry))) ⌝ }
+{
+    let mut n = 0;
+    let mut at = 0;
+    while at < s.len() {
+        let Read::Next(next) = read_term(s, at) else {
+            return Counted::Malformed;
+        };
+        at = next;
+        n += 1;
+    }
+    Counted::Count(n)
+}
+
+pub fn count_entries(s: &[u8]) -> Counted
+    ensures { λ r. ⌜ r ≡ countOf (readSchema (now (s .entry))) ⌝ }
+{
+    let mut n = 0;
+    let mut at = 0;
+    while at < s.len() {
+        let Read::Next(next) = read_entry(s, at) else {
+            return Counted::Malformed;
+        };
+        at = next;
+        n += 1;
+    }
+    Counted::Count(n)
+}
+
+pub fn count_triples(s: &[u8]) -> Counted
+    ensures { λ r. ⌜ r ≡ countOf (readPage (now (s .entry))) ⌝ }
+{
+    let mut n = 0;
+    let mut at = 0;
+    while at < s.len() {
+        let Read::Next(next) = read_triple(s, at) else {
+            return Counted::Malformed;
+        };
+        at = next;
+        n += 1;
+    }
+    Counted::Count(n)
+}
+
+// Where a good term record ends.
+pub fn term_end(s: &[u8], at: usize) -> usize
+    requires { ⌜ isSome (readTerm (now s) at) ≡ true ⌝ }
+    ensures { λ r. ⌜ Read.Next r ≡ nextOf (readTerm (now (s .entry)) at) ⌝ }
+{
+    let body = at + 1;
+    body + body_width(s[at])
+}
+
+fn same_term(s: &[u8], a: usize, b: usize) -> bool
+    requires { ⌜ isSome (readTerm (now s) a) ≡ true ⌝ }
+    requires { ⌜ isSome (readTerm (now s) b) ≡ true ⌝ }
+    ensures { λ r. ⌜ r ≡ sameIn sameTerm (readTerm (now (s .entry)) a) (readTerm (now (s .entry)) b) ⌝ }
+{
+    let a_end = term_end(s, a);
+    let b_end = term_end(s, b);
+    check::same(&s[a..a_end], &s[b..b_end])
+}
+
+// Whether a term is listed again from an offset on.
+fn term_again(s: &[u8], at: usize, from: usize) -> bool
+    requires { ⌜ isSome (readTerm (now s) at) ≡ true ⌝ }
+    requires { ⌜ isSome (recordsAt readTerm (now s) from) ≡ true ⌝ }
+    ensures { λ r. ⌜ r ≡ againIn sameTerm (readTerm (now (s .entry)) at) (recordsAt readTerm (now (s .entry)) from) ⌝ }
+{
+    let mut i = from;
+    while i < s.len() {
+        if same_term(s, at, i) {
+            return true;
+        }
+        i = term_end(s, i);
+    }
+    false
+}
+
+// Whether good term records are all different.
+pub fn terms_distinct(s: &[u8]) -> bool
+    ensures { λ r. ⌜ r ≡ distinctIn sameTerm (readTerms (now (s .entry))) ⌝ }
+{
+    let Counted::Count(_) = count_terms(s) else {
+        return false;
+    };
+    let mut at = 0;
+    while at < s.len() {
+        let next = term_end(s, at);
+        if term_again(s, at, next) {
+            return false;
+        }
+        at = next;
+    }
+    true
+}
+
+fn same_property(s: &[u8], a: usize, b: usize) -> bool
+    requires { ⌜ isSome (readEntry (now s) a) ≡ true ⌝ }
+    requires { ⌜ isSome (readEntry (now s) b) ≡ true ⌝ }
+    ensures { λ r. ⌜ r ≡ sameIn sameProperty (readEntry (now (s .entry)) a) (readEntry (now (s .entry)) b) ⌝ }
+{
+    let a_field = a + 1;
+    let a_end = a_field + 40;
+    let b_field = b + 1;
+    let b_end = b_field + 40;
+    check::same(&s[a_field..a_end], &s[b_field..b_end])
+}
+
+// Whether a property is listed again from an offset on.
+fn property_again(s: &[u8], at: usize, from: usize) -> bool
+    requires { ⌜ isSome (readEntry (now s) at) ≡ true ⌝ }
+    requires { ⌜ isSome (recordsAt readEntry (now s) from) ≡ true ⌝ }
+    ensures { λ r. ⌜ r ≡ againIn sameProperty (readEntry (now (s .entry)) at) (recordsAt readEntry (now (s .entry)) from) ⌝ }
+{
+    let mut i = from;
+    while i < s.len() {
+        if same_property(s, at, i) {
+            return true;
+        }
+        i += 42;
+    }
+    false
+}
+
+// Whether good schema records are of different properties.
+pub fn properties_distinct(s: &[u8]) -> bool
+    ensures { λ r. ⌜ r ≡ distinctIn sameProperty (readSchema (now (s .entry))) ⌝ }
+{
+    let Counted::Count(_) = count_entries(s) else {
+        return false;
+    };
+    let mut at = 0;
+    while at < s.len() {
+        let next = at + 42;
+        if property_again(s, at, next) {
+            return false;
+        }
+        at = next;
+    }
+    true
+}

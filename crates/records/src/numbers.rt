@@ -1,0 +1,72 @@
+// Numbers in bytes: little endian, signed ones in two's complement.
+ghost use mathlib.Core.Path.{_≡_};
+ghost use Prim.Native.Nat.{_+_, _<_, _≤_, _^_};
+ghost use lib.ListN.{length};
+ghost use Rattle.definitions.specs.Bytes.{byte, part, word, little, signed, allZero};
+ghost use Rattle.definitions.specs.Terms.{withinLimits};
+
+fn wide(s: &[u8], at: usize) -> u64
+    requires { ⌜ at < length (now s) ⌝ }
+    ensures { λ r. ⌜ (r ≡ byte (now (s .entry)) at) × (r < 256) ⌝ }
+{
+    s[at] as u64
+}
+
+// The 2-byte number at an offset.
+pub fn word_at(s: &[u8], at: usize) -> usize
+    requires { ⌜ at + 1 < length (now s) ⌝ }
+    ensures { λ r. ⌜ (r ≡ word (now (s .entry)) at) × (r < 65536) ⌝ }
+{
+    let low = wide(s, at) as usize;
+    let high = wide(s, at + 1) as usize;
+    low + 256 * high
+}
+
+// The 8-byte number at an offset.
+pub fn long_at(s: &[u8], at: usize) -> u64
+    requires { ⌜ at + 8 ≤ length (now s) ⌝ }
+    ensures { λ r. ⌜ r ≡ little (part (now (s .entry)) at 8) ⌝ }
+{
+    wide(s, at)
+        + 256 * wide(s, at + 1)
+        + 65536 * wide(s, at + 2)
+        + 16777216 * wide(s, at + 3)
+        + 4294967296 * wide(s, at + 4)
+        + 1099511627776 * wide(s, at + 5)
+        + 281474976710656 * wide(s, at + 6)
+        + 72057594037927936 * wide(s, at + 7)
+}
+
+// The number that v is in two's complement.
+pub fn to_signed(v: u64) -> i64
+    ensures { λ r. ⌜ r ≡ signed v ⌝ }
+{
+    if v < 9223372036854775808 {
+        return v as i64;
+    }
+    -1 - ((18446744073709551615 - v) as i64)
+}
+
+// Whether the number that v is in two's complement is from -low to high.
+pub fn within(v: u64, low: u64, high: u64) -> bool
+    requires { ⌜ 0 < low ⌝ }
+    ensures { λ r. ⌜ r ≡ withinLimits low high (signed v) ⌝ }
+{
+    if v < 9223372036854775808 {
+        return v <= high;
+    }
+    18446744073709551615 - v < low
+}
+
+pub fn is_zero(s: &[u8]) -> bool
+    ensures { λ r. ⌜ r ≡ allZero (now (s .entry)) ⌝ }
+{
+    let mut i = 0;
+    while i < s.len() {
+        if s[i] != 0 {
+            return false;
+        }
+        i += 1;
+    }
+    true
+}

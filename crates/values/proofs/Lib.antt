@@ -1,0 +1,7 @@
+mod Signed
+mod Views
+mod Arithmetic
+mod Fields
+mod Orders
+mod Compare
+mod Ranks

@@ -1,0 +1,72 @@
+-- `values::order::before` meets its contract, by the laws of Fields and Orders.
+use native.Mathlib.Omega.{arith}
+use Rattle.definitions.specs.Terms.{textByte}
+use Rattle.values.proofs.Fields.{byte-passes}
+use Rattle.values.proofs.Orders.{order-start, order-end, order-first, order-other, order-more, order-out}
+use Prim.Native.Nat.{_-_}
+use lib.ListN.{length}
+use Rattle.definitions.specs.Values.{rankIn}
+use Rattle.values.proofs.Orders.{Ordered}
+use Rattle.values.proofs.order.before.Statement.{statement}
+use Rattle.values.proofs.order.before.Tie as tie
+
+abbrev Inv-loop : tie.InvT-loop
+Inv-loop a b table i₀ i = Ordered (rankIn table) a b i
+
+abbrev μ-loop : tie.MeasureT-loop
+μ-loop a b table i₀ i = length a - i
+
+loop-holds : tie.Need-loop-holds Inv-loop μ-loop
+loop-holds c = order-start _ _ _ (c .before .before .pre .1 .0) (c .before .before .pre .1 .1)
+
+shared-slice-read-x : tie.Need-shared-slice-read-x Inv-loop μ-loop
+shared-slice-read-x c = omega arith
+
+shared-slice-read-y : tie.Need-shared-slice-read-y Inv-loop μ-loop
+shared-slice-read-y c = omega arith
+
+returns : tie.Need-returns Inv-loop μ-loop
+returns c = order-end _ _ _ _ (c .before .before .before .before .loop .inv) (omega arith) (omega arith) (c .if1 .taken)
+
+returns-2 : tie.Need-returns-2 Inv-loop μ-loop
+returns-2 c = order-first _ _ _ _ (c .before .before .before .before .before .loop .inv) (omega arith) (omega arith) (c .before .if1 .left) (c .if2 .taken)
+
+rank-requires : tie.Need-rank-requires Inv-loop μ-loop
+rank-requires c κs = byte-passes (c .before .before .before .before .before .before .before .before .args .a .now) (c .before .before .before .before .before .loop .i) textByte (omega arith) (c .if2 .left) (c .before .before .before .before .before .loop .inv .left)
+
+rank-requires-2 : tie.Need-rank-requires-2 Inv-loop μ-loop
+rank-requires-2 c κs = byte-passes (c .before .before .before .before .before .before .before .before .before .args .b .now) (c .before .before .before .before .before .before .loop .i) textByte (omega arith) (c .before .before .if1 .left) (c .before .before .before .before .before .before .loop .inv .right)
+
+returns-3 : tie.Need-returns-3 Inv-loop μ-loop
+returns-3 c = order-other _ _ _ _ (c .before .before .before .before .before .before .before .before .loop .inv) (omega arith) (omega arith) (c .before .before .before .before .if1 .left) (c .before .before .before .if2 .left) _ _ (c .before .before .rank .ensures) (c .before .rank2 .ensures) (c .if3 .taken)
+
+add-i : tie.Need-add-i Inv-loop μ-loop
+add-i c = omega arith
+
+loop-less : tie.Need-loop-less Inv-loop μ-loop
+loop-less c = omega arith
+
+loop-again : tie.Need-loop-again Inv-loop μ-loop
+loop-again c = order-more _ _ _ _ (c .before .before .before .before .before .before .before .before .loop .inv) (omega arith) (omega arith) (c .before .before .before .before .if1 .left) (c .before .before .before .if2 .left) _ _ (c .before .before .rank .ensures) (c .before .rank2 .ensures) (c .if3 .left)
+
+returns-4 : tie.Need-returns-4 Inv-loop μ-loop
+returns-4 c = order-out _ _ _ _ (c .before .loop .inv) (omega arith) (omega arith)
+
+pub before-spec : {M : Type 1} → statement M
+before-spec =
+    tie.close
+    (tie.spec
+    Inv-loop
+    μ-loop
+    loop-holds
+    shared-slice-read-x
+    shared-slice-read-y
+    returns
+    returns-2
+    rank-requires
+    rank-requires-2
+    returns-3
+    add-i
+    loop-less
+    loop-again
+    returns-4)

@@ -1,0 +1,412 @@
+// Document 01, "Values": what expressions give, and the tests of filters on them.
+ghost use mathlib.Core.Path.{_≡_};
+ghost use lib.Dec.{T};
+ghost use mathlib.Core.Bool.{_&&_};
+ghost use Rattle.definitions.specs.Terms.{isDecimal};
+ghost use Rattle.definitions.specs.Values.{sum, difference, absolute, rankIn, before, stringBefore, equalPair, lessPair};
+ghost use Rattle.definitions.specs.Bytes.{sameBytes, unfilled};
+ghost use Rattle.values.specs.Meaning.{meaning, where?, stringIn, Good, Gives, Tells, compared};
+ghost use Rattle.values.specs.Numbers.{held, inKind, commonKind, countedIn};
+
+mod number;
+mod order;
+
+// Document 01's codes of the datatypes.
+pub const ANY_URI: u8 = 1;
+
+pub const STRING: u8 = 2;
+
+pub const DECIMAL: u8 = 3;
+
+pub const DATE_TIME: u8 = 4;
+
+pub const INTEGER: u8 = 5;
+
+// What an expression gives: a value of a kind, or "no value" of that kind where present is false. A URI has a text, a
+// string tag and text, each filled with zeros; a decimal counts millionths, a dateTime seconds.
+pub struct Value {
+    pub kind: u8,
+    pub present: bool,
+    pub number: i64,
+    pub tag: [u8; 8],
+    pub text: [u8; 40],
+}
+
+// A number of a kind where present, else no value of that kind.
+fn numeric(kind: u8, present: bool, n: i64) -> Value
+    ensures { λ r. ⌜ r ≡ held kind (where? present n) ⌝ }
+{
+    let number = if present { n } else { 0 };
+    Value {
+        kind,
+        present,
+        number,
+        tag: [0; 8],
+        text: [0; 40],
+    }
+}
+
+// A number of a kind, or no value where it lies outside the kind's limits.
+fn limited(kind: u8, n: i64) -> Value
+    ensures { λ r. ⌜ r ≡ held kind (where? (inKind kind n) n) ⌝ }
+{
+    if kind == INTEGER {
+        return numeric(kind, number::within(n, -1000000000000, 1000000000000), n);
+    }
+    numeric(
+        kind,
+        number::within(n, -1000000000000000000, 1000000000000000000),
+        n,
+    )
+}
+
+// Integer with integer gives an integer, else a decimal.
+fn common_kind(a: u8, b: u8) -> u8
+    ensures { λ r. ⌜ r ≡ commonKind a b ⌝ }
+{
+    if a == INTEGER {
+        return if b == INTEGER { INTEGER } else { DECIMAL };
+    }
+    DECIMAL
+}
+
+// A value's number as it counts in a result's kind: an integer in millionths where that is a decimal.
+fn counted(v: Value, kind: u8) -> i64
+    requires { ⌜ Good v ⌝ }
+    ensures { λ r. ⌜ r ≡ countedIn (v .kind) kind (v .number) ⌝ }
+    ensures { λ r. ⌜ T (isDecimal r) ⌝ }
+{
+    let n = v.number;
+    if v.kind == INTEGER {
+        if kind == DECIMAL {
+            return number::scaled(n);
+        }
+    }
+    n
+}
+
+pub fn plus(a: Value, b: Value) -> Value
+    requires { ⌜ Good a ⌝ }
+    requires { ⌜ Good b ⌝ }
+    ensures { λ r. ⌜ Gives r (sum (meaning a) (meaning b)) ⌝ }
+{
+    let kind = common_kind(a.kind, b.kind);
+    let present = a.present & b.present;
+    if !present {
+        return numeric(kind, false, 0);
+    }
+    let x = counted(a, kind);
+    let y = counted(b, kind);
+    limited(kind, number::sum(x, y))
+}
+
+pub fn minus(a: Value, b: Value) -> Value
+    requires { ⌜ Good a ⌝ }
+    requires { ⌜ Good b ⌝ }
+    ensures { λ r. ⌜ Gives r (difference (meaning a) (meaning b)) ⌝ }
+{
+    let kind = common_kind(a.kind, b.kind);
+    let present = a.present & b.present;
+    if !present {
+        return numeric(kind, false, 0);
+    }
+    let x = counted(a, kind);
+    let y = counted(b, kind);
+    limited(kind, number::difference(x, y))
+}
+
+pub fn abs(a: Value) -> Value
+    requires { ⌜ Good a ⌝ }
+    ensures { λ r. ⌜ Gives r (absolute (meaning a)) ⌝ }
+{
+    let kind = common_kind(a.kind, a.kind);
+    let present = a.present;
+    let n = a.number;
+    numeric(kind, present, number::distance(n))
+}
+
+// Document 01's rank table: blank, digits, letters as A a B b to Z z, then the others by byte.
+const RANKS: [u8; 95] = [
+    0,
+    63,
+    64,
+    65,
+    66,
+    67,
+    68,
+    69,
+    70,
+    71,
+    72,
+    73,
+    74,
+    75,
+    76,
+    77,
+    1,
+    2,
+    3,
+    4,
+    5,
+    6,
+    7,
+    8,
+    9,
+    10,
+    78,
+    79,
+    80,
+    81,
+    82,
+    83,
+    84,
+    11,
+    13,
+    15,
+    17,
+    19,
+    21,
+    23,
+    25,
+    27,
+    29,
+    31,
+    33,
+    35,
+    37,
+    39,
+    41,
+    43,
+    45,
+    47,
+    49,
+    51,
+    53,
+    55,
+    57,
+    59,
+    61,
+    85,
+    86,
+    87,
+    88,
+    89,
+    90,
+    12,
+    14,
+    16,
+    18,
+    20,
+    22,
+    24,
+    26,
+    28,
+    30,
+    32,
+    34,
+    36,
+    38,
+    40,
+    42,
+    44,
+    46,
+    48,
+    50,
+    52,
+    54,
+    56,
+    58,
+    60,
+    62,
+    91,
+    92,
+    93,
+    94,
+];
+
+// The table by which texts go by bytes.
+const BYTES: [u8; 95] = [
+    0,
+    1,
+    2,
+    3,
+    4,
+    5,
+    6,
+    7,
+    8,
+    9,
+    10,
+    11,
+    12,
+    13,
+    14,
+    15,
+    16,
+    17,
+    18,
+    19,
+    20,
+    21,
+    22,
+    23,
+    24,
+    25,
+    26,
+    27,
+    28,
+    29,
+    30,
+    31,
+    32,
+    33,
+    34,
+    35,
+    36,
+    37,
+    38,
+    39,
+    40,
+    41,
+    42,
+    43,
+    44,
+    45,
+    46,
+    47,
+    48,
+    49,
+    50,
+    51,
+    52,
+    53,
+    54,
+    55,
+    56,
+    57,
+    58,
+    59,
+    60,
+    61,
+    62,
+    63,
+    64,
+    65,
+    66,
+    67,
+    68,
+    69,
+    70,
+    71,
+    72,
+    73,
+    74,
+    75,
+    76,
+    77,
+    78,
+    79,
+    80,
+    81,
+    82,
+    83,
+    84,
+    85,
+    86,
+    87,
+    88,
+    89,
+    90,
+    91,
+    92,
+    93,
+    94,
+];
+
+// Whether two strings have the same tag and text.
+fn same_strings(a: Value, b: Value) -> bool
+    requires { ⌜ Good a ⌝ }
+    requires { ⌜ Good b ⌝ }
+    ensures { λ r. ⌜ r ≡ (sameBytes (unfilled (a .tag)) (unfilled (b .tag)) && sameBytes (unfilled (a .text)) (unfilled (b .text))) ⌝ }
+{
+    let tag = a.tag;
+    let other_tag = b.tag;
+    let tags = order::same(&tag, &other_tag);
+    let texts = same_texts(a, b);
+    tags & texts
+}
+
+fn same_texts(a: Value, b: Value) -> bool
+    requires { ⌜ Good a ⌝ }
+    requires { ⌜ Good b ⌝ }
+    ensures { λ r. ⌜ r ≡ sameBytes (unfilled (a .text)) (unfilled (b .text)) ⌝ }
+{
+    let text = a.text;
+    let other_text = b.text;
+    order::same(&text, &other_text)
+}
+
+// Whether one text comes before another under a rank table.
+fn text_before(a: Value, b: Value, table: [u8; 95]) -> bool
+    requires { ⌜ Good a ⌝ }
+    requires { ⌜ Good b ⌝ }
+    ensures { λ r. ⌜ r ≡ before (rankIn table) (unfilled (a .text)) (unfilled (b .text)) ⌝ }
+{
+    let text = a.text;
+    let other_text = b.text;
+    order::before(&text, &other_text, &table)
+}
+
+fn tag_before(a: Value, b: Value, table: [u8; 95]) -> bool
+    requires { ⌜ Good a ⌝ }
+    requires { ⌜ Good b ⌝ }
+    ensures { λ r. ⌜ r ≡ before (rankIn table) (unfilled (a .tag)) (unfilled (b .tag)) ⌝ }
+{
+    let tag = a.tag;
+    let other_tag = b.tag;
+    order::before(&tag, &other_tag, &table)
+}
+
+// Whether one string comes before another: by text, then tag, under a rank table.
+fn string_before(a: Value, b: Value, table: [u8; 95]) -> bool
+    requires { ⌜ Good a ⌝ }
+    requires { ⌜ Good b ⌝ }
+    ensures { λ r. ⌜ r ≡ stringBefore table (stringIn a) (stringIn b) ⌝ }
+{
+    let by_text = text_before(a, b, table);
+    let texts = same_texts(a, b);
+    let by_tag = tag_before(a, b, table);
+    by_text | (texts & by_tag)
+}
+
+// Whether two values are equal: numbers by amount, dateTimes by seconds, strings by tag and text.
+pub fn equal(a: Value, b: Value) -> bool
+    requires { ⌜ Good a ⌝ }
+    requires { ⌜ Good b ⌝ }
+    ensures { λ r. ⌜ Tells r (compared equalPair (meaning a) (meaning b)) ⌝ }
+{
+    let kind = a.kind;
+    let present = a.present & b.present;
+    match kind {
+        2 => present & same_strings(a, b),
+        3 | 5 => present & number::is_same(counted(a, DECIMAL), counted(b, DECIMAL)),
+        4 => number::is_same(a.number, b.number),
+        _ => same_texts(a, b),
+    }
+}
+
+// Whether a value is less than another.
+pub fn less(a: Value, b: Value) -> bool
+    requires { ⌜ Good a ⌝ }
+    requires { ⌜ Good b ⌝ }
+    ensures { λ r. ⌜ Tells r (compared lessPair (meaning a) (meaning b)) ⌝ }
+{
+    let kind = a.kind;
+    let present = a.present & b.present;
+    match kind {
+        2 => present & string_before(a, b, RANKS),
+        3 | 5 => present & number::is_less(counted(a, DECIMAL), counted(b, DECIMAL)),
+        4 => number::is_less(a.number, b.number),
+        _ => text_before(a, b, BYTES),
+    }
+}

@@ -1,0 +1,63 @@
+// Signed numbers within the limits of their kinds. Nothing here overflows: an i64 holds 9 * 10^18, the limits are 10^18 at most.
+ghost use mathlib.Core.Path.{_≡_};
+ghost use mathlib.Core.Bool.{_&&_};
+ghost use lib.Dec.{T};
+ghost use lib.IntN.{ℤ, pos, natAbs, _+ℤ_, _-ℤ_, _*ℤ_};
+ghost use lib.Signed.{leZ, ltZ};
+ghost use Rattle.definitions.specs.Terms.{isInteger, isDecimal, sameNumber};
+ghost use Rattle.definitions.specs.Values.{million};
+
+pub fn sum(a: i64, b: i64) -> i64
+    requires { ⌜ T (isDecimal a) ⌝ }
+    requires { ⌜ T (isDecimal b) ⌝ }
+    ensures { λ r. ⌜ r ≡ a +ℤ b ⌝ }
+{
+    a + b
+}
+
+pub fn difference(a: i64, b: i64) -> i64
+    requires { ⌜ T (isDecimal a) ⌝ }
+    requires { ⌜ T (isDecimal b) ⌝ }
+    ensures { λ r. ⌜ r ≡ a -ℤ b ⌝ }
+{
+    a - b
+}
+
+// An integer in millionths.
+pub fn scaled(n: i64) -> i64
+    requires { ⌜ T (isInteger n) ⌝ }
+    ensures { λ r. ⌜ r ≡ n *ℤ pos million ⌝ }
+{
+    n * 1000000
+}
+
+// The distance from 0.
+pub fn distance(n: i64) -> i64
+    requires { ⌜ T (isDecimal n) ⌝ }
+    ensures { λ r. ⌜ r ≡ pos (natAbs n) ⌝ }
+{
+    if n < 0 {
+        return 0 - n;
+    }
+    n
+}
+
+pub fn within(n: i64, low: i64, high: i64) -> bool
+    ensures { λ r. ⌜ r ≡ (leZ low n && leZ n high) ⌝ }
+{
+    let above = low <= n;
+    let below = n <= high;
+    above & below
+}
+
+pub fn is_less(a: i64, b: i64) -> bool
+    ensures { λ r. ⌜ r ≡ ltZ a b ⌝ }
+{
+    a < b
+}
+
+pub fn is_same(a: i64, b: i64) -> bool
+    ensures { λ r. ⌜ r ≡ sameNumber a b ⌝ }
+{
+    a == b
+}

@@ -1,0 +1,65 @@
+// The order of texts: by a rank of their bytes, the end first.
+ghost use mathlib.Core.Path.{_≡_};
+ghost use lib.Dec.{T};
+ghost use lib.ListN.{length};
+ghost use Rattle.definitions.specs.Lists.{every};
+ghost use Rattle.definitions.specs.Bytes.{unfilled, sameBytes};
+ghost use Rattle.definitions.specs.Terms.{textByte};
+ghost use Rattle.definitions.specs.Values.{rankIn};
+ghost use Rattle.definitions.specs.Values as values;
+
+// The rank of a byte from 20 to 7E in a rank table.
+fn rank(table: &[u8; 95], b: u8) -> u8
+    requires { ⌜ T (textByte b) ⌝ }
+    ensures { λ r. ⌜ r ≡ rankIn (now (table .entry)) b ⌝ }
+{
+    let place = (b - 32) as usize;
+    table[place]
+}
+
+// Whether the text in one field comes before the text in another, under a rank table.
+pub fn before(a: &[u8], b: &[u8], table: &[u8; 95]) -> bool
+    requires { ⌜ length (now a) ≡ length (now b) ⌝ }
+    requires { ⌜ T (every textByte (unfilled (now a))) ⌝ }
+    requires { ⌜ T (every textByte (unfilled (now b))) ⌝ }
+    ensures { λ r. ⌜ r ≡ values.before (rankIn (now (table .entry))) (unfilled (now (a .entry))) (unfilled (now (b .entry))) ⌝ }
+{
+    let mut i = 0;
+    while i < a.len() {
+        let x = a[i];
+        let y = b[i];
+        if y == 0 {
+            return false;
+        }
+        if x == 0 {
+            return true;
+        }
+        let p = rank(table, x);
+        let q = rank(table, y);
+        if p != q {
+            return p < q;
+        }
+        i += 1;
+    }
+    false
+}
+
+// Whether two fields of one width hold the same text.
+pub fn same(a: &[u8], b: &[u8]) -> bool
+    requires { ⌜ length (now a) ≡ length (now b) ⌝ }
+    ensures { λ r. ⌜ r ≡ sameBytes (unfilled (now (a .entry))) (unfilled (now (b .entry))) ⌝ }
+{
+    let mut i = 0;
+    while i < a.len() {
+        let x = a[i];
+        let y = b[i];
+        if x != y {
+            return false;
+        }
+        if x == 0 {
+            return true;
+        }
+        i += 1;
+    }
+    true
+}
