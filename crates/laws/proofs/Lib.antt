@@ -42,3 +42,4 @@ pub mod RecordsAt
 pub mod Fields
 pub mod SlotAt
 pub mod Writing
+pub mod Agree

@@ -1,9 +1,12 @@
--- Laws of tests and choices on lists, in terms of their members.
+-- Laws of tests and choices on lists, in terms of their members; and of what stands at a place.
 use mathlib.Core.Path.{_≡_, refl, ap, ap₂, sym, _∙_, subst}
 use mathlib.Core.Logic.{_⊎_, inl, inr}
+use Prim.Native.Nat.{ℕ, zero, suc, _<_}
+use native.Mathlib.Omega.{arith}
 use mathlib.Core.List.{List, [], _∷_, _++_, List·Memᴰ, List·Memᴰ·head, List·Memᴰ·tail, List·Memᴰ·not-nil, List·Memᴰ·cases-cons, List·Memᴰ·append-cases}
-use mathlib.Core.Bool.{Bool, true, false, cond, not, _&&_, _||_, and-assoc, or-assoc}
+use mathlib.Core.Bool.{Bool, true, false, cond, _&&_, _||_, and-assoc, or-assoc}
 use lib.Dec.{T}
+use lib.ListN.{getD, length}
 use Rattle.definitions.specs.Lists.{every, some?, keep}
 use Rattle.definitions.specs.Typing.{those}
 use Rattle.laws.proofs.Tests.{andLeft, andRight, andMake, orCases, orLeft, orRight, notBoth, by-test}
@@ -55,6 +58,12 @@ module _ {A : Type 0} where
   every-append p [] ys = refl
   every-append p (x ∷ xs) ys = ap (λ b. p x && b) (every-append p xs ys) ∙ sym (and-assoc (p x) (every p xs) (every p ys))
 
+  pub every-left : (p : A → Bool) (xs ys : List A) → T (every p (xs ++ ys)) → T (every p xs)
+  every-left p xs ys h = andLeft (every p xs) (every p ys) (rw every-append at h)
+
+  pub every-right : (p : A → Bool) (xs ys : List A) → T (every p (xs ++ ys)) → T (every p ys)
+  every-right p xs ys h = andRight (every p xs) (every p ys) (rw every-append at h)
+
   -- ── some? ─────────────────────────────────────────────────────────────────────────────────
 
   pub some-at : (p : A → Bool) (xs : List A) → T (some? p xs) → (x : A) × (x ∈ xs) × T (p x)
@@ -95,3 +104,11 @@ module _ {A : Type 0} where
   those-is-keep p (x ∷ xs) =
       elim-is-cond (p x) (x ∷ those p xs) (those p xs)
       ∙ ap₂ (cond (p x)) (ap (λ l. x ∷ l) (those-is-keep p xs)) (those-is-keep p xs)
+
+  -- ── places ────────────────────────────────────────────────────────────────────────────────
+
+  -- within a list it does not matter what stands past its end
+  pub getD-inside : (xs : List A) (i : ℕ) (d e : A) → i < length xs → getD xs i d ≡ getD xs i e
+  getD-inside [] i d e l = absurd (omega arith)
+  getD-inside (x ∷ xs) zero d e l = refl
+  getD-inside (x ∷ xs) (suc i) d e l = getD-inside xs i d e (omega arith)

@@ -1,16 +1,18 @@
 -- The verdict without lists: typings, the greatest of them, and what each verdict says of them.
-use mathlib.Core.Path.{_≡_, refl, ap, ap₂, sym, _∙_, subst}
+use mathlib.Core.Path.{_≡_, refl, ap, ap₂, sym, subst}
 use mathlib.Core.Logic.{_⊎_, inl, inr, _↔_}
-use Prim.Native.Nat.{ℕ}
-use mathlib.Core.List.{List, [], _∷_, _++_, map, List·Memᴰ·head, List·Memᴰ·not-nil, List·Memᴰ·cases-cons, List·Memᴰ·eq-of-singleton, Memᴰ·append-left, Memᴰ·append-right, Memᴰ·map, Memᴰ·of-map}
+use Prim.Native.Nat.{ℕ, zero, suc, _<_}
+use native.Mathlib.Omega.{arith}
+use mathlib.Core.List.{List, [], _∷_, map, List·Memᴰ·head, List·Memᴰ·not-nil, List·Memᴰ·cases-cons, List·Memᴰ·eq-of-singleton, Memᴰ·append-left, Memᴰ·append-right, Memᴰ·map, Memᴰ·of-map}
 use mathlib.Core.Bool.{Bool, not}
 use lib.Dec.{T}
+use lib.ListN.{getD, length}
 use Rattle.definitions.specs.Lists.{every, some?}
 use Rattle.definitions.specs.Types.{Ty, plain, anyURI, leq, sameType, allTypes}
 use Rattle.definitions.specs.Terms.{Sort}
 use Rattle.definitions.specs.Tree.{Script}
-use Rattle.definitions.specs.Typing.{scriptTyped, Written, unbound, undecided, fixed, choices, eachWith, assignments, typeAt, those, typings, above, Verdict, noTyping, noGreatest, greatest, firstAbove, judge, verdict}
-use Rattle.laws.proofs.Tests.{andLeft, andRight, notBoth, by-test}
+use Rattle.definitions.specs.Typing.{scriptTyped, Written, unbound, undecided, fixed, choices, eachWith, assignments, typeAt, typings, above, Verdict, noTyping, noGreatest, greatest, firstAbove, judge, verdict}
+use Rattle.laws.proofs.Tests.{andLeft, andRight, andMake, notBoth, by-test}
 use Rattle.laws.proofs.Lists.{_∈_, here, there, by-cons, by-append, every-at, every-of, some-at, keep-at, keep-of, elim-is-cond, those-is-keep}
 use Rattle.laws.proofs.Order.{byType, leq-antisym, same-type}
 
@@ -42,6 +44,42 @@ abbrev pub Says : (List Ty → Type 0) → Verdict → Type 0
 Says Is noTyping = (Γ : List Ty) → Is Γ → ⊥
 Says Is noGreatest = ((Γ : List Ty) × Is Γ) × ((Γ : List Ty) → IsGreatest Is Γ → ⊥)
 Says Is (greatest Γ) = IsGreatest Is Γ
+
+-- ── by variable ─────────────────────────────────────────────────────────────────────────────
+
+pub fits-length : (ws : List Written) (Γ : List Ty) → Fits ws Γ → length Γ ≡ length ws
+fits-length [] [] h = refl
+fits-length [] (τ ∷ Γ) h = absurd h
+fits-length (w ∷ ws) [] h = absurd h
+fits-length (w ∷ ws) (τ ∷ Γ) h = ap suc (fits-length ws Γ (h .1))
+
+pub fits-at : (ws : List Written) (Γ : List Ty) → Fits ws Γ → (x : ℕ) → Allowed (getD ws x unbound) (typeAt Γ x)
+fits-at [] [] h x = refl
+fits-at [] (τ ∷ Γ) h x = absurd h
+fits-at (w ∷ ws) [] h x = absurd h
+fits-at (w ∷ ws) (τ ∷ Γ) h zero = h .0
+fits-at (w ∷ ws) (τ ∷ Γ) h (suc x) = fits-at ws Γ (h .1) x
+
+pub fits-of : (ws : List Written) (Γ : List Ty) → length Γ ≡ length ws → ((x : ℕ) → x < length ws → Allowed (getD ws x unbound) (typeAt Γ x)) → Fits ws Γ
+fits-of [] [] e f = tt
+fits-of [] (τ ∷ Γ) e f = absurd (omega arith)
+fits-of (w ∷ ws) [] e f = absurd (omega arith)
+fits-of (w ∷ ws) (τ ∷ Γ) e f = (f 0 (omega arith), fits-of ws Γ (omega arith) (λ x l. f (suc x) (omega arith)))
+
+pub above-at : (Γ Δ : List Ty) → T (above Γ Δ) → (x : ℕ) → T (leq (typeAt Δ x) (typeAt Γ x))
+unfolding above
+above-at [] [] h x = tt
+above-at [] (σ ∷ Δ) h x = absurd h
+above-at (τ ∷ Γ) [] h x = absurd h
+above-at (τ ∷ Γ) (σ ∷ Δ) h zero = andLeft (leq σ τ) (above Γ Δ) h
+above-at (τ ∷ Γ) (σ ∷ Δ) h (suc x) = above-at Γ Δ (andRight (leq σ τ) (above Γ Δ) h) x
+
+pub above-of : (Γ Δ : List Ty) → length Γ ≡ length Δ → ((x : ℕ) → x < length Γ → T (leq (typeAt Δ x) (typeAt Γ x))) → T (above Γ Δ)
+unfolding above
+above-of [] [] e f = tt
+above-of [] (σ ∷ Δ) e f = absurd (omega arith)
+above-of (τ ∷ Γ) [] e f = absurd (omega arith)
+above-of (τ ∷ Γ) (σ ∷ Δ) e f = andMake (leq σ τ) (above Γ Δ) (f 0 (omega arith)) (above-of Γ Δ (omega arith) (λ x l. f (suc x) (omega arith)))
 
 -- ── the assignments are the choices that fit ────────────────────────────────────────────────
 

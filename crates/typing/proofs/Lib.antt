@@ -1,0 +1,7 @@
+pub mod Family
+pub mod Demands
+pub mod UnionFind
+pub mod Tables
+pub mod Noted
+pub mod Solve
+pub mod Infer

@@ -1,0 +1,5 @@
+pub mod Family
+pub mod Demands
+pub mod UnionFind
+pub mod Tables
+pub mod Infer

@@ -1,0 +1,143 @@
+-- What the demands come to, in tables: families merged, and inside the number family which variables have to be integer or decimal.
+use Prim.Native.Nat.{ℕ, _+_, _*_}
+use mathlib.Core.List.{List, [], _∷_}
+use mathlib.Core.Bool.{Bool, true, false, cond}
+use lib.ListN.{getD, set, replicate}
+use Rattle.definitions.specs.Limits.{variableLimit}
+use Rattle.definitions.specs.Types.{Datatype, anyURI, decimal, integer, Ty, plain, range, leqDatatype, sameDatatype}
+use Rattle.definitions.specs.Terms.{Sort}
+use Rattle.definitions.specs.Tree.{Name, var, const}
+use Rattle.definitions.specs.Typing.{Written, unbound, undecided, fixed}
+use Rattle.laws.proofs.Sorts.{least}
+use Rattle.typing.specs.Family.{family, ownDatatype}
+use Rattle.typing.specs.Demands.{Node, Demand, same, property}
+use Rattle.typing.specs.UnionFind.{mergeIn, upFrom}
+
+-- ── the tables ──────────────────────────────────────────────────────────────────────────────
+
+-- Nodes: 0 to 3 the families, then one for each variable's datatype, then one for each variable's range.
+abbrev pub nodeLimit : ℕ
+nodeLimit = 36
+
+abbrev pub ownNode : ℕ → ℕ
+ownNode x = 4 + x
+
+abbrev pub rangeNode : ℕ → ℕ
+rangeNode x = 20 + x
+
+-- the union-find of the nodes
+pub record Families : Type 0 where
+  pub parents : List ℕ
+
+-- Flags, for each variable: its datatype has to be integer; its range has to be decimal; its type has to be a range.
+-- For each pair of variables: the first one is a property, and the second one its object.
+pub record Tables : Type 0 where
+  pub families : Families
+  pub low : List Bool
+  pub high : List Bool
+  pub property : List Bool
+  pub edges : List Bool
+
+abbrev pub flag : List Bool → ℕ → Bool
+flag l k = getD l k false
+
+-- where the flag of a pair stands
+abbrev pub edgeAt : ℕ → ℕ → ℕ
+edgeAt p x = variableLimit * p + x
+
+unfoldable pub fresh : Tables
+fresh = record {
+  families = record { parents = upFrom 0 nodeLimit };
+  low = replicate variableLimit false;
+  high = replicate variableLimit false;
+  property = replicate variableLimit false;
+  edges = replicate (variableLimit * variableLimit) false;
+}
+
+-- ── noting one thing ────────────────────────────────────────────────────────────────────────
+
+abbrev pub merged : (m n : ℕ) → Tables → Tables
+merged m n t = record {
+  families = record { parents = mergeIn (t .families .parents) m n };
+  low = t .low;
+  high = t .high;
+  property = t .property;
+  edges = t .edges;
+}
+
+abbrev pub withLow : ℕ → Tables → Tables
+withLow x t = record { families = t .families; low = set (t .low) x true; high = t .high; property = t .property; edges = t .edges }
+
+abbrev pub withHigh : ℕ → Tables → Tables
+withHigh p t = record { families = t .families; low = t .low; high = set (t .high) p true; property = t .property; edges = t .edges }
+
+abbrev pub withProperty : ℕ → Tables → Tables
+withProperty p t = record { families = t .families; low = t .low; high = t .high; property = set (t .property) p true; edges = t .edges }
+
+abbrev pub withEdge : ℕ → ℕ → Tables → Tables
+withEdge p x t = record { families = t .families; low = t .low; high = t .high; property = t .property; edges = set (t .edges) (edgeAt p x) true }
+
+abbrev pub when : Bool → (Tables → Tables) → Tables → Tables
+when b f t = cond b (f t) t
+
+-- a variable's datatype is at most d
+unfoldable pub atMost : ℕ → Datatype → Tables → Tables
+atMost x d t = when (sameDatatype d integer) (withLow x) (merged (ownNode x) (family d) t)
+
+-- a variable is a property
+unfoldable pub asProperty : ℕ → Tables → Tables
+asProperty p t = withProperty p (merged (ownNode p) (family anyURI) t)
+
+-- and its range is at least d
+unfoldable pub atLeast : ℕ → Datatype → Tables → Tables
+atLeast p d t = when (sameDatatype d decimal) (withHigh p) (merged (rangeNode p) (family d) (asProperty p t))
+
+-- and another variable is its object
+unfoldable pub edge : ℕ → ℕ → Tables → Tables
+edge p x t = withEdge p x (merged (rangeNode p) (ownNode x) (asProperty p t))
+
+-- no typing: two families are one
+unfoldable pub impossible : Tables → Tables
+impossible t = merged 0 1 t
+
+-- ── noting a demand ─────────────────────────────────────────────────────────────────────────
+
+-- what a term of the script stands for: an open variable, or what has a known least type
+pub data Place : Type 0 where
+  variable : ℕ → Place
+  known : Ty → Place
+
+abbrev pub writtenPlace : ℕ → Written → Place
+writtenPlace x unbound = known (plain anyURI)
+writtenPlace x undecided = variable x
+writtenPlace x (fixed τ) = known τ
+
+abbrev pub placeNode : Place → ℕ
+placeNode (variable x) = ownNode x
+placeNode (known τ) = family (ownDatatype τ)
+
+-- a property and its object
+unfoldable pub related : (property object : Place) → Tables → Tables
+related (variable p) (variable x) t = edge p x t
+related (variable p) (known τ) t = atLeast p (ownDatatype τ) t
+related (known (plain d)) (variable x) t = impossible t
+related (known (plain d)) (known τ) t = impossible t
+related (known (range d)) (variable x) t = atMost x d t
+related (known (range d)) (known τ) t = cond (leqDatatype (ownDatatype τ) d) t (impossible t)
+
+module _ (constants : ℕ → Sort) (ws : List Written) where
+  unfoldable pub place : Name → Place
+  place (var x) = writtenPlace x (getD ws x unbound)
+  place (const c) = known (least (constants c))
+
+  unfoldable pub nodeAt : Node → ℕ
+  nodeAt (Node.name n) = placeNode (place n)
+  nodeAt (Node.fixed d) = family d
+
+  unfoldable pub noted : Demand → Tables → Tables
+  noted (same a b) t = merged (nodeAt a) (nodeAt b) t
+  noted (property p o) t = related (place p) (place o) t
+
+  unfoldable pub allNoted : List Demand → Tables → Tables
+  allNoted [] t = t
+  allNoted (c ∷ cs) t = allNoted cs (noted c t)
