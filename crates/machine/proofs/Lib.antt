@@ -1,1 +1,4 @@
 pub mod Saved
+pub mod Binding
+pub mod Filling
+pub mod Clean

@@ -1,8 +1,9 @@
 -- Operations on the saved run, place by place. What they leave unused is zero.
-use Prim.Native.Nat.{ℕ, _+_, _-_}
+use Prim.Native.Nat.{ℕ, zero, suc, _+_, _-_}
 use mathlib.Core.Bool.{true, false}
 use mathlib.Core.List.{List, [], _∷_}
 use lib.ListN.{set, getD}
+use Rattle.definitions.specs.Bytes.{byte}
 use Rattle.definitions.specs.Saved.{noItem}
 use Rattle.definitions.specs.declared.SavedItem.{SavedItem}
 use Rattle.definitions.specs.declared.SavedRun.{SavedRun}
@@ -50,3 +51,14 @@ boundTo r v term =
       fetched = r .fetched;
       items = r .items;
     }
+
+-- the variables of so many pairs of a block, from an offset on
+unfoldable pub pairVariables : (count : ℕ) → List ℕ → (at : ℕ) → List ℕ
+pairVariables zero s at = []
+pairVariables (suc n) s at = byte s at ∷ pairVariables n s (at + 2)
+
+-- a tuple's terms for a block's variables, the last variable first
+unfoldable pub boundAll : SavedRun → (variables tuple : List ℕ) → SavedRun
+boundAll r [] t = r
+boundAll r (v ∷ vs) [] = r
+boundAll r (v ∷ vs) (i ∷ t) = boundTo (boundAll r vs t) v i

@@ -19,6 +19,7 @@ use Rattle.definitions.specs.Terms.{Text, textByte, tagByte, smallLetter, hyphe
 use Rattle.definitions.specs.Text.{Atom, Piece, one, many, withPiece, withStart, star, caret, dollar, dot, noLiteral, atomOf, piecesOf, patternOfText, patternOf, LanguageRange, everything, beginning, withoutStar, rangeOfText, languageRangeOf}
 use Rattle.laws.proofs.Fields.{by-same, filledBy, filled-zero, filled-byte, unfilled-byte, no-text, field-text}
 use Rattle.reader.specs.Fields.{isSome, isLiteral, mayFollow, arePieces}
+use Rattle.reader.proofs.Present.{onward-is, provided-is, provided-then, cond-is, elim-is}
 
 -- ── parts of a slice ────────────────────────────────────────────────────────────────────────
 
@@ -45,38 +46,13 @@ field-cons s at n p h =
     let e : n ≡ at + n - at = omega arith in
     ap (λ (k : ℕ). part s at k) e ∙ part-cons s at (at + n) (omega arith) h
 
--- ── something is there ──────────────────────────────────────────────────────────────────────
-
-onward-is : {A B : Type 0} (o : Option A) (f : A → Option B) (t : Bool) → ((a : A) → isSome (f a) ≡ t) → isSome (onward o f) ≡ (isSome o && t)
-unfolding onward
-onward-is none f t h = refl
-onward-is (some a) f t h = h a
-
-provided-is : {A : Type 0} (t : Bool) (a : A) → isSome (provided t (some a)) ≡ t
-unfolding provided
-provided-is true a = refl
-provided-is false a = refl
-
-provided-then : {A B : Type 0} (t : Bool) (a : A) (f : A → Option B) → isSome (onward (provided t (some a)) f) ≡ (t && isSome (f a))
-unfolding provided onward
-provided-then true a f = refl
-provided-then false a f = refl
-
-cond-is : {A : Type 0} (t : Bool) (x y : Option A) → isSome (cond t x y) ≡ cond t (isSome x) (isSome y)
-cond-is true x y = refl
-cond-is false x y = refl
-
-elim-is : {A : Type 0} (t : Bool) (x y : Option A) → isSome {A = A} (elim t as (λ c. Option A) [ true ↦ x | false ↦ y ]) ≡ cond t (isSome x) (isSome y)
-elim-is true x y = refl
-elim-is false x y = refl
+-- ── patterns: the bytes ─────────────────────────────────────────────────────────────────────
 
 swap : (a b c d : Bool) → ((a && b) && (c && d)) ≡ ((a && c) && (b && d))
 swap true true c d = refl
 swap true false true d = refl
 swap true false false d = refl
 swap false b c d = refl
-
--- ── patterns: the bytes ─────────────────────────────────────────────────────────────────────
 
 pub no-literal : (b : ℕ) {r : Bool}
     → r ≡ ((((((((eqb b 0x5C || eqb b 0x7C) || eqb b 0x3F) || eqb b 0x2B) || eqb b 0x28) || eqb b 0x29)) || (((eqb b 0x5B || eqb b 0x5D) || eqb b 0x7B) || eqb b 0x7D)) || ((eqb b 0x2A || eqb b 0x5E) || eqb b 0x24))

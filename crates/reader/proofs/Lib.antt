@@ -1,2 +1,5 @@
 -- What the proofs of several functions use.
+pub mod Present
 pub mod FieldLaws
+pub mod PairLaws
+pub mod Ends

@@ -151,5 +151,6 @@ abbrev pub verdictOn : (ℕ → Sort) → Row → Verdict
 verdictOn sorts r = verdict sorts (writtenTypes (r .script)) (r .script)
 
 pub roster : map (verdictOn (constantsOf schema terms)) rows ≡ map (λ r. r .expected) rows
-unfolding constants nameHas exprHas condTyped propertyTyped queryTyped scriptTyped bindersOf writtenIn writtenTypes eachWith assignments those typings above firstAbove judge verdict
+unfolding constants nameHas exprHas condTyped propertyTyped queryTyped scriptTyped bindersOf writtenIn writtenTypes
+    eachWith assignments those typings above firstAbove judge verdict
 roster = subst (λ sorts. map (verdictOn sorts) rows ≡ map (λ r. r .expected) rows) constants-are refl

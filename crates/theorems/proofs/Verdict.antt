@@ -2,16 +2,16 @@
 use mathlib.Core.Path.{_≡_}
 use mathlib.Core.Logic.{_↔_}
 use Prim.Native.Nat.{ℕ}
-use mathlib.Core.List.{List, [], _∷_}
+use mathlib.Core.List.{List}
 use lib.Dec.{T}
 use Rattle.definitions.specs.Types.{Ty}
 use Rattle.definitions.specs.Terms.{Sort}
 use Rattle.definitions.specs.Tree.{Script}
-use Rattle.definitions.specs.Typing.{Written, scriptTyped, typeAt, above, Verdict, noTyping, noGreatest, greatest, verdict}
+use Rattle.definitions.specs.Typing.{Written, scriptTyped, typeAt, above, noTyping, noGreatest, greatest, verdict}
 use Rattle.laws.proofs.Typings.{Fits, verdict-is}
 
 module _ (constants : ℕ → Sort) (ws : List Written) (s : Script) where
-  -- A typing gives each variable a type that its written type allows, and the rules take it.
+  -- A typing gives each variable a type that its written type allows (`Fits`), and the rules take it.
   abbrev pub isTyping : List Ty → Type 0
   isTyping Γ = Fits ws Γ × T (scriptTyped constants (typeAt Γ) s)
 

@@ -1,0 +1,144 @@
+// The saved run as a call hands it back: what means nothing in the one that was lent is zero.
+ghost use mathlib.Core.Path.{_≡_};
+ghost use mathlib.Core.Bool.{cond};
+ghost use mathlib.Core.List.{List};
+ghost use Prim.Native.Nat.{ℕ, _+_, _≤_};
+ghost use lib.ListN.{take};
+ghost use Rattle.definitions.specs.Bytes.{byte, filled};
+ghost use Rattle.machine.specs.Canonical.{cleanItem, cleanItems, cleanBindings, canonicalOf};
+use crate::stack::fresh_item;
+use definitions::SavedItem;
+use definitions::SavedRun;
+
+// The byte at an offset of the script, 0 past its end.
+pub fn byte_at(script: &[u8], at: usize) -> u8
+    ensures { λ r. ⌜ r ≡ byte (now (script .entry)) at ⌝ }
+{
+    if at < script.len() {
+        return script[at];
+    }
+    0
+}
+
+// A tuple's first numbers, zeros after them.
+fn first_numbers(count: u8, numbers: [u16; 4]) -> [u16; 4]
+    ensures { λ r. ⌜ r ≡ filled 4 (take count numbers) ⌝ }
+{
+    let n = count as usize;
+    let mut kept = [0u16; 4];
+    let mut k = 0;
+    while k < n {
+        if k == 4 {
+            return kept;
+        }
+        kept[k] = numbers[k];
+        k += 1;
+    }
+    kept
+}
+
+// Only an each block has a last tuple, a number for each of its variables.
+fn clean_item(item: SavedItem, script: &[u8]) -> SavedItem
+    ensures { λ r. ⌜ r ≡ cleanItem (now (script .entry)) item ⌝ }
+{
+    let place = item.at;
+    let at = place as usize;
+    let started = item.started;
+    let kind = byte_at(script, at);
+    let mode = byte_at(script, at + 1);
+    let count = byte_at(script, at + 2);
+    if !started {
+        return fresh_item(place);
+    }
+    if kind != 0x73 {
+        return fresh_item(place);
+    }
+    if mode != 1 {
+        return fresh_item(place);
+    }
+    let numbers = item.last;
+    let last = first_numbers(count, numbers);
+    SavedItem {
+        at: place,
+        started: true,
+        last,
+    }
+}
+
+// The items up to the height, none above it.
+fn clean_items(height: u16, items: [SavedItem; 24], script: &[u8]) -> [SavedItem; 24]
+    requires { ⌜ height ≤ 24 ⌝ }
+    ensures { λ r. ⌜ r ≡ cleanItems (now (script .entry)) height items ⌝ }
+{
+    let n = height as usize;
+    let empty = fresh_item(0);
+    let mut clean = [empty; 24];
+    let mut i = 0;
+    while i < n {
+        let item = items[i];
+        clean[i] = clean_item(item, script);
+        i += 1;
+    }
+    clean
+}
+
+// The number, where it means something.
+fn number_if(meant: bool, number: u16) -> u16
+    ensures { λ r. ⌜ r ≡ cond meant number 0 ⌝ }
+{
+    if meant { number } else { 0 }
+}
+
+// The terms of the bound variables.
+fn clean_bindings(bound: [bool; 16], bindings: [u16; 16]) -> [u16; 16]
+    ensures { λ r. ⌜ r ≡ cleanBindings bound bindings ⌝ }
+{
+    let mut clean = [0u16; 16];
+    let mut v = 0;
+    while v < 16 {
+        clean[v] = number_if(bound[v], bindings[v]);
+        v += 1;
+    }
+    clean
+}
+
+// The graphs up to their count.
+fn clean_fetched(graphs: u16, fetched: [u16; 64]) -> [u16; 64]
+    requires { ⌜ graphs ≤ 64 ⌝ }
+    ensures { λ r. ⌜ r ≡ filled 64 (take graphs fetched) ⌝ }
+{
+    let n = graphs as usize;
+    let mut clean = [0u16; 64];
+    let mut i = 0;
+    while i < n {
+        clean[i] = fetched[i];
+        i += 1;
+    }
+    clean
+}
+
+// The whole saved run.
+pub fn canonical(run: SavedRun, script: &[u8]) -> SavedRun
+    requires { ⌜ run .height ≤ 24 ⌝ }
+    requires { ⌜ run .graphs ≤ 64 ⌝ }
+    ensures { λ r. ⌜ r ≡ canonicalOf (now (script .entry)) run ⌝ }
+{
+    let types = run.types;
+    let bound = run.bound;
+    let numbers = run.bindings;
+    let graphs = run.fetched;
+    let places = run.items;
+    let bindings = clean_bindings(bound, numbers);
+    let fetched = clean_fetched(run.graphs, graphs);
+    let items = clean_items(run.height, places, script);
+    SavedRun {
+        height: run.height,
+        quads: run.quads,
+        graphs: run.graphs,
+        types,
+        bound,
+        bindings,
+        fetched,
+        items,
+    }
+}

@@ -1,0 +1,132 @@
+// Operations on the saved run: its stack and its bindings.
+ghost use mathlib.Core.Path.{_≡_};
+ghost use mathlib.Core.List.{List};
+ghost use Prim.Native.Nat.{ℕ, _+_, _*_, _<_, _-_, _≤_};
+ghost use lib.ListN.{length, getD, take};
+ghost use Rattle.definitions.specs.Bytes.{byte};
+ghost use Rattle.definitions.specs.Lists.{isIn};
+ghost use Rattle.machine.specs.Stack.{pushed, popped, replaced, boundTo, freshItem, topOf, pairVariables, boundAll};
+use definitions::SavedItem;
+use definitions::SavedRun;
+
+fn index(x: u8) -> usize
+    ensures { λ r. ⌜ r ≡ x ⌝ }
+{
+    x as usize
+}
+
+// An item that has used no tuple.
+pub fn fresh_item(at: u16) -> SavedItem
+    ensures { λ r. ⌜ r ≡ freshItem at ⌝ }
+{
+    SavedItem {
+        at,
+        started: false,
+        last: [0; 4],
+    }
+}
+
+// The item on top.
+pub fn top(run: SavedRun) -> SavedItem
+    requires { ⌜ 0 < run .height ⌝ }
+    requires { ⌜ run .height ≤ 24 ⌝ }
+    ensures { λ r. ⌜ r ≡ topOf run ⌝ }
+{
+    let n = run.height - 1;
+    let place = n as usize;
+    run.items[place]
+}
+
+pub fn push(run: SavedRun, item: SavedItem) -> SavedRun
+    requires { ⌜ run .height < 24 ⌝ }
+    ensures { λ r. ⌜ r ≡ pushed run item ⌝ }
+{
+    let mut next = run;
+    let n = run.height;
+    let place = n as usize;
+    next.items[place] = item;
+    next.height = n + 1;
+    next
+}
+
+pub fn pop(run: SavedRun) -> SavedRun
+    requires { ⌜ 0 < run .height ⌝ }
+    requires { ⌜ run .height ≤ 24 ⌝ }
+    ensures { λ r. ⌜ r ≡ popped run ⌝ }
+{
+    let mut next = run;
+    let n = run.height - 1;
+    let place = n as usize;
+    let empty = SavedItem {
+        at: 0,
+        started: false,
+        last: [0; 4],
+    };
+    next.items[place] = empty;
+    next.height = n;
+    next
+}
+
+pub fn replace(run: SavedRun, item: SavedItem) -> SavedRun
+    requires { ⌜ 0 < run .height ⌝ }
+    requires { ⌜ run .height ≤ 24 ⌝ }
+    ensures { λ r. ⌜ r ≡ replaced run item ⌝ }
+{
+    let mut next = run;
+    let n = run.height - 1;
+    let place = n as usize;
+    next.items[place] = item;
+    next
+}
+
+pub fn bind(run: SavedRun, v: usize, term: u16) -> SavedRun
+    requires { ⌜ v < 16 ⌝ }
+    ensures { λ r. ⌜ r ≡ boundTo run v term ⌝ }
+{
+    let mut next = run;
+    next.bound[v] = true;
+    next.bindings[v] = term;
+    next
+}
+
+// A tuple's terms for the variables of a block's pairs, which begin at an offset.
+pub fn bind_tuple(
+    run: SavedRun,
+    script: &[u8],
+    at: usize,
+    count: usize,
+    tuple: [u16; 4],
+) -> SavedRun
+    requires { ⌜ at + 2 * count ≤ length (now script) ⌝ }
+    requires { ⌜ count ≤ 4 ⌝ }
+    requires { ⌜ ((k : ℕ) → k < count → byte (now script) (at + 2 * k) < 16) ⌝ }
+    ensures { λ r. ⌜ r ≡ boundAll run (pairVariables count (now (script .entry)) at) (take count tuple) ⌝ }
+{
+    let mut next = run;
+    let mut k = count;
+    while 0 < k {
+        k -= 1;
+        let from = at + 2 * k;
+        let v = index(script[from]);
+        let term = tuple[k];
+        next = bind(next, v, term);
+    }
+    next
+}
+
+// Whether a graph is in the fetched list.
+pub fn is_fetched(run: SavedRun, graph: u16) -> bool
+    requires { ⌜ run .graphs ≤ 64 ⌝ }
+    ensures { λ r. ⌜ r ≡ isIn graph (take (run .graphs) (run .fetched)) ⌝ }
+{
+    let fetched = run.fetched;
+    let n = run.graphs as usize;
+    let mut i = 0;
+    while i < n {
+        if fetched[i] == graph {
+            return true;
+        }
+        i += 1;
+    }
+    false
+}

@@ -1,0 +1,48 @@
+// The pairs of a block: variables and their written types.
+ghost use mathlib.Core.Path.{_≡_};
+ghost use Prim.Native.Nat.{_+_, _≤_};
+ghost use lib.ListN.{length};
+ghost use Rattle.definitions.specs.Reading.{writtenOf, bindersAt};
+ghost use Rattle.reader.specs.Fields.{isSome};
+ghost use Rattle.reader.specs.Pairs.{pairOk};
+
+// Whether a byte is a written type: 0 open, 1 to 5 a datatype, 9 to 13 a range.
+fn written_ok(code: u8) -> bool
+    ensures { λ r. ⌜ r ≡ isSome (writtenOf code) ⌝ }
+{
+    match code {
+        0..=5 => true,
+        9..=13 => true,
+        _ => false,
+    }
+}
+
+// Whether a pair is good: a variable and a written type where it is used, else zero.
+fn pair_ok(used: bool, variable: u8, written: u8) -> bool
+    ensures { λ r. ⌜ r ≡ pairOk used variable written ⌝ }
+{
+    if used {
+        return (variable < 16) & written_ok(written);
+    }
+    (variable == 0) & (written == 0)
+}
+
+// Whether the four pairs at an offset are good, the first `count` of them used.
+pub fn pairs_ok(s: &[u8], at: usize, count: u8) -> bool
+    requires { ⌜ at + 8 ≤ length (now s) ⌝ }
+    ensures { λ r. ⌜ r ≡ isSome (bindersAt 4 count (now (s .entry)) at) ⌝ }
+{
+    if 4 < count {
+        return false;
+    }
+    let mut k: u8 = 0;
+    let mut next = at;
+    while k < 4 {
+        if !pair_ok(k < count, s[next], s[next + 1]) {
+            return false;
+        }
+        next += 2;
+        k += 1;
+    }
+    true
+}

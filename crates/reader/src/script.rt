@@ -1,0 +1,223 @@
+// Reading the script in prefix order: each function takes the offset of a record and how many levels of records may
+// still be used, and gives the offset after the record and its children.
+use crate::Read;
+use crate::fields::pattern_ok;
+use crate::fields::range_ok;
+use crate::pairs::pairs_ok;
+ghost use mathlib.Core.Path.{_≡_};
+ghost use Prim.Native.Nat.{_+_, _<_};
+ghost use lib.ListN.{length};
+ghost use Rattle.definitions.specs.Bytes.{word};
+ghost use Rattle.definitions.specs.Reading.{readName, readExpr, readCond, readQuery, readScript, parsed};
+ghost use Rattle.reader.specs.Fields.{isSome};
+ghost use Rattle.reader.specs.Next.{nextOf};
+
+// The 2-byte number at an offset.
+pub fn word_at(s: &[u8], at: usize) -> usize
+    requires { ⌜ at + 1 < length (now s) ⌝ }
+    ensures { λ r. ⌜ r ≡ word (now (s .entry)) at ⌝ }
+{
+    s[at] as usize + 256 * (s[at + 1] as usize)
+}
+
+// A name: 31 a variable, 32 a constant.
+pub fn read_name(script: &[u8], terms: usize, at: usize, left: u8) -> Read
+    ensures { λ r. ⌜ r ≡ nextOf (readName (now (script .entry)) terms left at) ⌝ }
+{
+    if left == 0 {
+        return Read::Malformed;
+    }
+    if script.len() <= at {
+        return Read::Malformed;
+    }
+    let kind = script[at];
+    let room = script.len() - at;
+    match kind {
+        0x31 => {
+            if room < 2 {
+                return Read::Malformed;
+            }
+            if script[at + 1] < 16 {
+                Read::Next(at + 2)
+            } else {
+                Read::Malformed
+            }
+        }
+        0x32 => {
+            if room < 3 {
+                return Read::Malformed;
+            }
+            let number = word_at(script, at + 1);
+            if number < terms {
+                Read::Next(at + 3)
+            } else {
+                Read::Malformed
+            }
+        }
+        _ => Read::Malformed,
+    }
+}
+
+// An expression: a name, 41 now, 42 str, 43 abs, 44 plus, 45 minus.
+pub fn read_expr(script: &[u8], terms: usize, at: usize, left: u8) -> Read
+    ensures { λ r. ⌜ r ≡ nextOf (readExpr (now (script .entry)) terms left at) ⌝ }
+{
+    if left == 0 {
+        return Read::Malformed;
+    }
+    if script.len() <= at {
+        return Read::Malformed;
+    }
+    let kind = script[at];
+    match kind {
+        0x31..=0x32 => read_name(script, terms, at, left),
+        0x41 => Read::Next(at + 1),
+        0x42..=0x43 => read_expr(script, terms, at + 1, left - 1),
+        0x44..=0x45 => {
+            let Read::Next(second) = read_expr(script, terms, at + 1, left - 1) else {
+                return Read::Malformed;
+            };
+            read_expr(script, terms, second, left - 1)
+        }
+        _ => Read::Malformed,
+    }
+}
+
+// A boolean: 50 false, 51 true, 52 or, 53 and, 54 not, 55 regex, 56 langMatches, 57 equal, 58 less.
+pub fn read_cond(script: &[u8], terms: usize, at: usize, left: u8) -> Read
+    ensures { λ r. ⌜ r ≡ nextOf (readCond (now (script .entry)) terms left at) ⌝ }
+{
+    if left == 0 {
+        return Read::Malformed;
+    }
+    if script.len() <= at {
+        return Read::Malformed;
+    }
+    let kind = script[at];
+    match kind {
+        0x50..=0x51 => Read::Next(at + 1),
+        0x52..=0x53 => {
+            let Read::Next(second) = read_cond(script, terms, at + 1, left - 1) else {
+                return Read::Malformed;
+            };
+            read_cond(script, terms, second, left - 1)
+        }
+        0x54 => read_cond(script, terms, at + 1, left - 1),
+        0x55 => {
+            if script.len() - at < 17 {
+                return Read::Malformed;
+            }
+            if !pattern_ok(script, at + 1) {
+                return Read::Malformed;
+            }
+            read_expr(script, terms, at + 17, left - 1)
+        }
+        0x56 => {
+            if script.len() - at < 9 {
+                return Read::Malformed;
+            }
+            if !range_ok(script, at + 1) {
+                return Read::Malformed;
+            }
+            read_expr(script, terms, at + 9, left - 1)
+        }
+        0x57..=0x58 => {
+            let Read::Next(second) = read_expr(script, terms, at + 1, left - 1) else {
+                return Read::Malformed;
+            };
+            read_expr(script, terms, second, left - 1)
+        }
+        _ => Read::Malformed,
+    }
+}
+
+// A query: 61 pattern, 62 both, 63 union, 64 filter, 65 empty.
+pub fn read_query(script: &[u8], terms: usize, at: usize, left: u8) -> Read
+    ensures { λ r. ⌜ r ≡ nextOf (readQuery (now (script .entry)) terms left at) ⌝ }
+{
+    if left == 0 {
+        return Read::Malformed;
+    }
+    if script.len() <= at {
+        return Read::Malformed;
+    }
+    let kind = script[at];
+    match kind {
+        0x61 => {
+            let Read::Next(subject) = read_name(script, terms, at + 1, left - 1) else {
+                return Read::Malformed;
+            };
+            let Read::Next(property) = read_name(script, terms, subject, left - 1) else {
+                return Read::Malformed;
+            };
+            let Read::Next(object) = read_name(script, terms, property, left - 1) else {
+                return Read::Malformed;
+            };
+            read_name(script, terms, object, left - 1)
+        }
+        0x62..=0x63 => {
+            let Read::Next(second) = read_query(script, terms, at + 1, left - 1) else {
+                return Read::Malformed;
+            };
+            read_query(script, terms, second, left - 1)
+        }
+        0x64 => read_cond(script, terms, at + 1, left - 1),
+        0x65 => Read::Next(at + 1),
+        _ => Read::Malformed,
+    }
+}
+
+// A script: 71 success, 72 from named, 73 block, 74 sequence.
+pub fn read_script(script: &[u8], terms: usize, at: usize, left: u8) -> Read
+    ensures { λ r. ⌜ r ≡ nextOf (readScript (now (script .entry)) terms left at) ⌝ }
+{
+    if left == 0 {
+        return Read::Malformed;
+    }
+    if script.len() <= at {
+        return Read::Malformed;
+    }
+    let kind = script[at];
+    match kind {
+        0x71 => Read::Next(at + 1),
+        0x72 => {
+            let Read::Next(second) = read_name(script, terms, at + 1, left - 1) else {
+                return Read::Malformed;
+            };
+            read_script(script, terms, second, left - 1)
+        }
+        0x73 => {
+            if script.len() - at < 11 {
+                return Read::Malformed;
+            }
+            if 1 < script[at + 1] {
+                return Read::Malformed;
+            }
+            let count = script[at + 2];
+            if !pairs_ok(script, at + 3, count) {
+                return Read::Malformed;
+            }
+            let Read::Next(second) = read_query(script, terms, at + 11, left - 1) else {
+                return Read::Malformed;
+            };
+            read_script(script, terms, second, left - 1)
+        }
+        0x74 => {
+            let Read::Next(second) = read_script(script, terms, at + 1, left - 1) else {
+                return Read::Malformed;
+            };
+            read_script(script, terms, second, left - 1)
+        }
+        _ => Read::Malformed,
+    }
+}
+
+// Whether the whole script is well formed: records 24 deep, no bytes left over.
+pub fn script_ok(script: &[u8], terms: usize) -> bool
+    ensures { λ r. ⌜ r ≡ isSome (parsed terms (now (script .entry))) ⌝ }
+{
+    let Read::Next(end) = read_script(script, terms, 0, 24) else {
+        return false;
+    };
+    end == script.len()
+}
