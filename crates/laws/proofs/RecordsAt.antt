@@ -1,19 +1,19 @@
 -- Laws of records: what a record at an offset holds, and records one after the other, from an offset on.
 use Prim.Native.Nat.{ℕ, zero, suc, _+_, _-_, _≤_, _<_}
 use mathlib.Core.Bool.{Bool, true, false, _&&_}
-use mathlib.Core.List.{List, [], _∷_}
+use mathlib.Core.List.{List, []}
 use mathlib.Core.Option.{Option, none, some}
-use mathlib.Core.Path.{_≡_, refl, sym, ap, subst, _∙_}
+use mathlib.Core.Path.{_≡_, refl, sym, ap, _∙_}
 use native.Mathlib.Omega.{arith}
-use lib.Dec.{T, leb, eqb, leb→le, eqb→eq}
+use lib.Dec.{leb, eqb, leb→le}
 use lib.ListN.{length}
-use borrow.Author.Tests.{le-leb, lt-leb, leb-true, leb-false}
+use borrow.Author.Tests.{le-leb, lt-leb, leb-false}
 use Rattle.definitions.specs.Limits.{textWidth}
-use Rattle.definitions.specs.Bytes.{Got, byte, part, provided, onward, whole, inFront, recordsFrom, records}
+use Rattle.definitions.specs.Bytes.{Got, byte, part, onward, whole, inFront, recordsFrom, records}
 use Rattle.definitions.specs.Types.{Datatype, datatypeOfCode}
 use Rattle.definitions.specs.Terms.{Text, Term, Entry, Triple, bodyWidth, termOfBody, bodyAt, uriText, uriAt, ofTermKind, ofPageKind, readTerm, readEntry, readTriple, readTerms, readSchema, readPage}
-use Rattle.laws.proofs.Tests.{andLeft, andRight}
-use Rattle.laws.proofs.Options.{some-is, pair-is, some-not-none, provided-inv, onward-inv}
+use Rattle.laws.proofs.Tests.{andRight}
+use Rattle.laws.proofs.Options.{some-is, pair-is, provided-inv, onward-inv}
 use Rattle.laws.proofs.Valid.{body-at-inv}
 
 -- ── what a record at an offset holds ────────────────────────────────────────────────────────

@@ -2,3 +2,4 @@ pub mod Saved
 pub mod Binding
 pub mod Filling
 pub mod Clean
+pub mod QuadLaws

@@ -1,20 +1,19 @@
 -- Laws of bodies, by the kind of their record.
 use Prim.Native.Nat.{ℕ, _+_, _-_, _<_, _≤_}
 use mathlib.Core.Bool.{Bool, true, false, not, _&&_}
-use mathlib.Core.List.{List, [], _∷_}
-use mathlib.Core.Option.{Option, none, some}
-use mathlib.Core.Path.{_≡_, refl, sym, ap, _∙_}
+use mathlib.Core.List.{List}
+use mathlib.Core.Option.{none}
+use mathlib.Core.Path.{_≡_, sym, ap, _∙_}
 use native.Mathlib.Omega.{arith}
-use lib.Dec.{T, eqb, eqb→eq}
+use lib.Dec.{eqb, eqb→eq}
 use lib.IntN.{ℤ}
-use lib.ListN.{length, take, drop, length-drop}
+use lib.ListN.{length, take}
 use lib.Seq.{take-all}
 use borrow.Author.Tests.{ne-eqb, not-true, not-false}
 use Rattle.definitions.specs.Limits.{textWidth, tagWidth, numberWidth}
-use Rattle.definitions.specs.Bytes.{part, little, signed, provided, onward}
-use Rattle.definitions.specs.Types.{Datatype}
+use Rattle.definitions.specs.Bytes.{part, little, signed, onward}
 use Rattle.definitions.specs.Terms.{Term, fieldText, uriText, textByte, tagByte, withinLimits, ofTermKind, numberTerm, termOfBody}
-use Rattle.laws.proofs.Ranges.{everyFrom, every-in}
+use Rattle.laws.proofs.Ranges.{every-in}
 use Rattle.records.specs.Answers.{isSome, widthOf, bodyTerm}
 use Rattle.records.proofs.OptionLaws.{is-some-provided, is-some-map, is-some-both}
 

@@ -1,70 +1,44 @@
 -- Laws of fields: a text and then zeros, byte by byte.
-use Prim.Native.Nat.{ℕ, zero, suc, _+_, _-_, _<_, _≤_}
-use native.Mathlib.Nat.{suc-sub-suc, sub-zero}
-use mathlib.Core.Bool.{Bool, true, false, cond, _&&_, _||_, and-true, and-false, or-true, or-false}
-use mathlib.Core.List.{List, [], _∷_, _++_}
-use mathlib.Core.Option.{Option, none, some}
-use mathlib.Core.Path.{_≡_, refl, sym, ap, _∙_, subst, fun-ext}
+use Prim.Native.Nat.{ℕ, suc, _+_, _<_, _≤_}
+use mathlib.Core.Bool.{Bool, true, false, _&&_, _||_, and-true, and-false, or-true, or-false}
+use mathlib.Core.List.{List, [], _∷_}
+use mathlib.Core.Option.{some}
+use mathlib.Core.Path.{_≡_, refl, sym, ap, _∙_, fun-ext}
 use native.Mathlib.Numerals.{add-one}
 use native.Mathlib.Omega.{arith}
-use lib.Dec.{T, leb, eqb, eqb-refl}
-use lib.ListN.{length, getD, drop, replicate, drop-of-length-le}
+use lib.Dec.{leb, eqb}
+use lib.ListN.{length, drop, drop-of-length-le}
 use lib.Seq.{drop-cons}
-use borrow.Author.Tests.{ne-eqb, eq-eqb, le-leb, lt-leb, eqb-true, eqb-false, leb-true, leb-false}
+use borrow.Author.Tests.{ne-eqb, eq-eqb, le-leb, lt-leb, eqb-true}
 use Rattle.definitions.specs.Limits.{textWidth}
 use Rattle.definitions.specs.Lists.{every}
 use Rattle.definitions.specs.Bytes.{byte, sameBytes, allZero, filled, unfilled, provided, onward}
 use Rattle.definitions.specs.Terms.{between, fieldText, uriText, uriByte, textByte, tagByte}
-use Rattle.laws.proofs.Tests.{isTrue}
+use Rattle.laws.proofs.Fields.{filledBy, field-text}
 use Rattle.records.specs.Answers.{isSome, rangeOr}
 use Rattle.records.proofs.OptionLaws.{is-some-provided}
 
--- ── a text and then zeros ───────────────────────────────────────────────────────────────────
+-- ── a text and then zeros, byte by byte ─────────────────────────────────────────────────────
 
--- byte by byte
-unfoldable pub fieldIs : (ℕ → Bool) → List ℕ → Bool
-fieldIs ok [] = true
-fieldIs ok (b ∷ bs) = cond (eqb b 0) (allZero bs) (ok b && fieldIs ok bs)
-
-zeros-are : (s : List ℕ) → sameBytes (replicate (length s) 0) s ≡ allZero s
-zeros-are [] = refl
-zeros-are (b ∷ s) = ap (λ t. eqb 0 b && t) (zeros-are s)
-
-regroup : (a b c : Bool) → ((a && b) && c) ≡ (a && (b && c))
-regroup true b c = refl
-regroup false b c = refl
-
-field-tests : (ok : ℕ → Bool) (s : List ℕ) → (every ok (unfilled s) && sameBytes (filled (length s) (unfilled s)) s) ≡ fieldIs ok s
-unfolding unfilled filled fieldIs
-field-tests ok [] = refl
-field-tests ok (b ∷ s) = go (eqb b 0) refl (field-tests ok s)
-  where
-    go : (t : Bool) → eqb b 0 ≡ t → (every ok (unfilled s) && sameBytes (filled (length s) (unfilled s)) s) ≡ fieldIs ok s
-        → (every ok (elim t as (λ c. List ℕ) [ true ↦ [] | false ↦ b ∷ unfilled s ]) && sameBytes (filled (suc (length s)) (elim t as (λ c. List ℕ) [ true ↦ [] | false ↦ b ∷ unfilled s ])) (b ∷ s))
-        ≡ cond t (allZero s) (ok b && fieldIs ok s)
-    go true e rest = rw (sub-zero, eq-eqb 0 b (sym (eqb-true b 0 e))) (zeros-are s)
-    go false e rest = rw (suc-sub-suc, isTrue (eqb b b) (eqb-refl b)) (regroup (ok b) (every ok (unfilled s)) (sameBytes (filled (length s) (unfilled s)) s) ∙ ap (λ t. ok b && t) rest)
-
-pub field-is : (ok : ℕ → Bool) (s : List ℕ) → fieldIs ok s ≡ isSome (fieldText ok (length s) s)
-unfolding fieldText
-field-is ok s = sym (is-some-provided (every ok (unfilled s) && sameBytes (filled (length s) (unfilled s)) s) (unfilled s) ∙ field-tests ok s)
+pub field-is : (ok : ℕ → Bool) (s : List ℕ) → filledBy ok s ≡ isSome (fieldText ok (length s) s)
+field-is ok s = sym (ap isSome (field-text ok (length s) s refl) ∙ is-some-provided (filledBy ok s) (unfilled s))
 
 module _ (ok : ℕ → Bool) (s : List ℕ) (i : ℕ) where
-  pub field-end : length s ≤ i → fieldIs ok (drop i s) ≡ true
-  unfolding fieldIs
+  pub field-end : length s ≤ i → filledBy ok (drop i s) ≡ true
+  unfolding filledBy
   field-end h = rw (drop-of-length-le s {i = i} h)
 
   module _ (h : i < length s) where
-    pub field-zeros : byte s i ≡ 0 → fieldIs ok (drop i s) ≡ allZero (drop i s)
-    unfolding fieldIs
+    pub field-zeros : byte s i ≡ 0 → filledBy ok (drop i s) ≡ allZero (drop i s)
+    unfolding filledBy
     field-zeros e = rw (drop-cons s i 0 h, e)
 
-    pub field-more : (byte s i ≡ 0 → ⊥) → ok (byte s i) ≡ true → fieldIs ok (drop i s) ≡ fieldIs ok (drop (i + 1) s)
-    unfolding fieldIs
+    pub field-more : (byte s i ≡ 0 → ⊥) → ok (byte s i) ≡ true → filledBy ok (drop i s) ≡ filledBy ok (drop (i + 1) s)
+    unfolding filledBy
     field-more n e = rw (add-one, drop-cons s i 0 h, ne-eqb (byte s i) 0 n, e)
 
-    pub field-bad : (byte s i ≡ 0 → ⊥) → ok (byte s i) ≡ false → fieldIs ok (drop i s) ≡ false
-    unfolding fieldIs
+    pub field-bad : (byte s i ≡ 0 → ⊥) → ok (byte s i) ≡ false → filledBy ok (drop i s) ≡ false
+    unfolding filledBy
     field-bad n e = rw (drop-cons s i 0 h, ne-eqb (byte s i) 0 n, e)
 
 -- ── the tests of bytes ──────────────────────────────────────────────────────────────────────

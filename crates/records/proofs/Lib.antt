@@ -6,3 +6,6 @@ pub mod BodyLaws
 pub mod ReadLaws
 pub mod ListLaws
 pub mod SameLaws
+pub mod SchemaLaws
+pub mod TableLaws
+pub mod NumberingLaws

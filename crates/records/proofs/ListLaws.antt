@@ -1,21 +1,21 @@
 -- Laws of records one after the other, for each way through a loop over them.
-use Prim.Native.Nat.{ℕ, zero, suc, _+_, _<_, _≤_}
+use Prim.Native.Nat.{ℕ, _+_, _<_, _≤_}
 use mathlib.Core.Bool.{Bool, true, false, not, _&&_, _||_}
 use mathlib.Core.List.{List, [], _∷_}
 use mathlib.Core.Option.{Option, none, some}
-use mathlib.Core.Path.{_≡_, refl, sym, ap, _∙_, subst}
+use mathlib.Core.Path.{_≡_, refl, sym, ap, _∙_}
 use native.Mathlib.Omega.{arith}
 use lib.ListN.{length}
-use Rattle.definitions.specs.Lists.{every, some?, distinct}
+use Rattle.definitions.specs.Lists.{every, some?}
 use Rattle.definitions.specs.Bytes.{Got, inFront}
-use Rattle.laws.proofs.Options.{some-not-none, same-some}
+use Rattle.laws.proofs.Options.{some-not-none}
 use Rattle.laws.proofs.RecordsAt.{Forward, recordsAt, at-end, at-bad, at-one}
 use Rattle.records.specs.declared.Counted.{Counted}
 use Rattle.records.specs.declared.Counted.the-variants as Counts
 use Rattle.records.specs.declared.Read.{Read}
 use Rattle.records.specs.declared.Read.the-variants.{Next, Malformed}
 use Rattle.records.specs.Answers.{isSome, nextOf, countOf, sameIn, againIn, distinctIn}
-use Rattle.records.proofs.OptionLaws.{is-none, is-some, next-lost, next-got, next-some}
+use Rattle.records.proofs.OptionLaws.{is-some, next-lost, next-got, next-some}
 
 -- ── lists ───────────────────────────────────────────────────────────────────────────────────
 
@@ -40,7 +40,7 @@ unfolding countOf distinctIn
 counted-none same none e = refl
 counted-none same (some xs) e = absurd (let z : _≡_ {A = ℕ} 0 1 = cc in omega arith)
 
-none-of : {A : Type 0} (p : A → Bool) (xs : List A) → every (λ x. not (p x)) xs ≡ not (some? p xs)
+pub none-of : {A : Type 0} (p : A → Bool) (xs : List A) → every (λ x. not (p x)) xs ≡ not (some? p xs)
 none-of p [] = refl
 none-of p (x ∷ xs) = go (p x) (none-of p xs)
   where
@@ -90,7 +90,7 @@ module _ {A : Type 0} (read : List ℕ → ℕ → Got A) (forward : Forward rea
       pub good-after : (at < k) × (k ≤ length s)
       good-after = next-after at h e refl
 
-      here : (a : A) × (read s at ≡ some (a, k))
+      pub here : (a : A) × (read s at ≡ some (a, k))
       here = one at h e refl
 
       pub good-rest : isSome (recordsAt read s k) ≡ true
@@ -101,14 +101,14 @@ module _ {A : Type 0} (read : List ℕ → ℕ → Got A) (forward : Forward rea
           go none q = absurd (some-not-none (is-some (recordsAt read s at) g .1) (at-one read forward s at h (here .1) ∙ ap (inFront read (here .0)) q))
           go (some xs) q = refl
 
+      pub rest : (xs : List A) × (recordsAt read s k ≡ some xs)
+      rest = is-some (recordsAt read s k) good-rest
+
+      pub all-of : recordsAt read s at ≡ some (here .0 ∷ rest .0)
+      unfolding inFront
+      all-of = at-one read forward s at h (here .1) ∙ ap (inFront read (here .0)) (rest .1)
+
       module _ (same : A → A → Bool) where
-        rest : (xs : List A) × (recordsAt read s k ≡ some xs)
-        rest = is-some (recordsAt read s k) good-rest
-
-        all-of : recordsAt read s at ≡ some (here .0 ∷ rest .0)
-        unfolding inFront
-        all-of = at-one read forward s at h (here .1) ∙ ap (inFront read (here .0)) (rest .1)
-
         -- one that was read is here, or it is among the rest
         again-one : (o : Got A) → sameIn same o (read s at) ≡ true → againIn same o (recordsAt read s at) ≡ true
         unfolding sameIn againIn

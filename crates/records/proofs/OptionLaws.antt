@@ -5,7 +5,6 @@ use mathlib.Core.Option.{Option, none, some}
 use mathlib.Core.Path.{_≡_, refl, ap}
 use native.Mathlib.Omega.{arith}
 use Rattle.definitions.specs.Bytes.{Got, provided, onward}
-use Rattle.records.specs.declared.Read.{Read}
 use Rattle.records.specs.declared.Read.the-variants.{Next, Malformed}
 use Rattle.records.specs.Answers.{isSome, nextOf}
 

@@ -1,19 +1,19 @@
 -- Laws of records at an offset, for each way through the code.
 use Prim.Native.Nat.{ℕ, _+_, _-_, _<_, _≤_}
-use mathlib.Core.Bool.{Bool, true, false, not, _&&_, and-false}
+use mathlib.Core.Bool.{Bool, true, false, not, and-false}
 use mathlib.Core.List.{List}
 use mathlib.Core.Option.{Option, none, some}
-use mathlib.Core.Path.{_≡_, refl, sym, ap, _∙_, subst}
-use mathlib.Core.Logic.{_⊎_, inl, inr, ⊎-elim}
+use mathlib.Core.Path.{_≡_, refl, sym, ap, _∙_}
+use mathlib.Core.Logic.{_⊎_, inl, ⊎-elim}
 use native.Mathlib.Omega.{arith}
-use lib.Dec.{T, leb, eqb}
+use lib.Dec.{leb, eqb}
 use lib.ListN.{length, List·getD-eq-default}
 use borrow.Author.Tests.{le-leb, lt-leb, eq-eqb, ne-eqb, eqb-true, eqb-false, leb-true, not-true, not-false}
 use Rattle.definitions.specs.Limits.{textWidth}
-use Rattle.definitions.specs.Bytes.{Got, byte, part, provided, onward, whole}
+use Rattle.definitions.specs.Bytes.{Got, byte, part, provided, onward}
 use Rattle.definitions.specs.Types.{Datatype, datatypeOfCode}
-use Rattle.definitions.specs.Terms.{Text, Term, Entry, Triple, bodyWidth, termOfBody, bodyAt, uriText, uriAt, ofTermKind, ofPageKind, readTerm, readEntry, readTriple}
-use Rattle.laws.proofs.Ranges.{everyFrom, every-in, split}
+use Rattle.definitions.specs.Terms.{Text, Triple, bodyWidth, termOfBody, bodyAt, uriText, uriAt, ofTermKind, ofPageKind, readTerm, readEntry, readTriple}
+use Rattle.laws.proofs.Ranges.{every-in, split}
 use Rattle.laws.proofs.Tests.{isTrue}
 use Rattle.laws.proofs.Options.{provided-yes, onward-some}
 use Rattle.records.specs.declared.Read.{Read}

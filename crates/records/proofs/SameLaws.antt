@@ -1,27 +1,27 @@
 -- Equal bytes are equal terms and equal properties.
 use Prim.Native.Nat.{ℕ, suc, _+_, _-_, _<_, _≤_}
 use mathlib.Core.Bool.{Bool, true, false}
-use mathlib.Core.List.{List, [], _∷_}
-use mathlib.Core.Option.{Option, none, some}
-use mathlib.Core.Path.{_≡_, refl, sym, ap, ap₂, _∙_, subst}
+use mathlib.Core.List.{List, _∷_}
+use mathlib.Core.Option.{some}
+use mathlib.Core.Path.{_≡_, refl, sym, ap, ap₂, _∙_}
 use native.Mathlib.Numerals.{add-one}
 use native.Mathlib.Omega.{arith}
 use lib.Dec.{T}
-use lib.ListN.{length, take, drop}
+use lib.ListN.{length, drop, length-take}
 use lib.Seq.{drop-cons}
 use Rattle.definitions.specs.Limits.{textWidth, slotWidth}
 use Rattle.definitions.specs.Bytes.{byte, part, sameBytes, filled}
-use Rattle.definitions.specs.Terms.{Text, Term, Entry, datatype, termKind, bodyWidth, uriText, ofTermKind, bodyOf, recordOf, slotOf, readTerm, readEntry, sameTerm, sameProperty}
-use Rattle.laws.proofs.Tests.{isTrue, trueIs}
+use Rattle.definitions.specs.Terms.{Text, Term, Entry, datatype, termKind, bodyWidth, uriText, ofTermKind, recordOf, slotOf, readTerm, readEntry, sameTerm, sameProperty}
+use Rattle.laws.proofs.Tests.{isTrue}
 use Rattle.laws.proofs.Options.{some-is}
 use Rattle.laws.proofs.Bytes.{AreBytes, part-bytes}
 use Rattle.laws.proofs.Same.{same-bytes, bytes-refl, same-term, term-refl}
 use Rattle.laws.proofs.Valid.{term-valid, uri-inv}
-use Rattle.laws.proofs.Slots.{body-inv, kind-inv, slot-one}
+use Rattle.laws.proofs.Slots.{body-inv, kind-inv, slot-one, width-fits}
 use Rattle.laws.proofs.RecordsAt.{TermAt, term-inv, EntryAt, entry-inv}
 use Rattle.records.specs.declared.Read.the-variants.{Next}
 use Rattle.records.specs.Answers.{isSome, nextOf, widthOf, sameIn}
-use Rattle.records.proofs.OptionLaws.{is-some, next-some, next-got}
+use Rattle.records.proofs.OptionLaws.{is-some, next-got}
 use Rattle.records.proofs.PartLaws.{some-part, part-length}
 
 -- a test that holds where another does
@@ -66,16 +66,27 @@ module _ (s : List ℕ) (at : ℕ) (g : isSome (readTerm s at) ≡ true) where
 
 -- ── equal terms have equal bytes ────────────────────────────────────────────────────────────
 
--- a record, read and written
-record-bytes : (s : List ℕ) → AreBytes s → (at : ℕ) (t : Term) (n : ℕ) → readTerm s at ≡ some (t, n) → part s at (n - at) ≡ recordOf t
-record-bytes s h at t n e =
-    let r = term-inv s at t n e in
-    let w = bodyWidth (r .datatype) in
-    let long : n - at ≡ suc w = omega (arith, r .ends) in
-    let b = body-inv (part s (at + 1) w) t (r .datatype) (part-length s (at + 1) w (omega (arith, r .ends, r .fits))) (part-bytes s (at + 1) w h) (r .body) in
-    let first : byte s at ≡ termKind (datatype t) = sym (ap termKind (b .kind) ∙ kind-inv (byte s at) (r .datatype) (r .kind)) in
-    let body : part s (suc at) w ≡ bodyOf t = ap (λ (k : ℕ). part s k w) (sym (add-one at)) ∙ sym (b .bytes) in
-    rw (long, drop-cons s at 0 (omega (arith, r .ends, r .fits))) (ap₂ _∷_ first body)
+module _ (s : List ℕ) (h : AreBytes s) (at : ℕ) (t : Term) (n : ℕ) (e : readTerm s at ≡ some (t, n)) where
+  -- a record, read and written
+  pub record-parts : byte s at ∷ part s (at + 1) (n - (at + 1)) ≡ recordOf t
+  record-parts =
+      let r = term-inv s at t n e in
+      let w = bodyWidth (r .datatype) in
+      let long : n - (at + 1) ≡ w = omega (arith, r .ends) in
+      let b = body-inv (part s (at + 1) w) t (r .datatype) (part-length s (at + 1) w (omega (arith, r .ends, r .fits))) (part-bytes s (at + 1) w h) (r .body) in
+      let first : byte s at ≡ termKind (datatype t) = sym (ap termKind (b .kind) ∙ kind-inv (byte s at) (r .datatype) (r .kind)) in
+      rw long (ap₂ _∷_ first (sym (b .bytes)))
+
+  record-bytes : part s at (n - at) ≡ recordOf t
+  record-bytes =
+      let r = term-inv s at t n e in
+      let long : n - at ≡ suc (n - (at + 1)) = omega (arith, r .ends) in
+      rw (long, drop-cons s at 0 (omega (arith, r .ends, r .fits)), ← add-one at) record-parts
+
+  pub record-short : length (part s (at + 1) (n - (at + 1))) < slotWidth
+  record-short =
+      let r = term-inv s at t n e in
+      omega (arith, r .ends, width-fits (r .datatype), length-take (n - (at + 1)) (drop (at + 1) s))
 
 pub same-terms : (s : List ℕ) → AreBytes s → (a b m n : ℕ) {r : Bool} → Next m ≡ nextOf (readTerm s a) → Next n ≡ nextOf (readTerm s b)
     → Compared (part s a (m - a)) (part s b (n - b)) r → r ≡ sameIn sameTerm (readTerm s a) (readTerm s b)

@@ -7,8 +7,9 @@ use lib.Dec.{eqb, leb}
 use lib.ListN.{length}
 use Rattle.definitions.specs.Bytes.{Got, onward}
 use Rattle.definitions.specs.Lists.{some?, distinct}
-use Rattle.definitions.specs.Types.{Datatype}
-use Rattle.definitions.specs.Terms.{Term, between, bodyWidth, termOfBody, bodyAt}
+use Rattle.definitions.specs.Types.{Datatype, datatypeCode, typeCode}
+use Rattle.definitions.specs.Terms.{Text, Term, Schema, between, bodyWidth, termOfBody, bodyAt, datatypeIn, sortOf}
+use Rattle.laws.proofs.Sorts.{least}
 use Rattle.records.specs.declared.Counted.{Counted}
 use Rattle.records.specs.declared.Counted.the-variants as Counts
 use Rattle.records.specs.declared.Read.{Read}
@@ -67,3 +68,21 @@ module _ {A : Type 0} (same : A → A → Bool) where
   unfoldable pub distinctIn : Option (List A) → Bool
   distinctIn none = false
   distinctIn (some xs) = distinct same xs
+
+-- ── datatypes and types by their codes ──────────────────────────────────────────────────────
+
+-- 0 for none
+unfoldable pub codeOf : Option Datatype → ℕ
+codeOf none = 0
+codeOf (some d) = datatypeCode d
+
+unfoldable pub schemaCode : Option Schema → Option Text → ℕ
+schemaCode none u = 0
+schemaCode (some S) none = 0
+schemaCode (some S) (some u) = codeOf (datatypeIn S u)
+
+-- 1 for a URI that is no schema URI, 9 to 13 for one that is, else a literal's datatype
+unfoldable pub leastCode : Option Schema → Option Term → ℕ
+leastCode none t = 0
+leastCode (some S) none = 0
+leastCode (some S) (some t) = typeCode (least (sortOf S t))

@@ -2,8 +2,11 @@
 pub mod bodies;
 pub mod fields;
 pub mod lists;
+pub mod numbering;
 pub mod numbers;
 pub mod reading;
+pub mod schema;
+pub mod table;
 
 // The offset after what was read.
 pub enum Read {
@@ -15,4 +18,10 @@ pub enum Read {
 pub enum Counted {
     Count(usize),
     Malformed,
+}
+
+// How many terms a term table then holds, or that it has no room for all.
+pub enum Added {
+    Count(usize),
+    Full,
 }

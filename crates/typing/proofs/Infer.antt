@@ -21,7 +21,8 @@ use Rattle.laws.proofs.Agree.{passes-if}
 use Rattle.laws.proofs.Ranges.{every-in, split}
 use Rattle.laws.proofs.Typings.{Allowed as AllowedBy, Fits, IsTyping, IsGreatest, Says, fits-length, fits-at, fits-of, above-at, above-of, verdict-is}
 use Rattle.typing.specs.Demands.{scriptDemands}
-use Rattle.typing.specs.Tables.{Tables, flag, ownNode, rangeNode, edgeAt, fresh, writtenPlace, place, allNoted}
+use Rattle.typing.specs.declared.noting.Tables.{Tables}
+use Rattle.typing.specs.Tables.{flag, ownNode, rangeNode, edgeAt, fresh, writtenPlace, place, allNoted}
 use Rattle.typing.specs.Infer.{allBelow, isOpen, chosen, ofFamily, made, root, apart, settled, tight, decided, best, bestTypes, readOff, infer}
 use Rattle.typing.proofs.Demands.{nameType, script-met}
 use Rattle.typing.proofs.Tables.{Environment, Satisfies, Open, Sound}

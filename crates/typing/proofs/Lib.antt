@@ -5,3 +5,5 @@ pub mod Tables
 pub mod Noted
 pub mod Solve
 pub mod Infer
+pub mod CodeLaws
+pub mod TableLaws

@@ -17,7 +17,8 @@ use Rattle.laws.proofs.Agree.{both-pass}
 use Rattle.laws.proofs.Ranges.{split}
 use Rattle.typing.specs.Family.{family, ownDatatype}
 use Rattle.typing.specs.Demands.{Node, Demand, same, property}
-use Rattle.typing.specs.Tables.{Tables, flag, ownNode, rangeNode, fresh, merged, withLow, withHigh, withEdge, Place, variable, known, writtenPlace, placeNode, atMost, asProperty, atLeast, edge, impossible, related, place, nodeAt, noted, allNoted}
+use Rattle.typing.specs.declared.noting.Tables.{Tables}
+use Rattle.typing.specs.Tables.{flag, ownNode, rangeNode, fresh, merged, withLow, withHigh, withEdge, Place, variable, known, writtenPlace, placeNode, atMost, asProperty, atLeast, edge, impossible, related, place, nodeAt, noted, allNoted}
 use Rattle.typing.specs.Infer.{root}
 use Rattle.typing.proofs.Family.{isRange, isProperty, property-any, family-below, leq-family, leq-at-most, leq-at-least}
 use Rattle.typing.proofs.Demands.{nameType, nodeDatatype, met, allMet}

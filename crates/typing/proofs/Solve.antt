@@ -13,7 +13,8 @@ use Rattle.laws.proofs.Tests.{andLeft, andRight, andMake, orCases, orLeft, orRi
 use Rattle.laws.proofs.Order.{same-datatype}
 use Rattle.laws.proofs.Ranges.{split}
 use Rattle.typing.specs.Family.{family, ownDatatype}
-use Rattle.typing.specs.Tables.{Tables, flag, ownNode, rangeNode}
+use Rattle.typing.specs.declared.noting.Tables.{Tables}
+use Rattle.typing.specs.Tables.{flag, ownNode, rangeNode}
 use Rattle.typing.specs.Infer.{ofFamily, made, root, apart}
 use Rattle.typing.proofs.Family.{isRange, rangeOr, family-below, datatype-trans, leq-family, not-between, leq-within, leq-at-most, leq-at-least, leq-ranges, leq-datatypes, own-leq, range-leq}
 use Rattle.typing.proofs.UnionFind.{root-below, root-root, root-zero}

@@ -14,7 +14,8 @@ use Rattle.definitions.specs.Types.{Datatype, decimal, integer, Ty, leqDatatype
 use Rattle.definitions.specs.Typing.{Written, unbound, undecided}
 use Rattle.typing.specs.Family.{family, ownDatatype}
 use Rattle.typing.specs.UnionFind.{Forest}
-use Rattle.typing.specs.Tables.{Tables, flag, ownNode, rangeNode, edgeAt, merged, withLow, withHigh, withProperty, withEdge, when}
+use Rattle.typing.specs.declared.noting.Tables.{Tables}
+use Rattle.typing.specs.Tables.{flag, ownNode, rangeNode, edgeAt, merged, withLow, withHigh, withProperty, withEdge, when}
 use Rattle.typing.specs.Infer.{root}
 use Rattle.typing.proofs.Family.{isRange, rangeOr, family-below}
 use Rattle.typing.proofs.UnionFind.{Respects, merge-forest, merge-keeps, merge-joins, respects-merge, respects-before, respects-joined}

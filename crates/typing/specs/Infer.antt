@@ -12,7 +12,8 @@ use Rattle.definitions.specs.Scope.{variables}
 use Rattle.definitions.specs.Typing.{Written, unbound, undecided, fixed, Verdict, noTyping, noGreatest, greatest}
 use Rattle.typing.specs.Demands.{scriptDemands}
 use Rattle.typing.specs.UnionFind.{rootIn}
-use Rattle.typing.specs.Tables.{Tables, flag, ownNode, rangeNode, edgeAt, fresh, allNoted}
+use Rattle.typing.specs.declared.noting.Tables.{Tables}
+use Rattle.typing.specs.Tables.{flag, ownNode, rangeNode, edgeAt, fresh, allNoted}
 
 -- every number below n passes
 unfoldable pub allBelow : ℕ → (ℕ → Bool) → Bool

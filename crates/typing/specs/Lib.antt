@@ -3,3 +3,4 @@ pub mod Demands
 pub mod UnionFind
 pub mod Tables
 pub mod Infer
+pub mod Codes

@@ -12,6 +12,7 @@ use Rattle.laws.proofs.Sorts.{least}
 use Rattle.typing.specs.Family.{family, ownDatatype}
 use Rattle.typing.specs.Demands.{Node, Demand, same, property}
 use Rattle.typing.specs.UnionFind.{mergeIn, upFrom}
+use Rattle.typing.specs.declared.noting.Tables.{Tables}
 
 -- ── the tables ──────────────────────────────────────────────────────────────────────────────
 
@@ -25,19 +26,7 @@ ownNode x = 4 + x
 abbrev pub rangeNode : ℕ → ℕ
 rangeNode x = 20 + x
 
--- the union-find of the nodes
-pub record Families : Type 0 where
-  pub parents : List ℕ
-
--- Flags, for each variable: its datatype has to be integer; its range has to be decimal; its type has to be a range.
--- For each pair of variables: the first one is a property, and the second one its object.
-pub record Tables : Type 0 where
-  pub families : Families
-  pub low : List Bool
-  pub high : List Bool
-  pub property : List Bool
-  pub edges : List Bool
-
+-- `Tables` and `Families` are the structs of the code: flags for each variable, and for each pair of variables
 abbrev pub flag : List Bool → ℕ → Bool
 flag l k = getD l k false
 

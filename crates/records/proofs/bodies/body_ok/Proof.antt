@@ -1,104 +1,78 @@
+-- `records::bodies::body_ok` meets its contract.
 use native.Mathlib.Omega.{arith}
-use mathlib.Core.Path.{refl, sym, _∙_}
+use mathlib.Core.Path.{refl}
 use lib.ListN.{length-take, length-drop}
+use borrow.Author.Needs.{needs}
 use Rattle.definitions.specs.Bytes.{onward}
 use Rattle.definitions.specs.Terms.{Term, termOfBody}
 use Rattle.records.specs.Answers.{widthOf, bodyTerm}
 use Rattle.records.proofs.BodyLaws.{kind-others, none-of, uri-long, string-long, uri-is, tag-bad, string-is, number-long, number-is}
-use borrow.Author.Needs.{needs}
 use Rattle.records.proofs.bodies.body_ok.Statement.{statement}
 use Rattle.records.proofs.bodies.body_ok.Tie as tie
-use Rattle.records.proofs.bodies.body_ok.Reads as reads
-use Rattle.records.proofs.bodies.body_ok.Lts as lts
-use Rattle.records.proofs.fields.tag_ok.Reads as tag-ok-reads
-use Rattle.records.proofs.fields.text_ok.Reads as text-ok-reads
-use Rattle.records.proofs.fields.uri_ok.Reads as uri-ok-reads
-use Rattle.records.proofs.numbers.long_at.Reads as long-at-reads
-use Rattle.records.proofs.numbers.within.Reads as within-reads
 
--- src/bodies.rt:42:17
 uri-ok-requires : tie.Need-uri-ok-requires
 uri-ok-requires c κs = uri-long (c .before .before .args .kind) (c .before .before .args .body .now) (c .before .before .pre) (c .match .keys1)
 
--- src/bodies.rt:44:24
 slice-aggregate-tag-ok : tie.Need-slice-aggregate-tag-ok
 slice-aggregate-tag-ok c = let h = string-long (c .before .before .before .args .kind) (c .before .before .before .args .body .now) (c .before .before .before .pre) (c .before .match .keys2) in omega (arith, length-take 8 (c .before .before .before .args .body .now))
 
--- src/bodies.rt:44:17
 tag-ok-requires : tie.Need-tag-ok-requires
 tag-ok-requires c κs = let h = string-long (c .before .before .before .args .kind) (c .before .before .before .args .body .now) (c .before .before .before .pre) (c .before .match .keys2) in omega (arith, length-take 8 (c .before .before .before .args .body .now))
 
--- src/bodies.rt:45:17
 returns : tie.Need-returns
 returns c = tag-bad (c .before .before .before .before .before .args .kind) (c .before .before .before .before .before .args .body .now) (c .before .before .before .before .before .pre) (c .before .before .before .match .keys2) (c .before .tag-ok .ensures) (c .if1 .taken)
 
--- src/bodies.rt:47:21
 sub-text-ok : tie.Need-sub-text-ok
 sub-text-ok c = let h = string-long (c .before .before .before .before .before .args .kind) (c .before .before .before .before .before .args .body .now) (c .before .before .before .before .before .pre) (c .before .before .before .match .keys2) in omega arith
 
--- src/bodies.rt:47:21
 part-text-ok-start : tie.Need-part-text-ok-start
 part-text-ok-start c = let h = string-long (c .before .before .before .before .before .args .kind) (c .before .before .before .before .before .args .body .now) (c .before .before .before .before .before .pre) (c .before .before .before .match .keys2) in omega arith
 
--- src/bodies.rt:47:21
 part-text-ok-end : tie.Need-part-text-ok-end
 part-text-ok-end c = search needs
 
--- src/bodies.rt:47:13
 text-ok-requires : tie.Need-text-ok-requires
 text-ok-requires c κs = let h = string-long (c .before .before .before .before .before .before .args .kind) (c .before .before .before .before .before .before .args .body .now) (c .before .before .before .before .before .before .pre) (c .before .before .before .before .match .keys2) in simp (length-take, length-drop) (omega arith)
 
--- src/bodies.rt:49:24
 long-at-requires : tie.Need-long-at-requires
 unfolding widthOf
 long-at-requires c κs = let h = number-long (c .before .before .args .kind) (c .before .before .args .body .now) (c .before .before .pre) 0x13 (c .match .keys3) refl in omega arith
 
--- src/bodies.rt:49:17
 within-requires : tie.Need-within-requires
 within-requires c κs = search needs
 
--- src/bodies.rt:50:24
 long-at-requires-2 : tie.Need-long-at-requires-2
 unfolding widthOf
 long-at-requires-2 c κs = let h = number-long (c .before .before .args .kind) (c .before .before .args .body .now) (c .before .before .pre) 0x14 (c .match .keys4) refl in omega arith
 
--- src/bodies.rt:50:17
 within-requires-2 : tie.Need-within-requires-2
 within-requires-2 c κs = search needs
 
--- src/bodies.rt:51:24
 long-at-requires-3 : tie.Need-long-at-requires-3
 unfolding widthOf
 long-at-requires-3 c κs = let h = number-long (c .before .before .args .kind) (c .before .before .args .body .now) (c .before .before .pre) 0x15 (c .match .keys5) refl in omega arith
 
--- src/bodies.rt:51:17
 within-requires-3 : tie.Need-within-requires-3
 within-requires-3 c κs = search needs
 
--- src/bodies.rt:37:1
 returns-2 : tie.Need-returns-2
 returns-2 c = uri-is (c .before .before .before .args .kind) (c .before .before .before .args .body .now) (c .before .before .before .pre) (c .before .match .keys1) (c .uri-ok .ensures)
 
--- src/bodies.rt:37:1
 returns-3 : tie.Need-returns-3
 returns-3 c = string-is (c .before .before .before .before .before .before .before .args .kind) (c .before .before .before .before .before .before .before .args .body .now) (c .before .before .before .before .before .before .before .pre) (c .before .before .before .before .before .match .keys2) (c .before .before .before .tag-ok .ensures) (c .before .before .if1 .left) (c .text-ok .ensures)
 
--- src/bodies.rt:37:1
 returns-4 : tie.Need-returns-4
 unfolding widthOf bodyTerm onward termOfBody
 returns-4 c = number-is (c .before .before .before .before .args .kind) (c .before .before .before .before .args .body .now) (c .before .before .before .before .pre) 0x13 (c .before .before .match .keys3) refl _ _ _ (λ n. Term.integer n) refl (c .before .long-at .ensures) (c .within .ensures)
 
--- src/bodies.rt:37:1
 returns-5 : tie.Need-returns-5
 unfolding widthOf bodyTerm onward termOfBody
 returns-5 c = number-is (c .before .before .before .before .args .kind) (c .before .before .before .before .args .body .now) (c .before .before .before .before .pre) 0x14 (c .before .before .match .keys4) refl _ _ _ (λ n. Term.decimal n) refl (c .before .long-at2 .ensures) (c .within2 .ensures)
 
--- src/bodies.rt:37:1
 returns-6 : tie.Need-returns-6
 unfolding widthOf bodyTerm onward termOfBody
 returns-6 c = number-is (c .before .before .before .before .args .kind) (c .before .before .before .before .args .body .now) (c .before .before .before .before .pre) 0x15 (c .before .before .match .keys5) refl _ _ _ (λ n. Term.dateTime n) refl (c .before .long-at3 .ensures) (c .within3 .ensures)
 
--- src/bodies.rt:37:1
 returns-7 : tie.Need-returns-7
 returns-7 c = let n = c .match .rest in none-of (c .before .before .args .kind) (c .before .before .args .body .now) (c .before .before .pre) (kind-others (c .before .before .args .kind) (n .0 .0 .0 .0 .1) (n .0 .0 .0 .1) (n .0 .0 .1) (n .0 .1) (n .1))
 

@@ -1,38 +1,29 @@
-use borrow.Author.Needs.{needs}
+-- `records::bodies::body_width` meets its contract.
 use native.Mathlib.Omega.{arith}
-use mathlib.Core.Path.{refl, sym}
+use borrow.Author.Needs.{needs}
 use Rattle.records.specs.Answers.{widthOf}
 use Rattle.records.proofs.BodyLaws.{kind-numbers, kind-below, kind-above}
-use borrow.Author.Needs.{needs}
 use Rattle.records.proofs.bodies.body_width.Statement.{statement}
 use Rattle.records.proofs.bodies.body_width.Tie as tie
-use Rattle.records.proofs.bodies.body_width.Reads as reads
-use Rattle.records.proofs.bodies.body_width.Lts as lts
 
--- src/bodies.rt:30:17
 add-result : tie.Need-add-result
 add-result c = search needs
 
--- src/bodies.rt:25:1
 returns : tie.Need-returns
 unfolding widthOf
 returns c = rw (c .match .keys1)
 
--- src/bodies.rt:25:1
 returns-2 : tie.Need-returns-2
 unfolding widthOf
 returns-2 c = rw (c .match .keys2)
 
--- src/bodies.rt:25:1
 returns-3 : tie.Need-returns-3
 returns-3 c = kind-numbers (c .before .before .before .args .kind) (omega arith) (omega arith)
 
--- src/bodies.rt:25:1
 returns-4 : tie.Need-returns-4
 unfolding widthOf
 returns-4 c = rw (kind-below (c .before .before .args .kind) (c .before .match .rest .0 .1) (c .before .match .rest .1) (omega arith))
 
--- src/bodies.rt:25:1
 returns-5 : tie.Need-returns-5
 unfolding widthOf
 returns-5 c = rw (kind-above (c .before .before .before .args .kind) (omega arith))

@@ -1,19 +1,15 @@
+-- `records::fields::byte_ok` meets its contract.
 use mathlib.Core.Path.{sym}
 use Rattle.records.proofs.FieldLaws.{range-other, range-low, range-high}
 use Rattle.records.proofs.fields.byte_ok.Statement.{statement}
 use Rattle.records.proofs.fields.byte_ok.Tie as tie
-use Rattle.records.proofs.fields.byte_ok.Reads as reads
-use Rattle.records.proofs.fields.byte_ok.Lts as lts
 
--- src/fields.rt:15:9
 returns : tie.Need-returns
 returns c = sym (range-other _ _ _ _ (c .if1 .taken))
 
--- src/fields.rt:18:9
 returns-2 : tie.Need-returns-2
 returns-2 c = sym (range-low _ _ _ _ (c .before .if1 .left) (c .if2 .taken))
 
--- src/fields.rt:11:1
 returns-3 : tie.Need-returns-3
 returns-3 c = sym (range-high _ _ _ _ (c .before .if1 .left) (c .if2 .left))
 

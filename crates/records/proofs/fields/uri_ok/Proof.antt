@@ -1,25 +1,19 @@
+-- `records::fields::uri_ok` meets its contract.
 use mathlib.Core.Path.{sym, _∙_}
-use Rattle.records.proofs.FieldLaws.{field-of-width, uri-bytes, uri-empty, uri-some}
 use borrow.Author.Needs.{needs}
+use Rattle.records.proofs.FieldLaws.{field-of-width, uri-bytes, uri-empty, uri-some}
 use Rattle.records.proofs.fields.uri_ok.Statement.{statement}
 use Rattle.records.proofs.fields.uri_ok.Tie as tie
-use Rattle.records.proofs.fields.uri_ok.Reads as reads
-use Rattle.records.proofs.fields.uri_ok.Lts as lts
-use Rattle.records.proofs.fields.field_ok.Reads as field-ok-reads
 
--- src/fields.rt:46:8
 shared-slice-read-if1 : tie.Need-shared-slice-read-if1
 shared-slice-read-if1 c = search needs
 
--- src/fields.rt:47:9
 returns : tie.Need-returns
 returns c = sym (uri-empty (c .before .before .before .args .field .now) (c .if1 .taken))
 
--- src/fields.rt:49:5
 field-ok-requires : tie.Need-field-ok-requires
 field-ok-requires c κs = search needs
 
--- src/fields.rt:42:1
 returns-2 : tie.Need-returns-2
 returns-2 c = field-of-width _ _ _ _ (c .before .before .before .before .pre) uri-bytes (c .field-ok .ensures) ∙ uri-some (c .before .before .before .before .args .field .now) (c .before .if1 .left)
 

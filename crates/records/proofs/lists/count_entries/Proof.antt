@@ -1,17 +1,15 @@
+-- `records::lists::count_entries` meets its contract. The loop keeps what is asked of the rest equal to what is asked of the whole.
 use Prim.Native.Nat.{_≤_, _-_}
-use borrow.Author.Needs.{needs}
 use native.Mathlib.Omega.{arith}
-use mathlib.Core.Path.{_≡_, refl, sym, ap, _∙_}
+use mathlib.Core.Path.{_≡_, sym, ap, _∙_}
+use borrow.Author.Needs.{needs}
 use lib.ListN.{length}
 use Rattle.definitions.specs.Terms.{readEntry, readSchema}
-use Rattle.laws.proofs.RecordsAt.{recordsAt, entry-forward, schema-at}
 use Rattle.records.specs.Answers.{countOf}
+use Rattle.laws.proofs.RecordsAt.{recordsAt, entry-forward, schema-at}
 use Rattle.records.proofs.ListLaws.{countFrom, count-zero, count-end, count-bad, count-next, next-after}
 use Rattle.records.proofs.lists.count_entries.Statement.{statement}
 use Rattle.records.proofs.lists.count_entries.Tie as tie
-use Rattle.records.proofs.lists.count_entries.Reads as reads
-use Rattle.records.proofs.lists.count_entries.Lts as lts
-use Rattle.records.proofs.reading.read_entry.Reads as read-entry-reads
 
 abbrev Inv-loop : tie.InvT-loop
 Inv-loop s n₀ at₀ n at = (n ≤ at) × (at ≤ length s) × (countOf (readSchema s) ≡ countFrom n (recordsAt readEntry s at))
@@ -19,39 +17,30 @@ Inv-loop s n₀ at₀ n at = (n ≤ at) × (at ≤ length s) × (countOf (readSc
 abbrev μ-loop : tie.MeasureT-loop
 μ-loop s n₀ at₀ n at = length s - at
 
--- src/lists.rt:34:5
 loop-holds : tie.Need-loop-holds Inv-loop μ-loop
 loop-holds c = (omega arith, omega arith, ap countOf (schema-at (c .before .args .s .now)) ∙ count-zero _)
 
--- src/lists.rt:35:32
 read-entry-requires : tie.Need-read-entry-requires Inv-loop μ-loop
 read-entry-requires c κs = search needs
 
--- src/lists.rt:35:24
 enum-known-next : tie.Need-enum-known-next Inv-loop μ-loop
 enum-known-next c = search needs
 
--- src/lists.rt:36:13
 enum-told : tie.Need-enum-told Inv-loop μ-loop
 enum-told c = search needs
 
--- src/lists.rt:36:13
 returns : tie.Need-returns Inv-loop μ-loop
 returns c = sym (c .before .before .before .before .loop .inv .2 ∙ count-bad readEntry entry-forward _ _ (c .before .before .before .loop-test .taken) (c .before .before .read-entry .ensures) _ (c .enum-told .given .1))
 
--- src/lists.rt:39:9
 add-n : tie.Need-add-n Inv-loop μ-loop
 add-n c = omega arith
 
--- src/lists.rt:34:5
 loop-less : tie.Need-loop-less Inv-loop μ-loop
 loop-less c = omega (arith, next-after readEntry entry-forward _ _ (c .before .before .before .before .loop-test .taken) (c .before .before .before .read-entry .ensures) (c .before .next .given .1))
 
--- src/lists.rt:34:5
 loop-again : tie.Need-loop-again Inv-loop μ-loop
 loop-again c = let a = next-after readEntry entry-forward _ _ (c .before .before .before .before .loop-test .taken) (c .before .before .before .read-entry .ensures) (c .before .next .given .1) in (omega arith, omega arith, c .before .before .before .before .before .loop .inv .2 ∙ count-next readEntry entry-forward _ _ (c .before .before .before .before .loop-test .taken) (c .before .before .before .read-entry .ensures) (c .before .next .given .1) _)
 
--- src/lists.rt:29:1
 returns-2 : tie.Need-returns-2 Inv-loop μ-loop
 returns-2 c = sym (c .before .loop .inv .2 ∙ count-end readEntry entry-forward _ _ _ (c .loop-test .left))
 

@@ -1,20 +1,17 @@
-use Prim.Native.Nat.{_≤_, _-_}
-use borrow.Author.Needs.{needs}
+-- `records::lists::properties_distinct` meets its contract. The loop keeps what is asked of the rest equal to what is asked of the whole.
+use Prim.Native.Nat.{_-_}
 use native.Mathlib.Omega.{arith}
 use mathlib.Core.Bool.{true}
-use mathlib.Core.Path.{_≡_, refl, sym, ap, _∙_}
+use mathlib.Core.Path.{_≡_, sym, ap, _∙_}
+use borrow.Author.Needs.{needs}
 use lib.ListN.{length}
 use Rattle.definitions.specs.Terms.{sameProperty, readEntry, readSchema}
-use Rattle.laws.proofs.RecordsAt.{recordsAt, entry-forward, schema-at}
 use Rattle.records.specs.Answers.{isSome, distinctIn}
+use Rattle.laws.proofs.RecordsAt.{recordsAt, entry-forward, schema-at}
 use Rattle.records.proofs.ListLaws.{counted-some, counted-none, good-one, good-after, good-rest, distinct-not, distinct-rest, distinct-end}
 use Rattle.records.proofs.SameLaws.{entry-inside, entry-ends}
 use Rattle.records.proofs.lists.properties_distinct.Statement.{statement}
 use Rattle.records.proofs.lists.properties_distinct.Tie as tie
-use Rattle.records.proofs.lists.properties_distinct.Reads as reads
-use Rattle.records.proofs.lists.properties_distinct.Lts as lts
-use Rattle.records.proofs.lists.count_entries.Reads as count-entries-reads
-use Rattle.records.proofs.lists.property_again.Reads as property-again-reads
 
 abbrev Inv-loop : tie.InvT-loop
 Inv-loop s at₀ at = (isSome (recordsAt readEntry s at) ≡ true) × (distinctIn sameProperty (readSchema s) ≡ distinctIn sameProperty (recordsAt readEntry s at))
@@ -22,46 +19,36 @@ Inv-loop s at₀ at = (isSome (recordsAt readEntry s at) ≡ true) × (distinctI
 abbrev μ-loop : tie.MeasureT-loop
 μ-loop s at₀ at = length s - at
 
--- src/lists.rt:144:29
 count-entries-requires : tie.Need-count-entries-requires Inv-loop μ-loop
 count-entries-requires c κs = search needs
 
 enum-told : tie.Need-enum-told Inv-loop μ-loop
 enum-told c = search needs
 
--- src/lists.rt:145:9
 enum-told-2 : tie.Need-enum-told-2 Inv-loop μ-loop
 enum-told-2 c = search needs
 
--- src/lists.rt:145:9
 returns : tie.Need-returns Inv-loop μ-loop
 returns c = sym (counted-none sameProperty _ (sym (c .before .before .count-entries .ensures) ∙ c .enum-told2 .given .1))
 
--- src/lists.rt:148:5
 loop-holds : tie.Need-loop-holds Inv-loop μ-loop
 loop-holds c = (ap isSome (sym (schema-at (c .before .before .before .before .args .s .now))) ∙ counted-some _ (sym (c .before .before .count-entries .ensures) ∙ c .enum-told .given .1), ap (distinctIn sameProperty) (schema-at (c .before .before .before .before .args .s .now)))
 
--- src/lists.rt:149:20
 add-next : tie.Need-add-next Inv-loop μ-loop
 add-next c = omega (arith, entry-inside _ _ (good-one readEntry entry-forward _ _ (c .before .loop .inv .0) (c .loop-test .taken)))
 
--- src/lists.rt:150:12
 property-again-requires : tie.Need-property-again-requires Inv-loop μ-loop
 property-again-requires c κs = (good-one readEntry entry-forward _ _ (c .before .loop .inv .0) (c .loop-test .taken), good-rest readEntry entry-forward _ _ (c .before .loop .inv .0) (c .loop-test .taken) (entry-ends _ _ (good-one readEntry entry-forward _ _ (c .before .loop .inv .0) (c .loop-test .taken))))
 
--- src/lists.rt:151:13
 returns-2 : tie.Need-returns-2 Inv-loop μ-loop
 returns-2 c = sym (c .before .before .before .loop .inv .1 ∙ distinct-not readEntry entry-forward _ _ (c .before .before .before .loop .inv .0) (c .before .before .loop-test .taken) (entry-ends _ _ (good-one readEntry entry-forward _ _ (c .before .before .before .loop .inv .0) (c .before .before .loop-test .taken))) _ (sym (c .before .property-again .ensures) ∙ c .if1 .taken))
 
--- src/lists.rt:148:5
 loop-less : tie.Need-loop-less Inv-loop μ-loop
 loop-less c = omega (arith, good-after readEntry entry-forward _ _ (c .before .before .before .loop .inv .0) (c .before .before .loop-test .taken) (entry-ends _ _ (good-one readEntry entry-forward _ _ (c .before .before .before .loop .inv .0) (c .before .before .loop-test .taken))))
 
--- src/lists.rt:148:5
 loop-again : tie.Need-loop-again Inv-loop μ-loop
 loop-again c = (good-rest readEntry entry-forward _ _ (c .before .before .before .loop .inv .0) (c .before .before .loop-test .taken) (entry-ends _ _ (good-one readEntry entry-forward _ _ (c .before .before .before .loop .inv .0) (c .before .before .loop-test .taken))), c .before .before .before .loop .inv .1 ∙ distinct-rest readEntry entry-forward _ _ (c .before .before .before .loop .inv .0) (c .before .before .loop-test .taken) (entry-ends _ _ (good-one readEntry entry-forward _ _ (c .before .before .before .loop .inv .0) (c .before .before .loop-test .taken))) _ (sym (c .before .property-again .ensures) ∙ c .if1 .left))
 
--- src/lists.rt:141:1
 returns-3 : tie.Need-returns-3 Inv-loop μ-loop
 returns-3 c = sym (c .before .loop .inv .1 ∙ distinct-end readEntry entry-forward _ _ _ (c .loop-test .left))
 

@@ -1,57 +1,43 @@
+-- `records::lists::same_property` meets its contract.
 use native.Mathlib.Omega.{arith}
-use Rattle.records.proofs.SameLaws.{entry-inside, same-properties}
 use borrow.Author.Needs.{needs}
+use Rattle.records.proofs.SameLaws.{entry-inside, same-properties}
 use Rattle.records.proofs.lists.same_property.Statement.{statement}
 use Rattle.records.proofs.lists.same_property.Tie as tie
-use Rattle.records.proofs.lists.same_property.Reads as reads
-use Rattle.records.proofs.lists.same_property.Lts as lts
-use Rattle.check.proofs.same.Reads as same-reads
 
--- src/lists.rt:117:19
 add-a-field : tie.Need-add-a-field
 add-a-field c = omega (arith, entry-inside _ _ (c .before .pre .0))
 
--- src/lists.rt:118:17
 add-a-end : tie.Need-add-a-end
 add-a-end c = omega (arith, entry-inside _ _ (c .before .pre .0))
 
--- src/lists.rt:119:19
 add-b-field : tie.Need-add-b-field
 add-b-field c = omega (arith, entry-inside _ _ (c .before .pre .1))
 
--- src/lists.rt:120:17
 add-b-end : tie.Need-add-b-end
 add-b-end c = omega (arith, entry-inside _ _ (c .before .pre .1))
 
--- src/lists.rt:121:17
 sub-same : tie.Need-sub-same
 sub-same c = search needs
 
--- src/lists.rt:121:17
 part-same-start : tie.Need-part-same-start
 part-same-start c = search needs
 
--- src/lists.rt:121:17
 part-same-end : tie.Need-part-same-end
 part-same-end c = omega (arith, entry-inside _ _ (c .before .pre .0))
 
--- src/lists.rt:121:37
 sub-same-2 : tie.Need-sub-same-2
 sub-same-2 c = search needs
 
--- src/lists.rt:121:37
 part-same-start-2 : tie.Need-part-same-start-2
 part-same-start-2 c = search needs
 
--- src/lists.rt:121:37
 part-same-end-2 : tie.Need-part-same-end-2
 part-same-end-2 c = omega (arith, entry-inside _ _ (c .before .before .pre .1))
 
--- src/lists.rt:121:5
 same-requires : tie.Need-same-requires
 same-requires c κs = search needs
 
--- src/lists.rt:112:1
 returns : tie.Need-returns
 returns c = same-properties (c .before .before .before .before .args .s .now) (c .before .before .before .before .args .a) (c .before .before .before .before .args .b) (c .before .before .before .before .pre .0) (c .before .before .before .before .pre .1) (c .same .ensures)
 

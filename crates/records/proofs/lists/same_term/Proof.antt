@@ -1,50 +1,37 @@
+-- `records::lists::same_term` meets its contract.
 use native.Mathlib.Omega.{arith}
-use Rattle.records.proofs.SameLaws.{term-next, same-terms}
 use borrow.Author.Needs.{needs}
+use Rattle.records.proofs.SameLaws.{term-next, same-terms}
 use Rattle.records.proofs.lists.same_term.Statement.{statement}
 use Rattle.records.proofs.lists.same_term.Tie as tie
-use Rattle.records.proofs.lists.same_term.Reads as reads
-use Rattle.records.proofs.lists.same_term.Lts as lts
-use Rattle.check.proofs.same.Reads as same-reads
-use Rattle.records.proofs.lists.term_end.Reads as term-end-reads
 
--- src/lists.rt:73:9
 term-end-requires : tie.Need-term-end-requires
 term-end-requires c κs = search needs
 
--- src/lists.rt:74:9
 term-end-requires-2 : tie.Need-term-end-requires-2
 term-end-requires-2 c κs = search needs
 
--- src/lists.rt:75:17
 sub-same : tie.Need-sub-same
 sub-same c = omega (arith, term-next _ _ (c .before .before .before .pre .0) (c .before .term-end .ensures))
 
--- src/lists.rt:75:17
 part-same-start : tie.Need-part-same-start
 part-same-start c = omega (arith, term-next _ _ (c .before .before .before .pre .0) (c .before .term-end .ensures))
 
--- src/lists.rt:75:17
 part-same-end : tie.Need-part-same-end
 part-same-end c = omega (arith, term-next _ _ (c .before .before .before .pre .0) (c .before .term-end .ensures))
 
--- src/lists.rt:75:31
 sub-same-2 : tie.Need-sub-same-2
 sub-same-2 c = omega (arith, term-next _ _ (c .before .before .before .before .pre .1) (c .before .term-end2 .ensures))
 
--- src/lists.rt:75:31
 part-same-start-2 : tie.Need-part-same-start-2
 part-same-start-2 c = omega (arith, term-next _ _ (c .before .before .before .before .pre .1) (c .before .term-end2 .ensures))
 
--- src/lists.rt:75:31
 part-same-end-2 : tie.Need-part-same-end-2
 part-same-end-2 c = omega (arith, term-next _ _ (c .before .before .before .before .pre .1) (c .before .term-end2 .ensures))
 
--- src/lists.rt:75:5
 same-requires : tie.Need-same-requires
 same-requires c κs = search needs
 
--- src/lists.rt:68:1
 returns : tie.Need-returns
 returns c = same-terms (c .before .before .before .before .before .before .args .s .now) (λ i. omega (arith, c .before .before .before .before .before .shared-slice-known .given i)) _ _ _ _ (c .before .before .before .before .term-end .ensures) (c .before .before .before .term-end2 .ensures) (c .same .ensures)
 

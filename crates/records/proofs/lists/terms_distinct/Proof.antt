@@ -1,20 +1,16 @@
-use Prim.Native.Nat.{_≤_, _-_}
-use borrow.Author.Needs.{needs}
+-- `records::lists::terms_distinct` meets its contract. The loop keeps what is asked of the rest equal to what is asked of the whole.
+use Prim.Native.Nat.{_-_}
 use native.Mathlib.Omega.{arith}
 use mathlib.Core.Bool.{true}
-use mathlib.Core.Path.{_≡_, refl, sym, ap, _∙_}
+use mathlib.Core.Path.{_≡_, sym, ap, _∙_}
+use borrow.Author.Needs.{needs}
 use lib.ListN.{length}
 use Rattle.definitions.specs.Terms.{sameTerm, readTerm, readTerms}
-use Rattle.laws.proofs.RecordsAt.{recordsAt, term-forward, terms-at}
 use Rattle.records.specs.Answers.{isSome, distinctIn}
+use Rattle.laws.proofs.RecordsAt.{recordsAt, term-forward, terms-at}
 use Rattle.records.proofs.ListLaws.{counted-some, counted-none, good-one, good-after, good-rest, distinct-not, distinct-rest, distinct-end}
 use Rattle.records.proofs.lists.terms_distinct.Statement.{statement}
 use Rattle.records.proofs.lists.terms_distinct.Tie as tie
-use Rattle.records.proofs.lists.terms_distinct.Reads as reads
-use Rattle.records.proofs.lists.terms_distinct.Lts as lts
-use Rattle.records.proofs.lists.count_terms.Reads as count-terms-reads
-use Rattle.records.proofs.lists.term_again.Reads as term-again-reads
-use Rattle.records.proofs.lists.term_end.Reads as term-end-reads
 
 abbrev Inv-loop : tie.InvT-loop
 Inv-loop s at₀ at = (isSome (recordsAt readTerm s at) ≡ true) × (distinctIn sameTerm (readTerms s) ≡ distinctIn sameTerm (recordsAt readTerm s at))
@@ -22,46 +18,36 @@ Inv-loop s at₀ at = (isSome (recordsAt readTerm s at) ≡ true) × (distinctIn
 abbrev μ-loop : tie.MeasureT-loop
 μ-loop s at₀ at = length s - at
 
--- src/lists.rt:98:29
 count-terms-requires : tie.Need-count-terms-requires Inv-loop μ-loop
 count-terms-requires c κs = search needs
 
 enum-told : tie.Need-enum-told Inv-loop μ-loop
 enum-told c = search needs
 
--- src/lists.rt:99:9
 enum-told-2 : tie.Need-enum-told-2 Inv-loop μ-loop
 enum-told-2 c = search needs
 
--- src/lists.rt:99:9
 returns : tie.Need-returns Inv-loop μ-loop
 returns c = sym (counted-none sameTerm _ (sym (c .before .before .count-terms .ensures) ∙ c .enum-told2 .given .1))
 
--- src/lists.rt:102:5
 loop-holds : tie.Need-loop-holds Inv-loop μ-loop
 loop-holds c = (ap isSome (sym (terms-at (c .before .before .before .before .args .s .now))) ∙ counted-some _ (sym (c .before .before .count-terms .ensures) ∙ c .enum-told .given .1), ap (distinctIn sameTerm) (terms-at (c .before .before .before .before .args .s .now)))
 
--- src/lists.rt:103:13
 term-end-requires : tie.Need-term-end-requires Inv-loop μ-loop
 term-end-requires c κs = good-one readTerm term-forward _ _ (c .before .loop .inv .0) (c .loop-test .taken)
 
--- src/lists.rt:104:12
 term-again-requires : tie.Need-term-again-requires Inv-loop μ-loop
 term-again-requires c κs = (good-one readTerm term-forward _ _ (c .before .before .loop .inv .0) (c .before .loop-test .taken), good-rest readTerm term-forward _ _ (c .before .before .loop .inv .0) (c .before .loop-test .taken) (c .term-end .ensures))
 
--- src/lists.rt:105:13
 returns-2 : tie.Need-returns-2 Inv-loop μ-loop
 returns-2 c = sym (c .before .before .before .before .loop .inv .1 ∙ distinct-not readTerm term-forward _ _ (c .before .before .before .before .loop .inv .0) (c .before .before .before .loop-test .taken) (c .before .before .term-end .ensures) _ (sym (c .before .term-again .ensures) ∙ c .if1 .taken))
 
--- src/lists.rt:102:5
 loop-less : tie.Need-loop-less Inv-loop μ-loop
 loop-less c = omega (arith, good-after readTerm term-forward _ _ (c .before .before .before .before .loop .inv .0) (c .before .before .before .loop-test .taken) (c .before .before .term-end .ensures))
 
--- src/lists.rt:102:5
 loop-again : tie.Need-loop-again Inv-loop μ-loop
 loop-again c = (good-rest readTerm term-forward _ _ (c .before .before .before .before .loop .inv .0) (c .before .before .before .loop-test .taken) (c .before .before .term-end .ensures), c .before .before .before .before .loop .inv .1 ∙ distinct-rest readTerm term-forward _ _ (c .before .before .before .before .loop .inv .0) (c .before .before .before .loop-test .taken) (c .before .before .term-end .ensures) _ (sym (c .before .term-again .ensures) ∙ c .if1 .left))
 
--- src/lists.rt:95:1
 returns-3 : tie.Need-returns-3 Inv-loop μ-loop
 returns-3 c = sym (c .before .loop .inv .1 ∙ distinct-end readTerm term-forward _ _ _ (c .loop-test .left))
 

@@ -1,5 +1,5 @@
+-- `records::numbers::is_zero` meets its contract. The loop keeps what is asked of the rest equal to what is asked of the whole.
 use Prim.Native.Nat.{_≤_, _-_}
-use borrow.Author.Needs.{needs}
 use native.Mathlib.Omega.{arith}
 use mathlib.Core.Path.{_≡_, refl, sym, _∙_}
 use lib.ListN.{length, drop}
@@ -7,8 +7,6 @@ use Rattle.definitions.specs.Bytes.{allZero}
 use Rattle.records.proofs.NumberLaws.{zero-end, zero-more, zero-not}
 use Rattle.records.proofs.numbers.is_zero.Statement.{statement}
 use Rattle.records.proofs.numbers.is_zero.Tie as tie
-use Rattle.records.proofs.numbers.is_zero.Reads as reads
-use Rattle.records.proofs.numbers.is_zero.Lts as lts
 
 abbrev Inv-loop : tie.InvT-loop
 Inv-loop s i₀ i = (i ≤ length s) × (allZero s ≡ allZero (drop i s))
@@ -16,31 +14,24 @@ Inv-loop s i₀ i = (i ≤ length s) × (allZero s ≡ allZero (drop i s))
 abbrev μ-loop : tie.MeasureT-loop
 μ-loop s i₀ i = length s - i
 
--- src/numbers.rt:65:5
 loop-holds : tie.Need-loop-holds Inv-loop μ-loop
 loop-holds c = (omega arith, refl)
 
--- src/numbers.rt:66:12
 shared-slice-read-if1 : tie.Need-shared-slice-read-if1 Inv-loop μ-loop
 shared-slice-read-if1 c = omega arith
 
--- src/numbers.rt:67:13
 returns : tie.Need-returns Inv-loop μ-loop
 returns c = sym (c .before .before .before .loop .inv .1 ∙ zero-not (c .before .before .before .before .args .s .now) (c .before .before .before .loop .i) (omega arith) (c .if1 .taken))
 
--- src/numbers.rt:69:9
 add-i : tie.Need-add-i Inv-loop μ-loop
 add-i c = omega arith
 
--- src/numbers.rt:65:5
 loop-less : tie.Need-loop-less Inv-loop μ-loop
 loop-less c = omega arith
 
--- src/numbers.rt:65:5
 loop-again : tie.Need-loop-again Inv-loop μ-loop
 loop-again c = (omega arith, c .before .before .before .loop .inv .1 ∙ zero-more (c .before .before .before .before .args .s .now) (c .before .before .before .loop .i) (omega arith) (c .if1 .left))
 
--- src/numbers.rt:61:1
 returns-2 : tie.Need-returns-2 Inv-loop μ-loop
 returns-2 c = sym (c .before .loop .inv .1 ∙ zero-end (c .before .before .args .s .now) (c .before .loop .i) (omega arith))
 

@@ -1,32 +1,25 @@
+-- `records::numbers::to_signed` meets its contract.
 use native.Mathlib.Omega.{arith}
-use Rattle.records.proofs.NumberLaws.{low-value, high-fits, high-value}
 use borrow.Author.Needs.{needs}
+use Rattle.records.proofs.NumberLaws.{low-value, high-fits, high-value}
 use Rattle.records.proofs.numbers.to_signed.Statement.{statement}
 use Rattle.records.proofs.numbers.to_signed.Tie as tie
-use Rattle.records.proofs.numbers.to_signed.Reads as reads
-use Rattle.records.proofs.numbers.to_signed.Lts as lts
 
--- src/numbers.rt:45:16
 cast-result : tie.Need-cast-result
 cast-result c = search needs
 
--- src/numbers.rt:45:9
 returns : tie.Need-returns
 returns c = low-value (c .before .args .v) (c .if1 .taken)
 
--- src/numbers.rt:47:12
 sub-result : tie.Need-sub-result
 sub-result c = search needs
 
--- src/numbers.rt:47:11
 cast-result-2 : tie.Need-cast-result-2
 cast-result-2 c = search needs
 
--- src/numbers.rt:47:5
 sub-result-2 : tie.Need-sub-result-2
 sub-result-2 c = high-fits (c .before .args .v) (c .if1 .left) (omega arith)
 
--- src/numbers.rt:41:1
 returns-2 : tie.Need-returns-2
 returns-2 c = high-value (c .before .args .v) (c .if1 .left) (omega arith)
 

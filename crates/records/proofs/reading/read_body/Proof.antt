@@ -1,56 +1,40 @@
+-- `records::reading::read_body` meets its contract.
 use native.Mathlib.Omega.{arith}
-use Rattle.records.proofs.ReadLaws.{room-fits}
-use Rattle.records.proofs.ReadLaws.{body-none, body-short, body-bad, body-next}
 use borrow.Author.Needs.{needs}
+use Rattle.records.proofs.ReadLaws.{room-fits, body-none, body-short, body-bad, body-next}
 use Rattle.records.proofs.reading.read_body.Statement.{statement}
 use Rattle.records.proofs.reading.read_body.Tie as tie
-use Rattle.records.proofs.reading.read_body.Reads as reads
-use Rattle.records.proofs.reading.read_body.Lts as lts
-use Rattle.records.proofs.bodies.body_ok.Reads as body-ok-reads
-use Rattle.records.proofs.bodies.body_width.Reads as body-width-reads
-use Rattle.records.proofs.reading.has_room.Reads as has-room-reads
 
--- src/reading.rt:44:9
 body-width-requires : tie.Need-body-width-requires
 body-width-requires c κs = search needs
 
--- src/reading.rt:46:9
 returns : tie.Need-returns
 returns c = body-none _ _ _ (c .before .body-width .ensures) (c .if1 .taken)
 
--- src/reading.rt:48:9
 has-room-requires : tie.Need-has-room-requires
 has-room-requires c κs = search needs
 
--- src/reading.rt:49:9
 returns-2 : tie.Need-returns-2
 returns-2 c = body-short _ _ (c .before .has-room .ensures) _ (c .before .before .before .body-width .ensures) (c .if2 .taken)
 
--- src/reading.rt:51:15
 add-end : tie.Need-add-end
 add-end c = omega (arith, room-fits _ _ _ (c .before .has-room .ensures) (c .if2 .left))
 
--- src/reading.rt:52:23
 sub-body-ok : tie.Need-sub-body-ok
 sub-body-ok c = search needs
 
--- src/reading.rt:52:23
 part-body-ok-start : tie.Need-part-body-ok-start
 part-body-ok-start c = search needs
 
--- src/reading.rt:52:23
 part-body-ok-end : tie.Need-part-body-ok-end
 part-body-ok-end c = omega (arith, room-fits _ _ _ (c .before .has-room .ensures) (c .if2 .left))
 
--- src/reading.rt:52:9
 body-ok-requires : tie.Need-body-ok-requires
 body-ok-requires c κs = search needs
 
--- src/reading.rt:53:9
 returns-3 : tie.Need-returns-3
 returns-3 c = body-bad _ _ (c .before .before .before .before .has-room .ensures) (c .before .before .before .if2 .left) _ (c .before .before .before .before .before .before .body-width .ensures) (c .before .body-ok .ensures) (c .if3 .taken)
 
--- src/reading.rt:41:1
 returns-4 : tie.Need-returns-4
 returns-4 c = body-next _ _ (c .before .before .before .before .has-room .ensures) (c .before .before .before .if2 .left) _ (c .before .before .before .before .before .before .body-width .ensures) (c .before .body-ok .ensures) (c .if3 .left)
 

@@ -1,76 +1,56 @@
+-- `records::reading::read_entry` meets its contract.
 use native.Mathlib.Omega.{arith}
 use mathlib.Core.Logic.{inl, inr}
-use Rattle.records.proofs.ReadLaws.{room-fits}
-use Rattle.records.proofs.ReadLaws.{entry-short, entry-kind, entry-uri, entry-code, entry-next}
 use borrow.Author.Needs.{needs}
+use Rattle.records.proofs.ReadLaws.{room-fits, entry-short, entry-kind, entry-uri, entry-code, entry-next}
 use Rattle.records.proofs.reading.read_entry.Statement.{statement}
 use Rattle.records.proofs.reading.read_entry.Tie as tie
-use Rattle.records.proofs.reading.read_entry.Reads as reads
-use Rattle.records.proofs.reading.read_entry.Lts as lts
-use Rattle.records.proofs.fields.uri_ok.Reads as uri-ok-reads
-use Rattle.records.proofs.reading.has_room.Reads as has-room-reads
 
--- src/reading.rt:72:9
 has-room-requires : tie.Need-has-room-requires
 has-room-requires c κs = search needs
 
--- src/reading.rt:73:9
 returns : tie.Need-returns
 returns c = entry-short _ _ (c .before .has-room .ensures) (c .if1 .taken)
 
--- src/reading.rt:75:8
 shared-slice-read-if2 : tie.Need-shared-slice-read-if2
 shared-slice-read-if2 c = omega (arith, room-fits _ _ _ (c .before .before .has-room .ensures) (c .before .if1 .left))
 
--- src/reading.rt:76:9
 returns-2 : tie.Need-returns-2
 returns-2 c = entry-kind _ _ (c .before .before .before .has-room .ensures) (c .before .before .if1 .left) (c .if2 .taken)
 
--- src/reading.rt:78:17
 add-start : tie.Need-add-start
 add-start c = omega (arith, room-fits _ _ _ (c .before .before .before .has-room .ensures) (c .before .before .if1 .left))
 
--- src/reading.rt:79:15
 add-end : tie.Need-add-end
 add-end c = omega (arith, room-fits _ _ _ (c .before .before .before .has-room .ensures) (c .before .before .if1 .left))
 
--- src/reading.rt:80:16
 sub-uri-ok : tie.Need-sub-uri-ok
 sub-uri-ok c = search needs
 
--- src/reading.rt:80:16
 part-uri-ok-start : tie.Need-part-uri-ok-start
 part-uri-ok-start c = search needs
 
--- src/reading.rt:80:16
 part-uri-ok-end : tie.Need-part-uri-ok-end
 part-uri-ok-end c = omega (arith, room-fits _ _ _ (c .before .before .before .has-room .ensures) (c .before .before .if1 .left))
 
--- src/reading.rt:80:9
 uri-ok-requires : tie.Need-uri-ok-requires
 uri-ok-requires c κs = search needs
 
--- src/reading.rt:81:9
 returns-3 : tie.Need-returns-3
 returns-3 c = entry-uri _ _ (c .before .before .before .before .before .before .has-room .ensures) (c .before .before .before .before .before .if1 .left) (c .before .before .before .if2 .left) (c .before .uri-ok .ensures) (c .if3 .taken)
 
--- src/reading.rt:83:20
 shared-slice-read-datatype : tie.Need-shared-slice-read-datatype
 shared-slice-read-datatype c = omega (arith, room-fits _ _ _ (c .before .before .before .before .before .before .before .has-room .ensures) (c .before .before .before .before .before .before .if1 .left))
 
--- src/reading.rt:85:29
 add-t17 : tie.Need-add-t17
 add-t17 c = omega (arith, room-fits _ _ _ (c .before .before .before .before .before .before .before .before .before .has-room .ensures) (c .before .before .before .before .before .before .before .before .if1 .left))
 
--- src/reading.rt:69:1
 returns-4 : tie.Need-returns-4
 returns-4 c = entry-next _ _ (c .before .before .before .before .before .before .before .before .before .has-room .ensures) (c .before .before .before .before .before .before .before .before .if1 .left) (c .before .before .before .before .before .before .if2 .left) (c .before .before .before .before .uri-ok .ensures) (c .before .before .before .if3 .left) (omega arith) (omega arith)
 
--- src/reading.rt:69:1
 returns-5 : tie.Need-returns-5
 returns-5 c = entry-code _ _ (c .before .before .before .before .before .before .before .before .has-room .ensures) (c .before .before .before .before .before .before .before .if1 .left) (c .before .before .before .before .before .if2 .left) (c .before .before .before .uri-ok .ensures) (c .before .before .if3 .left) (inl (omega arith))
 
--- src/reading.rt:69:1
 returns-6 : tie.Need-returns-6
 returns-6 c = entry-code _ _ (c .before .before .before .before .before .before .before .before .before .has-room .ensures) (c .before .before .before .before .before .before .before .before .if1 .left) (c .before .before .before .before .before .before .if2 .left) (c .before .before .before .before .uri-ok .ensures) (c .before .before .before .if3 .left) (inr (omega arith))
 

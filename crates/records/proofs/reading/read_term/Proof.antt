@@ -1,30 +1,23 @@
+-- `records::reading::read_term` meets its contract.
 use mathlib.Core.Path.{ap, _∙_}
+use borrow.Author.Needs.{needs}
 use Rattle.records.specs.Answers.{nextOf}
 use Rattle.records.proofs.ReadLaws.{term-out, term-is}
-use borrow.Author.Needs.{needs}
 use Rattle.records.proofs.reading.read_term.Statement.{statement}
 use Rattle.records.proofs.reading.read_term.Tie as tie
-use Rattle.records.proofs.reading.read_term.Reads as reads
-use Rattle.records.proofs.reading.read_term.Lts as lts
-use Rattle.records.proofs.reading.read_body.Reads as read-body-reads
 
--- src/reading.rt:63:9
 returns : tie.Need-returns
 returns c = term-out _ _ (c .if1 .taken)
 
--- src/reading.rt:65:15
 shared-slice-read-read-body : tie.Need-shared-slice-read-read-body
 shared-slice-read-read-body c = search needs
 
--- src/reading.rt:65:25
 add-read-body : tie.Need-add-read-body
 add-read-body c = search needs
 
--- src/reading.rt:65:5
 read-body-requires : tie.Need-read-body-requires
 read-body-requires c κs = search needs
 
--- src/reading.rt:59:1
 returns-2 : tie.Need-returns-2
 returns-2 c = c .read-body .ensures ∙ ap nextOf (term-is _ _)
 

@@ -1,75 +1,56 @@
+-- `records::reading::read_triple` meets its contract.
 use native.Mathlib.Omega.{arith}
 use mathlib.Core.Logic.{inl, inr}
-use Rattle.records.proofs.ReadLaws.{triple-out, triple-kind, triple-subject, triple-property, triple-object}
 use borrow.Author.Needs.{needs}
+use Rattle.records.proofs.ReadLaws.{triple-out, triple-kind, triple-subject, triple-property, triple-object}
 use Rattle.records.proofs.reading.read_triple.Statement.{statement}
 use Rattle.records.proofs.reading.read_triple.Tie as tie
-use Rattle.records.proofs.reading.read_triple.Reads as reads
-use Rattle.records.proofs.reading.read_triple.Lts as lts
-use Rattle.records.proofs.reading.read_body.Reads as read-body-reads
-use Rattle.records.proofs.reading.read_uri.Reads as read-uri-reads
 
--- src/reading.rt:95:9
 returns : tie.Need-returns
 returns c = triple-out _ _ (c .if1 .taken)
 
--- src/reading.rt:97:16
 shared-slice-read-kind : tie.Need-shared-slice-read-kind
 shared-slice-read-kind c = search needs
 
--- src/reading.rt:100:52
 add-read-uri : tie.Need-add-read-uri
 add-read-uri c = search needs
 
--- src/reading.rt:100:40
 read-uri-requires : tie.Need-read-uri-requires
 read-uri-requires c κs = search needs
 
--- src/reading.rt:100:28
 enum-known-property : tie.Need-enum-known-property
 enum-known-property c = search needs
 
--- src/reading.rt:101:17
 enum-told : tie.Need-enum-told
 enum-told c = search needs
 
--- src/reading.rt:101:17
 returns-2 : tie.Need-returns-2
 returns-2 c = triple-subject _ _ (c .before .before .read-uri .ensures) (c .enum-told .given .1)
 
--- src/reading.rt:103:38
 read-uri-requires-2 : tie.Need-read-uri-requires-2
 read-uri-requires-2 c κs = search needs
 
--- src/reading.rt:103:28
 enum-known-object : tie.Need-enum-known-object
 enum-known-object c = search needs
 
--- src/reading.rt:104:17
 enum-told-2 : tie.Need-enum-told-2
 enum-told-2 c = search needs
 
--- src/reading.rt:104:17
 returns-3 : tie.Need-returns-3
 returns-3 c = triple-property _ _ (c .before .before .before .before .before .before .read-uri .ensures) (c .before .before .before .before .property .given .1) (c .before .before .read-uri2 .ensures) (c .enum-told2 .given .1)
 
--- src/reading.rt:106:23
 sub-read-body : tie.Need-sub-read-body
 sub-read-body c = search needs
 
--- src/reading.rt:106:13
 read-body-requires : tie.Need-read-body-requires
 read-body-requires c κs = search needs
 
--- src/reading.rt:91:1
 returns-4 : tie.Need-returns-4
 returns-4 c = triple-object _ _ (c .before .before .before .before .before .before .before .before .read-uri .ensures) (c .before .before .before .before .before .before .property .given .1) (c .before .before .before .before .read-uri2 .ensures) (c .before .before .object .given .1) (omega arith) (c .read-body .ensures)
 
--- src/reading.rt:91:1
 returns-5 : tie.Need-returns-5
 returns-5 c = triple-kind _ _ (inl (omega arith))
 
--- src/reading.rt:91:1
 returns-6 : tie.Need-returns-6
 returns-6 c = triple-kind _ _ (inr (omega arith))
 

@@ -1,0 +1,42 @@
+-- `records::numbering::number_terms` meets its contract.
+use borrow.Author.Needs.{needs}
+use Rattle.records.proofs.NumberingLaws.{listed-full, listed-holds, listed-terms}
+use Rattle.records.proofs.numbering.number_terms.Statement.{statement}
+use Rattle.records.proofs.numbering.number_terms.Tie as tie
+
+list-terms-requires : tie.Need-list-terms-requires
+list-terms-requires c κs = search needs
+
+enum-known-listed : tie.Need-enum-known-listed
+enum-known-listed c = search needs
+
+enum-told : tie.Need-enum-told
+enum-told c = search needs
+
+same-length : tie.Need-same-length
+same-length c = search needs
+
+returns : tie.Need-returns
+returns c = listed-full _ (c .before .before .before .before .before .before .before .before .before .pre .0) (c .before .before .before .before .list-terms .ensures .0) (c .before .before .before .before .list-terms .ensures .1) _ (c .enum-told .given .1)
+
+add-properties-requires : tie.Need-add-properties-requires
+add-properties-requires c κs = (c .before .before .before .before .before .before .before .before .before .before .before .pre .1 .0, listed-holds _ (c .before .before .before .before .before .before .before .before .before .before .before .pre .0) (c .before .before .before .before .before .before .list-terms .ensures .0) (c .before .before .before .before .before .before .list-terms .ensures .1) (c .before .before .listed .given .1))
+
+same-length-2 : tie.Need-same-length-2
+same-length-2 c = search needs
+
+returns-2 : tie.Need-returns-2
+returns-2 c = rw (← listed-terms _ (c .before .before .before .before .before .before .before .before .before .before .before .before .before .before .pre .0) (c .before .before .before .before .before .before .before .before .before .list-terms .ensures .0) (c .before .before .before .before .before .before .before .before .before .list-terms .ensures .1) (c .before .before .before .before .before .listed .given .1)) (c .before .before .add-properties .ensures)
+
+pub number-terms-spec : {M : Type 1} → statement M
+number-terms-spec =
+    tie.close
+    (tie.spec
+    list-terms-requires
+    enum-known-listed
+    enum-told
+    same-length
+    returns
+    add-properties-requires
+    same-length-2
+    returns-2)

@@ -1,0 +1,15 @@
+-- `records::table::find_term` meets its contract.
+use mathlib.Core.Path.{_∙_}
+use borrow.Author.Needs.{needs}
+use Rattle.records.proofs.TableLaws.{number-start}
+use Rattle.records.proofs.table.find_term.Statement.{statement}
+use Rattle.records.proofs.table.find_term.Tie as tie
+
+find-slot-requires : tie.Need-find-slot-requires
+find-slot-requires c κs = search needs
+
+returns : tie.Need-returns
+returns c = c .find-slot .ensures ∙ number-start _ _ _ (c .before .before .before .pre .0) (c .before .before .before .pre .1)
+
+pub find-term-spec : {M : Type 1} → statement M
+find-term-spec = tie.close (tie.spec find-slot-requires returns)

@@ -1,0 +1,89 @@
+// Terms that join a term table, and the table that loading numbers.
+use crate::Added;
+use crate::lists::term_end;
+use crate::table::find_term;
+use crate::table::put_slot;
+use crate::table::slot_of;
+use definitions::TERM_LIMIT;
+ghost use mathlib.Core.Path.{_≡_};
+ghost use mathlib.Core.Bool.{true};
+ghost use lib.ListN.{replicate};
+ghost use Rattle.definitions.specs.Limits.{termTableWidth};
+ghost use Rattle.definitions.specs.Terms.{readTerms, readSchema};
+ghost use Rattle.definitions.specs.Machine.{withProperties};
+ghost use Rattle.definitions.specs.Saved.{slotTerm, termsIn};
+ghost use Rattle.records.specs.Answers.{isSome};
+ghost use Rattle.records.specs.Table.{HoldsTerms, GoodSlot, listOf, withTerm, addedOf, tableOf};
+
+// A slot's term joins a table of n terms, where it is not there.
+pub fn add_term(table: &mut [u8], n: usize, slot: &[u8]) -> Added
+    requires { ⌜ HoldsTerms (now table) n ⌝ }
+    requires { ⌜ GoodSlot (now slot) ⌝ }
+    ensures { λ r. ⌜ (r ≡ addedOf (withTerm (slotTerm (now (slot .entry))) (termsIn (now (table .entry))))) × (now (table .exit) ≡ tableOf (withTerm (slotTerm (now (slot .entry))) (termsIn (now (table .entry))))) ⌝ }
+{
+    let number = find_term(table, n, slot);
+    if number < n {
+        return Added::Count(n);
+    }
+    if TERM_LIMIT <= n {
+        return Added::Full;
+    }
+    put_slot(table, n, slot);
+    Added::Count(n + 1)
+}
+
+// Writes listed terms into a table of zeros.
+pub fn list_terms(terms: &[u8], table: &mut [u8]) -> Added
+    requires { ⌜ isSome (readTerms (now terms)) ≡ true ⌝ }
+    requires { ⌜ now table ≡ replicate termTableWidth 0 ⌝ }
+    ensures { λ r. ⌜ (r ≡ addedOf (listOf (readTerms (now (terms .entry))))) × (now (table .exit) ≡ tableOf (listOf (readTerms (now (terms .entry))))) ⌝ }
+{
+    let mut n = 0;
+    let mut at = 0;
+    while at < terms.len() {
+        if TERM_LIMIT <= n {
+            return Added::Full;
+        }
+        let end = term_end(terms, at);
+        let body = at + 1;
+        let slot = slot_of(terms[at], &terms[body..end]);
+        put_slot(table, n, &slot);
+        at = end;
+        n += 1;
+    }
+    Added::Count(n)
+}
+
+// Schema URIs join a table of n terms, those that are not there, in schema order.
+pub fn add_properties(schema: &[u8], table: &mut [u8], n: usize) -> Added
+    requires { ⌜ isSome (readSchema (now schema)) ≡ true ⌝ }
+    requires { ⌜ HoldsTerms (now table) n ⌝ }
+    ensures { λ r. ⌜ (r ≡ addedOf (withProperties (listOf (readSchema (now (schema .entry)))) (listOf (termsIn (now (table .entry)))))) × (now (table .exit) ≡ tableOf (withProperties (listOf (readSchema (now (schema .entry)))) (listOf (termsIn (now (table .entry)))))) ⌝ }
+{
+    let mut used = n;
+    let mut at = 0;
+    while at < schema.len() {
+        let field = at + 1;
+        let end = field + 40;
+        let slot = slot_of(0x11, &schema[field..end]);
+        let Added::Count(more) = add_term(table, used, &slot) else {
+            return Added::Full;
+        };
+        used = more;
+        at += 42;
+    }
+    Added::Count(used)
+}
+
+// Writes the terms that loading numbers into a table of zeros: listed terms, then schema URIs that are not there.
+pub fn number_terms(terms: &[u8], schema: &[u8], table: &mut [u8]) -> Added
+    requires { ⌜ isSome (readTerms (now terms)) ≡ true ⌝ }
+    requires { ⌜ isSome (readSchema (now schema)) ≡ true ⌝ }
+    requires { ⌜ now table ≡ replicate termTableWidth 0 ⌝ }
+    ensures { λ r. ⌜ (r ≡ addedOf (withProperties (listOf (readSchema (now (schema .entry)))) (listOf (readTerms (now (terms .entry)))))) × (now (table .exit) ≡ tableOf (withProperties (listOf (readSchema (now (schema .entry)))) (listOf (readTerms (now (terms .entry)))))) ⌝ }
+{
+    let Added::Count(listed) = list_terms(terms, table) else {
+        return Added::Full;
+    };
+    add_properties(schema, table, listed)
+}

@@ -1,0 +1,121 @@
+// The term table: a record and zeros in each 49 bytes, zeros after the last.
+use crate::Added;
+use crate::Counted;
+use crate::Read;
+use crate::numbers::is_zero;
+use crate::reading::read_term;
+use definitions::SLOT_WIDTH;
+use definitions::TERM_LIMIT;
+ghost use mathlib.Core.Path.{_≡_};
+ghost use mathlib.Core.List.{_∷_};
+ghost use Prim.Native.Nat.{_≤_, _<_};
+ghost use lib.ListN.{length};
+ghost use Rattle.definitions.specs.Limits.{slotWidth, termLimit, termTableWidth};
+ghost use Rattle.definitions.specs.Bytes.{filled};
+ghost use Rattle.definitions.specs.Terms.{sameTerm};
+ghost use Rattle.definitions.specs.Saved.{slotTerm, termsIn};
+ghost use Rattle.records.specs.Answers.{isSome, countOf, distinctIn};
+ghost use Rattle.records.specs.Table.{HoldsTerms, GoodSlot, numberFrom, numberIn, slotSet, withTerm, addedOf, tableOf};
+
+// Whether a slot holds a term.
+pub fn slot_ok(slot: &[u8]) -> bool
+    ensures { λ r. ⌜ r ≡ isSome (slotTerm (now (slot .entry))) ⌝ }
+{
+    let Read::Next(end) = read_term(slot, 0) else {
+        return false;
+    };
+    is_zero(&slot[end..])
+}
+
+// How many terms a table holds.
+pub fn used_terms(table: &[u8]) -> Counted
+    requires { ⌜ length (now table) ≡ termTableWidth ⌝ }
+    ensures { λ r. ⌜ r ≡ countOf (termsIn (now (table .entry))) ⌝ }
+{
+    let mut n = 0;
+    let mut at = 0;
+    while n < TERM_LIMIT {
+        if table[at] == 0 {
+            if is_zero(&table[at..]) {
+                return Counted::Count(n);
+            }
+            return Counted::Malformed;
+        }
+        let end = at + SLOT_WIDTH;
+        if !slot_ok(&table[at..end]) {
+            return Counted::Malformed;
+        }
+        at = end;
+        n += 1;
+    }
+    Counted::Count(n)
+}
+
+// The number of a slot's term among those from a number on, or the number of all.
+fn find_slot(table: &[u8], n: usize, slot: &[u8], from: usize) -> usize
+    requires { ⌜ HoldsTerms (now table) n ⌝ }
+    requires { ⌜ GoodSlot (now slot) ⌝ }
+    requires { ⌜ from ≤ n ⌝ }
+    ensures { λ r. ⌜ r ≡ numberFrom from (slotTerm (now (slot .entry))) (termsIn (now (table .entry))) ⌝ }
+{
+    let mut i = from;
+    while i < n {
+        let at = i * SLOT_WIDTH;
+        let end = at + SLOT_WIDTH;
+        if check::same(slot, &table[at..end]) {
+            return i;
+        }
+        i += 1;
+    }
+    n
+}
+
+// The number of a slot's term, or the number of terms where it is not there.
+pub fn find_term(table: &[u8], n: usize, slot: &[u8]) -> usize
+    requires { ⌜ HoldsTerms (now table) n ⌝ }
+    requires { ⌜ GoodSlot (now slot) ⌝ }
+    ensures { λ r. ⌜ r ≡ numberIn (slotTerm (now (slot .entry))) (termsIn (now (table .entry))) ⌝ }
+{
+    find_slot(table, n, slot, 0)
+}
+
+// Whether the terms of a table are all different.
+pub fn slots_distinct(table: &[u8], n: usize) -> bool
+    requires { ⌜ HoldsTerms (now table) n ⌝ }
+    ensures { λ r. ⌜ r ≡ distinctIn sameTerm (termsIn (now (table .entry))) ⌝ }
+{
+    let mut i = 0;
+    while i < n {
+        let at = i * SLOT_WIDTH;
+        let end = at + SLOT_WIDTH;
+        let next = i + 1;
+        if find_slot(table, n, &table[at..end], next) < n {
+            return false;
+        }
+        i = next;
+    }
+    true
+}
+
+// The slot of a record.
+pub fn slot_of(kind: u8, body: &[u8]) -> [u8; 49]
+    requires { ⌜ length (now body) < slotWidth ⌝ }
+    ensures { λ r. ⌜ r ≡ filled slotWidth (kind ∷ now (body .entry)) ⌝ }
+{
+    let mut slot = [0u8; 49];
+    slot[0] = kind;
+    bytes::copy(body, &mut slot[1..]);
+    slot
+}
+
+// Writes a slot.
+pub fn put_slot(table: &mut [u8], n: usize, slot: &[u8])
+    requires { ⌜ length (now table) ≡ termTableWidth ⌝ }
+    requires { ⌜ n < termLimit ⌝ }
+    requires { ⌜ length (now slot) ≡ slotWidth ⌝ }
+    ensures { λ _. ⌜ now (table .exit) ≡ slotSet (now (table .entry)) n (now (slot .entry)) ⌝ }
+{
+    let at = n * SLOT_WIDTH;
+    let end = at + SLOT_WIDTH;
+    bytes::copy(slot, &mut table[at..end]);
+}

@@ -1,0 +1,197 @@
+-- One call on bytes: on the saved run and the tables of a sound state it does what the machine does, and leaves those of the machine's state.
+use Prim.Native.Nat.{ℕ}
+use native.Mathlib.Omega.{arith}
+use mathlib.Core.Path.{_≡_, refl, sym, ap, subst, _∙_}
+use mathlib.Core.List.{List}
+use mathlib.Core.Bool.{not, _&&_}
+use mathlib.Core.Option.{some}
+use lib.Dec.{T, leb}
+use lib.ListN.{length}
+use lib.IntN.{ℤ}
+use Rattle.definitions.specs.Limits.{budgetLimit}
+use Rattle.definitions.specs.Terms.{isDateTime}
+use Rattle.definitions.specs.Typing.{typeAt}
+use Rattle.definitions.specs.Outcome as Outcomes
+use Rattle.definitions.specs.Outcome.{Outcome, ok, fault}
+use Rattle.definitions.specs.Machine.{State, Store, Run, run, lastOf}
+use Rattle.definitions.specs.Saved.{termTable, quadTable, savedOf}
+use Rattle.definitions.specs.Result.{Result, refused, passed, _>>=_, _>>_, require, given}
+use Rattle.definitions.specs.Calls as Calls
+use Rattle.definitions.specs.Calls.{Checked, check, reported, Lent, tablesFit, lengthsFit, soundIn}
+use Rattle.definitions.specs.Calls.{runIn, Running, runTests, ranOf, runResult, runCall}
+use Rattle.definitions.specs.Calls.{PageTaken, takeIn, Taking, pageTests, PageResult, pageResult, pageCall}
+use Rattle.definitions.specs.CallList.{ran, paged, Done, runDone, pageDone, machineCall}
+use Rattle.definitions.specs.declared.Ran.{Ran}
+use Rattle.laws.proofs.Tests.{isFalse}
+use Rattle.laws.proofs.All.{All}
+use Rattle.laws.proofs.Results.{passed-is, require-after, require-after-inv, given-bind, require-refused}
+use Rattle.laws.proofs.Valid.{Valid, ValidIn, page-keeps-valid}
+use Rattle.laws.proofs.RunStore.{run-keeps, last-all}
+use Rattle.laws.proofs.Sound.{Sound}
+use Rattle.laws.proofs.SoundIn.{lentWith, lengths-again, sound-again}
+use Rattle.theorems.proofs.CallsPassed.{ok-is}
+use Rattle.theorems.proofs.Engine.{Tables, asLeft, others, HostCall, termBytes, quadBytes, fed, Kept, keptOf, Handed, lentTo, engineCall}
+
+-- what a call hands back where the machine does this from a state
+abbrev pub handedOf : Checked → State → Done → Handed
+handedOf c s d = record { answer = d .answer; kept = keptOf c (lastOf s (d .passed)) }
+
+-- refusal 1, as the machine tests it
+abbrev fits : Tables → Result (Unit {0})
+fits t = require 1 (tablesFit (termBytes t) (quadBytes t))
+
+fits-as-left : {A : Type 0} (m : Result A) → (fits asLeft >> m) ≡ m
+unfolding tablesFit require _>>_
+fits-as-left m = refl
+
+fits-others : {A : Type 0} (t q : List ℕ) (wrong : T (not (tablesFit (length t) (length q)))) (m : Result A)
+    → (fits (others t q wrong) >> m) ≡ refused 1
+fits-others t q wrong m = require-refused 1 m (isFalse (tablesFit (length t) (length q)) wrong)
+
+module _ (terms schema script : List ℕ) (c : Checked) (loads : check terms schema script ≡ passed c)
+    (s : State) (sound : Sound c s) (valid : ValidIn s) where
+  abbrev kept : Kept
+  kept = keptOf c s
+
+  fit : T (lengthsFit (lentWith terms schema script s))
+  fit = lengths-again terms schema script c loads s sound valid
+
+  found : soundIn (lentWith terms schema script s) (kept .saved) ≡ some (record { checked = c; state = s })
+  found = sound-again terms schema script c loads s sound valid
+
+  abbrev lent : Tables → Lent
+  lent t = lentTo terms schema script t kept
+
+  -- ── a run ─────────────────────────────────────────────────────────────────────────────────
+
+  module _ (budget : ℕ) (now : ℤ) where
+    abbrev running : Outcome Run → Running
+    running o = record { checked = c; state = s; run = o }
+
+    -- refusal 1 is tested on the lengths, refusal 10 does not come, and 11 is the machine's
+    run-tests : (t : Tables) → runTests (lent t) (kept .saved) budget now ≡ ((fits t >> runIn c budget now s) >>= λ o. passed (running o))
+    unfolding runTests
+    run-tests asLeft =
+        let rest : Calls.Sound → Result Running = λ x.
+        runIn (x .checked) budget now (x .state) >>= λ o. passed (record { checked = x .checked; state = x .state; run = o }) in
+        require-after 1 (lengthsFit (lent asLeft)) (given 10 (soundIn (lent asLeft) (kept .saved)) >>= rest) fit
+        ∙ given-bind 10 rest found
+        ∙ sym (ap (λ m. m >>= λ o. passed (running o)) (fits-as-left (runIn c budget now s)))
+    run-tests (others t q wrong) =
+        unfold _>>=_ in
+        rw (fits-others t q wrong (runIn c budget now s)) (require-refused 1 _ (isFalse (tablesFit (length t) (length q)) wrong))
+
+    -- what the host makes of it
+    abbrev handed : Ran → Handed
+    handed r = record { answer = ran (r .answer); kept = record { saved = r .saved; termTable = kept .termTable; quadTable = kept .quadTable } }
+
+    -- a run keeps the store, and so the tables
+    run-handed : (m : Result (Outcome Run)) → ((r : Run) → m ≡ passed (ok r) → lastOf s (r .passed) .store ≡ s .store) → (d : Done) → runDone m ≡ ok d
+        → Outcomes._>>=_ (runResult (kept .saved) (m >>= λ o. passed (running o))) (λ r. ok (handed r)) ≡ ok (handedOf c s d)
+    unfolding runDone runResult ranOf _>>=_ Outcomes._>>=_
+    run-handed (refused n) same d e = ap (λ (d : Done). ok (handedOf c s d)) (ok-is e)
+    run-handed (passed (fault x)) same d e = absurd (let z : _≡_ {A = ℕ} 0 1 = cc in omega arith)
+    run-handed (passed (ok r)) same d e =
+        let after = lastOf s (r .passed) in
+        let tables : (σ : Store) → Kept = λ σ.
+        record { saved = savedOf (reported c) after; termTable = termTable (σ .terms); quadTable = quadTable (σ .quads) } in
+        ap (λ (σ : Store). ok (record { answer = ran (ranOf c s r .answer); kept = tables σ })) (sym (same r refl))
+        ∙ ap (λ (d : Done). ok (handedOf c s d)) (ok-is e)
+
+    store-same : (t : Tables) (r : Run) → (fits t >> runIn c budget now s) ≡ passed (ok r) → lastOf s (r .passed) .store ≡ s .store
+    unfolding runIn
+    store-same t r e =
+        let i₁ = require-after-inv 1 (tablesFit (termBytes t) (quadBytes t)) (runIn c budget now s) e in
+        let machine = run (c .schema) (typeAt (c .types)) now budget s in
+        let i₁₁ = require-after-inv 11 (leb budget budgetLimit && isDateTime now) (passed machine) (i₁ .1) in
+        last-all (λ x. x .store ≡ s .store) s (r .passed) refl (run-keeps (c .schema) (typeAt (c .types)) now budget s r (passed-is (i₁₁ .1)))
+
+    run-call : (t : Tables) (d : Done) → machineCall c (fed (HostCall.running t budget now)) s ≡ ok d
+        → engineCall terms schema script (HostCall.running t budget now) kept ≡ ok (handedOf c s d)
+    unfolding machineCall engineCall runCall
+    run-call t d e =
+        ap (λ m. Outcomes._>>=_ (runResult (kept .saved) m) (λ r. ok (handed r))) (run-tests t)
+        ∙ run-handed (fits t >> runIn c budget now s) (store-same t) d e
+
+    run-store : (m : Result (Outcome Run)) → ((r : Run) → m ≡ passed (ok r) → lastOf s (r .passed) .store ≡ s .store) → (d : Done) → runDone m ≡ ok d
+        → lastOf s (d .passed) .store ≡ s .store
+    unfolding runDone Outcomes._>>=_
+    run-store (refused n) same d e = subst (λ (d : Done). lastOf s (d .passed) .store ≡ s .store) (ok-is e) refl
+    run-store (passed (fault x)) same d e = absurd (let z : _≡_ {A = ℕ} 0 1 = cc in omega arith)
+    run-store (passed (ok r)) same d e = subst (λ (d : Done). lastOf s (d .passed) .store ≡ s .store) (ok-is e) (same r refl)
+
+    run-valid : (t : Tables) (d : Done) → machineCall c (fed (HostCall.running t budget now)) s ≡ ok d → ValidIn (lastOf s (d .passed))
+    unfolding machineCall
+    run-valid t d e = subst (λ (σ : Store). All Valid (σ .terms)) (sym (run-store (fits t >> runIn c budget now s) (store-same t) d e)) valid
+
+  -- ── a page ────────────────────────────────────────────────────────────────────────────────
+
+  module _ (g : ℕ) (page : List ℕ) where
+    abbrev taking : PageTaken → Taking
+    taking k = record { checked = c; taken = k }
+
+    -- refusal 1 is tested on the lengths, refusal 10 does not come, and 12 to 14 are the machine's
+    page-tests : (t : Tables) → pageTests (lent t) (kept .saved) g page ≡ ((fits t >> takeIn c g page s) >>= λ k. passed (taking k))
+    unfolding pageTests
+    page-tests asLeft =
+        let rest : Calls.Sound → Result Taking = λ x.
+        takeIn (x .checked) g page (x .state) >>= λ k. passed (record { checked = x .checked; taken = k }) in
+        require-after 1 (lengthsFit (lent asLeft)) (given 10 (soundIn (lent asLeft) (kept .saved)) >>= rest) fit
+        ∙ given-bind 10 rest found
+        ∙ sym (ap (λ m. m >>= λ k. passed (taking k)) (fits-as-left (takeIn c g page s)))
+    page-tests (others t q wrong) =
+        unfold _>>=_ in
+        rw (fits-others t q wrong (takeIn c g page s)) (require-refused 1 _ (isFalse (tablesFit (length t) (length q)) wrong))
+
+    -- what the host makes of it, with its own tables or with others
+    abbrev pageHanded : Tables → PageResult → Handed
+    pageHanded asLeft r =
+        record {
+          answer = paged (r .returned .answer);
+          kept = record { saved = r .returned .saved; termTable = r .termTable; quadTable = r .quadTable };
+        }
+    pageHanded (others t q wrong) r =
+        record {
+          answer = paged (r .returned .answer);
+          kept = record { saved = r .returned .saved; termTable = kept .termTable; quadTable = kept .quadTable };
+        }
+
+    own-tables : (m : Result PageTaken)
+        → pageHanded asLeft (pageResult (lent asLeft) (kept .saved) (m >>= λ k. passed (taking k))) ≡ handedOf c s (pageDone m)
+    unfolding pageResult pageDone _>>=_
+    own-tables (refused n) = refl
+    own-tables (passed k) = refl
+
+    page-handed : (t : Tables) → pageHanded t (pageCall (lent t) (kept .saved) g page) ≡ handedOf c s (pageDone (fits t >> takeIn c g page s))
+    unfolding pageCall
+    page-handed asLeft =
+        ap (λ m. pageHanded asLeft (pageResult (lent asLeft) (kept .saved) m)) (page-tests asLeft)
+        ∙ own-tables (fits asLeft >> takeIn c g page s)
+    page-handed (others t q wrong) =
+        unfold pageResult pageDone _>>=_ in
+        rw (page-tests (others t q wrong), fits-others t q wrong (takeIn c g page s)) refl
+
+    page-call : (t : Tables) (d : Done) → machineCall c (fed (HostCall.paging t g page)) s ≡ ok d
+        → engineCall terms schema script (HostCall.paging t g page) kept ≡ ok (handedOf c s d)
+    unfolding machineCall engineCall
+    page-call asLeft d e = ap ok (page-handed asLeft ∙ ap (handedOf c s) (ok-is e))
+    page-call (others t q wrong) d e = ap ok (page-handed (others t q wrong) ∙ ap (handedOf c s) (ok-is e))
+
+    page-valid : (t : Tables) (d : Done) → machineCall c (fed (HostCall.paging t g page)) s ≡ ok d → ValidIn (lastOf s (d .passed))
+    unfolding machineCall pageDone
+    page-valid t d e = subst (λ (d : Done). ValidIn (lastOf s (d .passed))) (ok-is e) (go (fits t >> takeIn c g page s) refl)
+      where
+        go : (m : Result PageTaken) → (fits t >> takeIn c g page s) ≡ m → ValidIn (lastOf s (pageDone m .passed))
+        go (refused n) e = valid
+        go (passed k) e =
+            page-keeps-valid c g page s k (require-after-inv 1 (tablesFit (termBytes t) (quadBytes t)) (takeIn c g page s) e .1) valid
+
+  -- ── any call ──────────────────────────────────────────────────────────────────────────────
+
+  pub engine-call : (x : HostCall) (d : Done) → machineCall c (fed x) s ≡ ok d → engineCall terms schema script x kept ≡ ok (handedOf c s d)
+  engine-call (HostCall.running t budget now) d e = run-call budget now t d e
+  engine-call (HostCall.paging t g page) d e = page-call g page t d e
+
+  pub call-valid : (x : HostCall) (d : Done) → machineCall c (fed x) s ≡ ok d → ValidIn (lastOf s (d .passed))
+  call-valid (HostCall.running t budget now) d e = run-valid budget now t d e
+  call-valid (HostCall.paging t g page) d e = page-valid g page t d e

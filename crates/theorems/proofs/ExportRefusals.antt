@@ -1,0 +1,183 @@
+-- Demand 1 at the C interface, where the saved run and the report are lent as bytes too and count as lent tables: the same tables of rules, and on a
+-- refusal every lent buffer keeps its bytes.
+use Prim.Native.Nat.{ℕ, zero, suc}
+use mathlib.Core.Path.{_≡_, refl, sym, _∙_}
+use mathlib.Core.List.{List}
+use mathlib.Core.Bool.{Bool, true, false, _&&_}
+use mathlib.Core.Option.{Option, none, some}
+use lib.Dec.{T, eqb}
+use lib.ListN.{length}
+use lib.IntN.{ℤ}
+use Rattle.definitions.specs.Bytes.{onward}
+use Rattle.definitions.specs.Outcome.{ok, _>>=_}
+use Rattle.definitions.specs.Calls.{Lent, lengthsFit, load, Sound, soundIn, pageCall}
+use Rattle.definitions.specs.Numbers.{loadNumber, runNumber, pageNumber}
+use Rattle.definitions.specs.Exports.{savedWidth, savedFrom, runReportWidth, runReport, pageReportWidth, pageReport, savedAfter}
+use Rattle.definitions.specs.Exports.{loadExport, RunExport, runOn, runExport, pageOn, pageExport, ranExport}
+use Rattle.definitions.specs.declared.SavedRun.{SavedRun}
+use Rattle.definitions.specs.declared.RunAnswer.{RunAnswer}
+use Rattle.definitions.specs.declared.PageAnswer.{PageAnswer}
+use Rattle.definitions.specs.declared.RunAnswer.the-variants as RunAnswers
+use Rattle.definitions.specs.declared.PageAnswer.the-variants as PageAnswers
+use Rattle.laws.proofs.Tests.{andLeft, isTrue, trueIs}
+use Rattle.theorems.proofs.Demand1.{firstBroken, isThere, loadRules, runRules, pageRules, demand-1}
+
+-- ── the statement ───────────────────────────────────────────────────────────────────────────
+
+-- bytes that no saved run has are unsound
+abbrev pub soundBytes : Lent → (saved : List ℕ) → Option Sound
+soundBytes l saved = onward (savedFrom saved) (soundIn l)
+
+-- tables, saved run and report have their lengths
+abbrev pub buffersFit : Lent → (saved report : List ℕ) → (reportWidth : ℕ) → Bool
+buffersFit l saved report width = lengthsFit l && (eqb (length saved) savedWidth && eqb (length report) width)
+
+abbrev pub loadBroken : Lent → (saved : List ℕ) → ℕ
+loadBroken l saved = firstBroken (loadRules (lengthsFit l && eqb (length saved) savedWidth) l)
+
+abbrev pub runBroken : Lent → (saved : List ℕ) → (budget : ℕ) → (now : ℤ) → (report : List ℕ) → ℕ
+runBroken l saved budget now report = firstBroken (runRules (buffersFit l saved report runReportWidth) (soundBytes l saved) budget now)
+
+abbrev pub pageBroken : Lent → (saved : List ℕ) → (graph : ℕ) → (page report : List ℕ) → ℕ
+pageBroken l saved g page report = firstBroken (pageRules (buffersFit l saved report pageReportWidth) (soundBytes l saved) g page)
+
+pub record LoadRefuses (l : Lent) (saved : List ℕ) : Type 0 where
+  pub number : loadExport l saved .number ≡ loadBroken l saved
+  pub keeps : (loadBroken l saved ≡ 0 → ⊥) → let r = loadExport l saved in
+      (r .termTable ≡ l .termTable) × (r .quadTable ≡ l .quadTable) × (r .saved ≡ saved)
+
+pub record RunRefuses (l : Lent) (saved : List ℕ) (budget : ℕ) (now : ℤ) (report : List ℕ) : Type 0 where
+  pub ran : RunExport
+  pub given : runExport l saved budget now report ≡ ok ran
+  pub number : ran .number ≡ runBroken l saved budget now report
+  pub keeps : (runBroken l saved budget now report ≡ 0 → ⊥) → (ran .saved ≡ saved) × (ran .report ≡ report)
+
+pub record PageRefuses (l : Lent) (saved : List ℕ) (graph : ℕ) (page report : List ℕ) : Type 0 where
+  pub number : pageExport l saved graph page report .number ≡ pageBroken l saved graph page report
+  pub keeps : (pageBroken l saved graph page report ≡ 0 → ⊥) → let r = pageExport l saved graph page report in
+      (r .termTable ≡ l .termTable) × (r .quadTable ≡ l .quadTable) × (r .saved ≡ saved) × (r .report ≡ report)
+
+pub record ExportRefusals : Type 0 where
+  pub load : (l : Lent) (saved : List ℕ) → LoadRefuses l saved
+  pub run : (l : Lent) (saved : List ℕ) (budget : ℕ) (now : ℤ) (report : List ℕ) → RunRefuses l saved budget now report
+  pub page : (l : Lent) (saved : List ℕ) (graph : ℕ) (page report : List ℕ) → PageRefuses l saved graph page report
+
+-- ── the proof ───────────────────────────────────────────────────────────────────────────────
+
+and-true : (a : Bool) → (a && true) ≡ a
+and-true true = refl
+and-true false = refl
+
+and-false : (a : Bool) → (a && false) ≡ false
+and-false true = refl
+and-false false = refl
+
+-- a refusal leaves saved run and report
+saved-kept : (n : ℕ) (r : SavedRun) (lent : List ℕ) → (n ≡ 0 → ⊥) → savedAfter n r lent ≡ lent
+saved-kept zero r lent h = absurd (h refl)
+saved-kept (suc n) r lent h = refl
+
+run-report-kept : (report : List ℕ) (a : RunAnswer) → (runNumber a ≡ 0 → ⊥) → runReport report a ≡ report
+unfolding runReport
+run-report-kept report (RunAnswers.Ran steps state) h = absurd (h refl)
+run-report-kept report (RunAnswers.Refused n) h = refl
+
+page-report-kept : (report : List ℕ) (a : PageAnswer) → (pageNumber a ≡ 0 → ⊥) → pageReport report a ≡ report
+unfolding pageReport
+page-report-kept report (PageAnswers.Taken skipped) h = absurd (h refl)
+page-report-kept report (PageAnswers.Refused n) h = refl
+
+load-refuses : (l : Lent) (saved : List ℕ) (b : Bool) → eqb (length saved) savedWidth ≡ b → LoadRefuses l saved
+unfolding loadExport firstBroken
+load-refuses l saved false e =
+    record { number = rw (e, and-false (lengthsFit l), loadExport) refl; keeps = λ h. rw (e, loadExport) (refl, refl, refl) }
+load-refuses l saved true e =
+    let d = demand-1 .load l in
+    let same : loadBroken l saved ≡ firstBroken (loadRules (lengthsFit l) l) = rw (e, and-true (lengthsFit l)) refl in
+    record {
+      number = rw (loadExport, e, and-true (lengthsFit l)) (d .number);
+      keeps = λ h.
+          let k = d .keeps (λ z. h (same ∙ z)) in
+          let r = load l .returned in
+          rw (e, loadExport) (k .0, k .1, saved-kept (loadNumber (r .answer)) (r .saved) saved (λ z. h (same ∙ sym (d .number) ∙ z)));
+    }
+
+module _ (l : Lent) (saved : List ℕ) (budget : ℕ) (now : ℤ) (report : List ℕ) where
+  -- of the saved run that the bytes hold, if there is one
+  record RunOn (o : Option SavedRun) : Type 0 where
+    ran : RunExport
+    given : runOn l budget now saved report o ≡ ok ran
+    number : ran .number ≡ firstBroken (runRules true (onward o (soundIn l)) budget now)
+    keeps : (firstBroken (runRules true (onward o (soundIn l)) budget now) ≡ 0 → ⊥) → (ran .saved ≡ saved) × (ran .report ≡ report)
+
+  run-on : (o : Option SavedRun) → T (lengthsFit l) → RunOn o
+  unfolding onward firstBroken isThere _>>=_
+  run-on none fit = record { ran = record { number = 10; saved = saved; report = report }; given = refl; number = refl; keeps = λ h. (refl, refl) }
+  run-on (some r) fit =
+      let d = demand-1 .run l r budget now in
+      let n : runNumber (d .ran .answer) ≡ firstBroken (runRules true (soundIn l r) budget now) = rw (isTrue (lengthsFit l) fit) at (d .number) in
+      record {
+        ran = ranExport saved report (d .ran);
+        given = rw (d .given) refl;
+        number = n;
+        keeps = λ h. (
+          saved-kept (runNumber (d .ran .answer)) (d .ran .saved) saved (λ z. h (sym n ∙ z)),
+          run-report-kept report (d .ran .answer) (λ z. h (sym n ∙ z)),
+        );
+      }
+
+  ran-on : buffersFit l saved report runReportWidth ≡ true → RunOn (savedFrom saved) → RunRefuses l saved budget now report
+  unfolding runExport firstBroken
+  ran-on e r = record { ran = r .ran; given = rw (e, runExport) (r .given); number = rw e (r .number); keeps = rw e (r .keeps) }
+
+  run-refuses : (b : Bool) → buffersFit l saved report runReportWidth ≡ b → RunRefuses l saved budget now report
+  unfolding runExport firstBroken
+  run-refuses false e =
+      record {
+        ran = record { number = 1; saved = saved; report = report };
+        given = rw (e, runExport) refl;
+        number = rw e refl;
+        keeps = λ h. (refl, refl);
+      }
+  run-refuses true e =
+      let others = eqb (length saved) savedWidth && eqb (length report) runReportWidth in
+      ran-on e (run-on (savedFrom saved) (andLeft (lengthsFit l) others (trueIs (lengthsFit l && others) e)))
+
+page-on : (l : Lent) (saved : List ℕ) (g : ℕ) (page report : List ℕ) (o : Option SavedRun) → T (lengthsFit l)
+    → let r = pageOn l g page saved report o in
+    (r .number ≡ firstBroken (pageRules true (onward o (soundIn l)) g page))
+    × ((firstBroken (pageRules true (onward o (soundIn l)) g page) ≡ 0 → ⊥)
+    → (r .termTable ≡ l .termTable) × (r .quadTable ≡ l .quadTable) × (r .saved ≡ saved) × (r .report ≡ report))
+unfolding onward firstBroken isThere
+page-on l saved g page report none fit = (refl, λ h. (refl, refl, refl, refl))
+page-on l saved g page report (some r) fit =
+    let d = demand-1 .page l r g page in
+    let x = pageCall l r g page .returned in
+    let same : firstBroken (pageRules (lengthsFit l) (soundIn l r) g page) ≡ firstBroken (pageRules true (soundIn l r) g page) =
+    rw (isTrue (lengthsFit l) fit) refl in
+    let n = d .number ∙ same in (
+      n,
+      λ h.
+          let k = d .keeps (λ z. h (sym same ∙ z)) in
+          let number : pageNumber (x .answer) ≡ 0 → ⊥ = λ z. h (sym n ∙ z) in
+          (k .1, k .2, saved-kept (pageNumber (x .answer)) (x .saved) saved number, page-report-kept report (x .answer) number),
+    )
+
+page-refuses : (l : Lent) (saved : List ℕ) (g : ℕ) (page report : List ℕ) (b : Bool) → buffersFit l saved report pageReportWidth ≡ b
+    → PageRefuses l saved g page report
+unfolding pageExport firstBroken
+page-refuses l saved g page report false e = record { number = rw (e, pageExport) refl; keeps = λ h. rw (e, pageExport) (refl, refl, refl, refl) }
+page-refuses l saved g page report true e =
+    let fit = andLeft (lengthsFit l) (eqb (length saved) savedWidth && eqb (length report) pageReportWidth)
+    (trueIs (buffersFit l saved report pageReportWidth) e) in
+    let r = page-on l saved g page report (savedFrom saved) fit in
+    record { number = rw (e, pageExport) (r .0); keeps = rw (e, pageExport) (r .1) }
+
+-- ── the theorem ─────────────────────────────────────────────────────────────────────────────
+
+pub export-refusals : ExportRefusals
+export-refusals = record {
+  load = λ l saved. load-refuses l saved (eqb (length saved) savedWidth) refl;
+  run = λ l saved budget now report. run-refuses l saved budget now report (buffersFit l saved report runReportWidth) refl;
+  page = λ l saved g page report. page-refuses l saved g page report (buffersFit l saved report pageReportWidth) refl;
+}

@@ -1,0 +1,70 @@
+-- What the codes of types stand for.
+use Prim.Native.Nat.{ℕ, _-_, _≤_, _<_}
+use native.Mathlib.Decide.{ℕ-discrete}
+use mathlib.Core.Path.{_≡_, refl, sym, ap, ap₂, _∙_}
+use mathlib.Core.Bool.{Bool, true, false, not, _&&_}
+use lib.Dec.{eqb}
+use borrow.Author.Tests.{lt-ltb, le-ltb, eq-eqb, ne-eqb}
+use Rattle.definitions.specs.Types.{Datatype, anyURI, decimal, integer, plain, range, leqDatatype, sameDatatype}
+use Rattle.laws.proofs.Reading.{Others, row-others, row-keys}
+use Rattle.laws.proofs.Agree.{datatype-equal2}
+use Rattle.typing.specs.Family.{family, ownDatatype}
+use Rattle.typing.specs.Codes.{literalRows, datatypeOf, typeOf}
+
+-- ── datatypes ───────────────────────────────────────────────────────────────────────────────
+
+module _ (k : ℕ) where
+  -- none of the literals' codes
+  pub other-datatype : Others (Unit {0}) k literalRows → datatypeOf k ≡ anyURI
+  unfolding datatypeOf
+  other-datatype h = row-others (Unit {0}) literalRows anyURI k h
+
+  pub is-decimal : sameDatatype (datatypeOf k) decimal ≡ eqb k 3
+  unfolding datatypeOf
+  is-decimal = go (ℕ-discrete k 3)
+    where
+      go : Dec (k ≡ 3) → sameDatatype (datatypeOf k) decimal ≡ eqb k 3
+      go (yes e) = rw e refl
+      go (no n) =
+          row-keys (λ k d. (k ≡ 3 → ⊥) → sameDatatype d decimal ≡ false) k literalRows anyURI
+          (λ n. refl, (λ n. absurd (n refl), (λ n. refl, (λ n. refl, tt)))) (λ n. refl) n
+          ∙ sym (ne-eqb k 3 n)
+
+  pub is-integer : sameDatatype (datatypeOf k) integer ≡ eqb k 5
+  unfolding datatypeOf
+  is-integer = go (ℕ-discrete k 5)
+    where
+      go : Dec (k ≡ 5) → sameDatatype (datatypeOf k) integer ≡ eqb k 5
+      go (yes e) = rw e refl
+      go (no n) =
+          row-keys (λ k d. (k ≡ 5 → ⊥) → sameDatatype d integer ≡ false) k literalRows anyURI
+          (λ n. refl, (λ n. refl, (λ n. refl, (λ n. absurd (n refl), tt)))) (λ n. refl) n
+          ∙ sym (ne-eqb k 5 n)
+
+-- decimal is not below integer; else a datatype is below those of its family
+leq-by-family : (d e : Datatype) → leqDatatype d e ≡ not (sameDatatype d decimal && sameDatatype e integer) && eqb (family d) (family e)
+leq-by-family = datatype-equal2 leqDatatype (λ d e. not (sameDatatype d decimal && sameDatatype e integer) && eqb (family d) (family e)) tt
+
+pub below-is : (a b : ℕ) (t : Bool) → (eqb a 3 && eqb b 5) ≡ t
+    → leqDatatype (datatypeOf a) (datatypeOf b) ≡ not t && eqb (family (datatypeOf a)) (family (datatypeOf b))
+below-is a b t e =
+    leq-by-family (datatypeOf a) (datatypeOf b)
+    ∙ ap (λ u. not u && eqb (family (datatypeOf a)) (family (datatypeOf b))) (ap₂ _&&_ (is-decimal a) (is-integer b) ∙ e)
+
+-- ── types ───────────────────────────────────────────────────────────────────────────────────
+
+module _ (k : ℕ) where
+  pub plain-code : k < 8 → typeOf k ≡ plain (datatypeOf k)
+  unfolding typeOf
+  plain-code h = rw (lt-ltb k 8 h)
+
+  pub range-code : 8 ≤ k → typeOf k ≡ range (datatypeOf (k - 8))
+  unfolding typeOf
+  range-code h = rw (le-ltb k 8 h)
+
+  pub own-plain : k < 8 → datatypeOf k ≡ ownDatatype (typeOf k)
+  own-plain h = sym (ap ownDatatype (plain-code h))
+
+  pub own-range : 8 ≤ k → datatypeOf 1 ≡ ownDatatype (typeOf k)
+  unfolding datatypeOf
+  own-range h = sym (ap ownDatatype (range-code h))

@@ -1,0 +1,38 @@
+// Types by their codes: 1 to 5 a datatype, 9 to 13 range of datatype 1 to 5.
+ghost use mathlib.Core.Path.{_≡_};
+ghost use Rattle.definitions.specs.Types.{leqDatatype};
+ghost use Rattle.typing.specs.Family.{family, ownDatatype};
+ghost use Rattle.typing.specs.Codes.{datatypeOf, typeOf};
+
+// The family of a datatype.
+pub fn family(datatype: u8) -> usize
+    ensures { λ r. ⌜ r ≡ family (datatypeOf datatype) ⌝ }
+{
+    match datatype {
+        2 => 1,
+        3 => 2,
+        4 => 3,
+        5 => 2,
+        _ => 0,
+    }
+}
+
+// The least datatype of what has a type: anyURI of a range.
+pub fn own(code: u8) -> u8
+    ensures { λ r. ⌜ datatypeOf r ≡ ownDatatype (typeOf code) ⌝ }
+{
+    if code < 8 {
+        return code;
+    }
+    1
+}
+
+// Whether a datatype is below or equal to another: both of one family, and not decimal below integer.
+pub fn below(a: u8, b: u8) -> bool
+    ensures { λ r. ⌜ r ≡ leqDatatype (datatypeOf a) (datatypeOf b) ⌝ }
+{
+    if (a == 3) & (b == 5) {
+        return false;
+    }
+    family(a) == family(b)
+}

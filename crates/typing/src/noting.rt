@@ -1,0 +1,135 @@
+// The tables, and noting in them what a script demands.
+ghost use mathlib.Core.Path.{_≡_};
+ghost use Prim.Native.Nat.{_<_};
+ghost use Rattle.typing.specs.UnionFind.{Forest};
+ghost use Rattle.typing.specs.Codes.{datatypeOf, placeOf, PlaceIn};
+ghost use Rattle.typing.specs.Tables.{fresh, merged, atMost, asProperty, atLeast, edge, impossible, related};
+use crate::Place;
+use crate::codes;
+use crate::families::Families;
+
+// What a script's demands come to. Flags, for each variable: its datatype has to be integer; its range has to be decimal;
+// its type has to be a range. For each pair of variables: the first one is a property, and the second one its object.
+pub struct Tables {
+    pub families: Families,
+    pub low: [bool; 16],
+    pub high: [bool; 16],
+    pub property: [bool; 16],
+    pub edges: [bool; 256],
+}
+
+impl Tables {
+    // Nothing noted.
+    pub fn fresh() -> Tables
+        ensures { λ r. ⌜ r ≡ fresh ⌝ }
+    {
+        let families = Families::fresh();
+        let low = [false; 16];
+        let high = [false; 16];
+        let property = [false; 16];
+        let edges = [false; 256];
+        Tables {
+            families,
+            low,
+            high,
+            property,
+            edges,
+        }
+    }
+
+    // Two nodes are of one family.
+    pub fn merged(mut self, m: usize, n: usize) -> Tables
+        requires { ⌜ Forest 36 (self .families .parents) × (m < 36) × (n < 36) ⌝ }
+        ensures { λ r. ⌜ r ≡ merged m n self ⌝ }
+    {
+        let families = self.families;
+        let joined = families.merge(m, n);
+        self.families = joined;
+        self
+    }
+
+    // A variable's datatype is at most the one given.
+    pub fn at_most(self, x: usize, datatype: u8) -> Tables
+        requires { ⌜ Forest 36 (self .families .parents) × (x < 16) ⌝ }
+        ensures { λ r. ⌜ r ≡ atMost x (datatypeOf datatype) self ⌝ }
+    {
+        let family = codes::family(datatype);
+        let mut tables = self.merged(4 + x, family);
+        if datatype == 5 {
+            tables.low[x] = true;
+            return tables;
+        }
+        tables
+    }
+
+    // A variable is a property.
+    pub fn as_property(self, p: usize) -> Tables
+        requires { ⌜ Forest 36 (self .families .parents) × (p < 16) ⌝ }
+        ensures { λ r. ⌜ r ≡ asProperty p self ⌝ }
+    {
+        let mut tables = self.merged(4 + p, 0);
+        tables.property[p] = true;
+        tables
+    }
+
+    // A variable is a property, and its range is at least the datatype given.
+    pub fn at_least(self, p: usize, datatype: u8) -> Tables
+        requires { ⌜ Forest 36 (self .families .parents) × (p < 16) ⌝ }
+        ensures { λ r. ⌜ r ≡ atLeast p (datatypeOf datatype) self ⌝ }
+    {
+        let family = codes::family(datatype);
+        let mut tables = self.as_property(p).merged(20 + p, family);
+        if datatype == 3 {
+            tables.high[p] = true;
+            return tables;
+        }
+        tables
+    }
+
+    // A variable is a property, and another one its object.
+    pub fn edge(self, p: usize, x: usize) -> Tables
+        requires { ⌜ Forest 36 (self .families .parents) × (p < 16) × (x < 16) ⌝ }
+        ensures { λ r. ⌜ r ≡ edge p x self ⌝ }
+    {
+        let mut tables = self.as_property(p).merged(20 + p, 4 + x);
+        let at = 16 * p + x;
+        tables.edges[at] = true;
+        tables
+    }
+
+    // No typing: two families are one.
+    pub fn impossible(self) -> Tables
+        requires { ⌜ Forest 36 (self .families .parents) ⌝ }
+        ensures { λ r. ⌜ r ≡ impossible self ⌝ }
+    {
+        self.merged(0, 1)
+    }
+
+    // A property and its object.
+    pub fn related(self, property: Place, object: Place) -> Tables
+        requires { ⌜ Forest 36 (self .families .parents) × PlaceIn property × PlaceIn object ⌝ }
+        ensures { λ r. ⌜ r ≡ related (placeOf property) (placeOf object) self ⌝ }
+    {
+        match property {
+            Place::Variable(p) => match object {
+                Place::Variable(x) => self.edge(p, x),
+                Place::Known(code) => self.at_least(p, codes::own(code)),
+            },
+            Place::Known(code) => {
+                if code < 8 {
+                    return self.impossible();
+                }
+                let range = code - 8;
+                match object {
+                    Place::Variable(x) => self.at_most(x, range),
+                    Place::Known(other) => {
+                        if codes::below(codes::own(other), range) {
+                            return self;
+                        }
+                        self.impossible()
+                    }
+                }
+            }
+        }
+    }
+}
