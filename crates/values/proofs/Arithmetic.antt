@@ -8,18 +8,19 @@ use mathlib.Core.Bool.{Bool, true, false, cond, _&&_}
 use mathlib.Core.Option.{Option, none, some}
 use mathlib.Core.Path.{_≡_, refl, sym, ap, ap₂, _∙_, subst}
 use native.Mathlib.Omega.{arith}
-use lib.Dec.{T, eqb, leb, le→leb}
+use lib.Dec.{T, eqb, leb, le→leb, leb→le}
 use lib.IntN.{ℤ, pos, negsuc, natAbs, negℤ, _+ℤ_, _-ℤ_, _*ℤ_}
 use lib.Signed.{leZ}
 use borrow.Author.Tests.{eq-eqb, ne-eqb, eqb-true}
 use Rattle.definitions.specs.Bytes.{provided, filled, unfilled}
-use Rattle.definitions.specs.Terms.{withinLimits, isInteger, isDecimal, tagByte, textByte}
+use Rattle.definitions.specs.Terms.{withinLimits, isInteger, isDecimal, isDateTime, tagByte, textByte}
 use Rattle.definitions.specs.Outcome.{Outcome, ok, fault, _>>=_, Fault, arithmeticOnNoNumber}
 use Rattle.definitions.specs.Values.{Value as Meant, Number, whole, millionths, numberIn, million, widened, lifted, lifted₂, combine, distance, sum, difference, absolute}
-use Rattle.laws.proofs.Tests.{andMake}
+use Rattle.laws.proofs.Tests.{andMake, andLeft, andRight}
 use Rattle.laws.proofs.Options.{some-is, some-not-none, provided-holds}
 use Rattle.values.specs.declared.Value.{Value}
 use Rattle.values.specs.Meaning.{meaning, where?, numberOf, Field, Good, Gives}
+use Rattle.values.specs.Whole.{Holds}
 use Rattle.values.specs.Numbers.{held, numbered, inKind, commonKind, countedIn}
 use Rattle.values.proofs.Signed.{at-most, mag-abs, abs-scaled}
 use Rattle.values.proofs.Views.{View, view, as-integer, as-decimal, as-dateTime, as-string, as-uri}
@@ -282,3 +283,23 @@ module _ (a : Value) (g : Good a) (k : ℕ) (is : k ≡ commonKind (a .kind) (a 
         good = rw same (held-good k (where? (a .present) far) (λ q. no-date (a .kind) (a .kind) (sym is ∙ q)) (λ n w. limit n (a .present) w));
         is = λ u w. ap meaning same ∙ alone (see a (view a)) u w;
       }
+
+-- ── a dateTime ──────────────────────────────────────────────────────────────────────────────
+
+within-both : (low high k : ℕ) (n : ℤ) → low ≤ k → high ≤ k → T (withinLimits low high n) → natAbs n ≤ k
+unfolding withinLimits
+within-both low high k (pos n) l h t = let u = leb→le n high (andRight (leZ (negℤ (pos low)) (pos n)) (leb n high) t) in omega arith
+within-both zero high k (negsuc n) l h t = absurd t
+within-both (suc low) high k (negsuc n) l h t = let u = leb→le n low (andLeft (leb n low) true t) in omega arith
+
+pub dateTime-decimal : (n : ℤ) → T (isDateTime n) → T (isDecimal n)
+dateTime-decimal n h = in-limit (10 ^ 18) n (within-both 62135596800 253402300799 (10 ^ 18) n (omega arith) (omega arith) h)
+
+pub time-holds : (n : ℤ) → T (isDateTime n) → Holds (numbered 4 true (toZ w64 (ofZ w64 n))) (Meant.dateTime n)
+unfolding meaning
+time-holds n h =
+    rw (plain n (dateTime-decimal n h))
+    (record {
+      good = record { number = dateTime-decimal n h; integer = λ e. absurd (omega arith); dateTime = λ e. h; tag = zero-tag; text = zero-text };
+      is = refl;
+    })

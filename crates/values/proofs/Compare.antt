@@ -19,7 +19,7 @@ use Rattle.definitions.specs.Terms.{textByte, tagByte, isDecimal, sameNumber}
 use Rattle.definitions.specs.Outcome.{Outcome, ok, fault, _>>=_, Fault, nothingInCommon}
 use Rattle.definitions.specs.Values.{Value as Meant, Tagged, Pair, uris, strings, numbers, dateTimes, paired, present, million, widened, sameTagged, stringBefore, equalPair, lessPair, before, rankIn, ranks}
 use Rattle.values.specs.declared.Value.{Value}
-use Rattle.values.specs.Meaning.{meaning, where?, numberOf, stringIn, taggedOf, Field, Good, Tells, compared}
+use Rattle.values.specs.Meaning.{meaning, where?, numberOf, stringOf, taggedOf, Field, Good, Tells, compared}
 use Rattle.values.specs.Numbers.{countedIn}
 use Rattle.values.proofs.Arithmetic.{Counted, plain, ok-is, no-fault, widened-where}
 use Rattle.values.proofs.Views.{View, view, as-integer, as-decimal, as-dateTime, as-string, as-uri}
@@ -133,11 +133,11 @@ module _ (a b : Value) (t : Bool) where
 
   pub equal-strings : a .kind ≡ 2 → t ≡ (sameBytes (unfilled (a .tag)) (unfilled (b .tag)) && sameBytes (unfilled (a .text)) (unfilled (b .text))) → Tells both? (compared equalPair (meaning a) (meaning b))
   unfolding equalPair sameTagged
-  equal-strings k e = strings-told equalPair a b both? (pairs a b (view a) (view b)) k (rw e (present-where sameTagged (a .present) (b .present) (stringIn a) (stringIn b)))
+  equal-strings k e = strings-told equalPair a b both? (pairs a b (view a) (view b)) k (rw e (present-where sameTagged (a .present) (b .present) (stringOf a) (stringOf b)))
 
-  pub less-strings : a .kind ≡ 2 → t ≡ stringBefore ranks (stringIn a) (stringIn b) → Tells both? (compared lessPair (meaning a) (meaning b))
+  pub less-strings : a .kind ≡ 2 → t ≡ stringBefore ranks (stringOf a) (stringOf b) → Tells both? (compared lessPair (meaning a) (meaning b))
   unfolding lessPair
-  less-strings k e = strings-told lessPair a b both? (pairs a b (view a) (view b)) k (rw e (present-where (stringBefore ranks) (a .present) (b .present) (stringIn a) (stringIn b)))
+  less-strings k e = strings-told lessPair a b both? (pairs a b (view a) (view b)) k (rw e (present-where (stringBefore ranks) (a .present) (b .present) (stringOf a) (stringOf b)))
 
   module _ (k : (a .kind ≡ 3) ⊎ (a .kind ≡ 5)) (x y : ℤ) (cx : Counted a 3 x) (cy : Counted b 3 y) where
     counted-test : (f : ℤ → ℤ → Bool) → t ≡ f (toZ w64 (ofZ w64 x)) (toZ w64 (ofZ w64 y)) → both? ≡ present f (inMillionths a) (inMillionths b)

@@ -1,3 +1,4 @@
+mod Booleans
 mod Signed
 mod Views
 mod Arithmetic
@@ -5,3 +6,8 @@ mod Fields
 mod Orders
 mod Compare
 mod Ranks
+mod LanguageRanges
+mod TextTests
+mod Patterns
+mod Rows
+mod Writing

@@ -13,15 +13,12 @@ use Rattle.definitions.specs.Terms.{textByte}
 use Rattle.definitions.specs.Values.{before, rankIn}
 use Rattle.laws.proofs.Tests.{andLeft, andRight}
 use Rattle.laws.proofs.Ranges.{every-in}
+use Rattle.values.proofs.Booleans.{or-false}
 use Rattle.values.proofs.Fields.{rest, rest-out, rest-end, rest-more, rest-passes}
 
 -- a byte from 20 to 7E has its place in a table of 95
 pub place : (b : ℕ) → T (textByte b) → (0x20 ≤ b) × (b - 0x20 < 95)
 place b h = let low = leb→le 0x20 b (andLeft (leb 0x20 b) (leb b 0x7E) h) in let high = leb→le b 0x7E (andRight (leb 0x20 b) (leb b 0x7E) h) in (low, omega arith)
-
-pub or-false : (a : Bool) → (a || false) ≡ a
-or-false true = refl
-or-false false = refl
 
 -- ── before ──────────────────────────────────────────────────────────────────────────────────
 

@@ -16,7 +16,8 @@ use Rattle.definitions.specs.Values.{Tagged, rankIn, ranks, before, stringBefor
 use Rattle.laws.proofs.Tests.{andLeft, andRight, decide, isTrue, isFalse}
 use Rattle.laws.proofs.Same.{same-bytes, bytes-refl}
 use Rattle.values.proofs.Fields.{every-wider, tag-text}
-use Rattle.values.proofs.Orders.{place, or-false}
+use Rattle.values.proofs.Orders.{place}
+use Rattle.values.proofs.Booleans.{or-false}
 
 -- 95 ranks, each once
 pub record EachOnce (table : List ℕ) : Type 0 where

@@ -1,2 +1,6 @@
 pub mod Meaning
 pub mod Numbers
+pub mod Texts
+pub mod Matching
+pub mod Whole
+pub mod Lines

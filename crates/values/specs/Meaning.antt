@@ -13,7 +13,7 @@ use Rattle.definitions.specs.Bytes.{row, filled, unfilled}
 use Rattle.definitions.specs.Types.{Datatype, datatypeCode}
 use Rattle.definitions.specs.Terms.{textByte, tagByte, isInteger, isDecimal, isDateTime}
 use Rattle.definitions.specs.Outcome.{Outcome, ok, _>>=_}
-use Rattle.definitions.specs.Values.{Tagged, Pair, paired, Value as Meant}
+use Rattle.definitions.specs.Values.{Tagged, Pair, paired, stringIn, holdsOf, Value as Meant}
 use Rattle.values.specs.declared.Value.{Value}
 
 -- what is there, or no value
@@ -23,11 +23,11 @@ where? there a = cond there (some a) none
 abbrev pub numberOf : Value → Option ℤ
 numberOf v = where? (v .present) (v .number)
 
-abbrev pub stringIn : Value → Tagged
-stringIn v = record { tag = unfilled (v .tag); text = unfilled (v .text) }
+abbrev pub stringOf : Value → Tagged
+stringOf v = record { tag = unfilled (v .tag); text = unfilled (v .text) }
 
 abbrev pub taggedOf : Value → Option Tagged
-taggedOf v = where? (v .present) (stringIn v)
+taggedOf v = where? (v .present) (stringOf v)
 
 -- by the kind, document 01's code of a datatype; any other number counts as a URI's
 unfoldable pub meaning : Value → Meant
@@ -67,3 +67,9 @@ unfoldable pub compared : (Pair → Bool) → Meant → Meant → Outcome Bool
 compared test a b = do
   p ← paired a b
   ok (test p)
+
+-- a test of a string
+unfoldable pub textTest : (Tagged → Bool) → Meant → Outcome Bool
+textTest test a = do
+  s ← stringIn a
+  ok (holdsOf test s)

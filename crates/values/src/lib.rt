@@ -2,14 +2,23 @@
 ghost use mathlib.Core.Path.{_≡_};
 ghost use lib.Dec.{T};
 ghost use mathlib.Core.Bool.{_&&_};
-ghost use Rattle.definitions.specs.Terms.{isDecimal};
-ghost use Rattle.definitions.specs.Values.{sum, difference, absolute, rankIn, before, stringBefore, equalPair, lessPair};
-ghost use Rattle.definitions.specs.Bytes.{sameBytes, unfilled};
-ghost use Rattle.values.specs.Meaning.{meaning, where?, stringIn, Good, Gives, Tells, compared};
+ghost use Rattle.definitions.specs.Terms.{isDecimal, isDateTime};
+ghost use Rattle.definitions.specs.Values.{sum, difference, absolute, rankIn, before, stringBefore, equalPair, lessPair, Value as Meant};
+ghost use Rattle.definitions.specs.Bytes.{sameBytes, unfilled, part};
+ghost use Rattle.values.specs.Meaning.{meaning, where?, stringOf, Good, Gives, Tells, compared, textTest};
+ghost use Rattle.values.specs.Texts.{Is};
+ghost use Rattle.values.specs.Whole.{Holds};
+ghost use Rattle.definitions.specs.Text.{LanguageRange, languageRangeOf, matches, Pattern, patternOf, accepts};
+ghost use mathlib.Core.Option.{some};
+ghost use Prim.Native.Nat.{_+_, _≤_};
+ghost use lib.ListN.{length};
 ghost use Rattle.values.specs.Numbers.{held, inKind, commonKind, countedIn};
 
+mod line;
 mod number;
 mod order;
+mod pattern;
+mod range;
 
 // Document 01's codes of the datatypes.
 pub const ANY_URI: u8 = 1;
@@ -371,7 +380,7 @@ fn tag_before(a: Value, b: Value, table: [u8; 95]) -> bool
 fn string_before(a: Value, b: Value, table: [u8; 95]) -> bool
     requires { ⌜ Good a ⌝ }
     requires { ⌜ Good b ⌝ }
-    ensures { λ r. ⌜ r ≡ stringBefore table (stringIn a) (stringIn b) ⌝ }
+    ensures { λ r. ⌜ r ≡ stringBefore table (stringOf a) (stringOf b) ⌝ }
 {
     let by_text = text_before(a, b, table);
     let texts = same_texts(a, b);
@@ -408,5 +417,47 @@ pub fn less(a: Value, b: Value) -> bool
         3 | 5 => present & number::is_less(counted(a, DECIMAL), counted(b, DECIMAL)),
         4 => number::is_less(a.number, b.number),
         _ => text_before(a, b, BYTES),
+    }
+}
+
+// Whether a language range, in the 8 bytes of a script from an offset on, accepts a string's tag.
+pub fn lang_matches(v: Value, script: &[u8], at: usize) -> bool
+    requires { ⌜ Good v ⌝ }
+    requires { ⌜ at + 8 ≤ length (now script) ⌝ }
+    requires { ⌜ Is (languageRangeOf (part (now script) at 8)) ⌝ }
+    ensures { λ r. ⌜ ((q : LanguageRange) → languageRangeOf (part (now (script .entry)) at 8) ≡ some q → Tells r (textTest (λ s. matches q (s .tag)) (meaning v))) ⌝ }
+{
+    let end = at + 8;
+    let tag = v.tag;
+    let accepted = range::accepts(&script[at..end], &tag);
+    let present = v.present;
+    present & accepted
+}
+
+// Whether a pattern, in the 16 bytes of a script from an offset on, accepts a string's text.
+pub fn regex(v: Value, script: &[u8], at: usize) -> bool
+    requires { ⌜ Good v ⌝ }
+    requires { ⌜ at + 16 ≤ length (now script) ⌝ }
+    requires { ⌜ Is (patternOf (part (now script) at 16)) ⌝ }
+    ensures { λ r. ⌜ ((p : Pattern) → patternOf (part (now (script .entry)) at 16) ≡ some p → Tells r (textTest (λ s. accepts p (s .text)) (meaning v))) ⌝ }
+{
+    let end = at + 16;
+    let text = v.text;
+    let accepted = pattern::accepts(&script[at..end], &text);
+    let present = v.present;
+    present & accepted
+}
+
+// The value of now.
+pub fn now_value(seconds: i64) -> Value
+    requires { ⌜ T (isDateTime seconds) ⌝ }
+    ensures { λ r. ⌜ Holds r (Meant.dateTime seconds) ⌝ }
+{
+    Value {
+        kind: DATE_TIME,
+        present: true,
+        number: seconds,
+        tag: [0; 8],
+        text: [0; 40],
     }
 }

@@ -1,0 +1,20 @@
+-- A line of the code: a text in a field, and the text's length.
+use Prim.Native.Nat.{ℕ, _+_, _%_}
+use mathlib.Core.Path.{_≡_}
+use mathlib.Core.List.{List, _++_}
+use lib.ListN.{length}
+use Rattle.definitions.specs.Limits.{textWidth}
+use Rattle.definitions.specs.Bytes.{filled}
+use Rattle.definitions.specs.Terms.{Text}
+use Rattle.values.specs.declared.line.Line.{Line}
+
+abbrev pub lineOf : Text → Line
+lineOf t = record { bytes = filled textWidth t; len = length t }
+
+abbrev pub lastDigit : ℕ → ℕ
+lastDigit n = 0x30 + n % 10
+
+-- a line with a text put at the end of another's
+pub record Puts (l r : Line) (text : Text) : Type 0 where
+  pub size : r .len ≡ l .len + length text
+  pub is : (t : Text) → l ≡ lineOf t → r ≡ lineOf (t ++ text)
