@@ -1,4 +1,4 @@
--- Items read one after the other: what a loop over them has done and has still to do.
+-- Items tested and read one after the other: what a loop over them has done and has still to do.
 use Prim.Native.Nat.{ℕ, zero, suc, _+_, _-_, _*_, _≤_, _<_}
 use native.Mathlib.Omega.{arith}
 use native.Mathlib.Numerals.{add-one}
@@ -6,6 +6,7 @@ use mathlib.Core.Path.{_≡_, refl, ap, sym, _∙_}
 use mathlib.Core.List.{List, _∷_}
 use mathlib.Core.Bool.{Bool, true, false, _&&_}
 use lib.Dec.{eqb, leb}
+use borrow.Author.Tests.{le-leb, lt-leb, eq-eqb, ne-eqb}
 use lib.ListN.{set, replicate}
 use Rattle.definitions.specs.Bytes.{byte}
 use Rattle.definitions.specs.Saved.{zeroItem}
@@ -15,6 +16,7 @@ use Rattle.definitions.specs.declared.SavedItem.{SavedItem}
 module _ (b : List ℕ) where
   -- ── the test of each item in use ──────────────────────────────────────────────────────────
 
+  -- so far all have passed
   module _ (height at i : ℕ) (h : i < height) (far : itemsGood height b at ≡ itemsGood (height - i) b (at + 12 * i)) where
     here : itemsGood height b at
         ≡ leb (byte b (at + 12 * i + 2)) 1 && (eqb (byte b (at + 12 * i + 3)) 0 && itemsGood (height - (i + 1)) b (at + 12 * (i + 1)))
@@ -24,17 +26,17 @@ module _ (b : List ℕ) where
         let k : at + 12 * (i + 1) ≡ at + 12 * i + 12 = omega arith in
         far ∙ rw (e, k)
 
-    -- it passes: the rest decides
-    pub good-next : leb (byte b (at + 12 * i + 2)) 1 ≡ true → eqb (byte b (at + 12 * i + 3)) 0 ≡ true
+    -- the item passes too: the rest decides
+    pub good-next : byte b (at + 12 * i + 2) ≤ 1 → byte b (at + 12 * i + 3) ≡ 0
         → itemsGood height b at ≡ itemsGood (height - (i + 1)) b (at + 12 * (i + 1))
-    good-next e k = here ∙ rw (e, k)
+    good-next m z = here ∙ rw (le-leb (byte b (at + 12 * i + 2)) 1 m, eq-eqb (byte b (at + 12 * i + 3)) 0 z)
 
-    -- its mark does not pass, or the byte after it
-    pub good-mark : leb (byte b (at + 12 * i + 2)) 1 ≡ false → false ≡ itemsGood height b at
-    good-mark e = sym (here ∙ rw e)
+    -- its mark does not, or the byte after it
+    pub good-mark : 1 < byte b (at + 12 * i + 2) → false ≡ itemsGood height b at
+    good-mark m = sym (here ∙ rw (lt-leb (byte b (at + 12 * i + 2)) 1 m))
 
-    pub good-zero : leb (byte b (at + 12 * i + 2)) 1 ≡ true → eqb (byte b (at + 12 * i + 3)) 0 ≡ false → false ≡ itemsGood height b at
-    good-zero e k = sym (here ∙ rw (e, k))
+    pub good-zero : byte b (at + 12 * i + 2) ≤ 1 → (byte b (at + 12 * i + 3) ≡ 0 → ⊥) → false ≡ itemsGood height b at
+    good-zero m z = sym (here ∙ rw (le-leb (byte b (at + 12 * i + 2)) 1 m, ne-eqb (byte b (at + 12 * i + 3)) 0 z))
 
   -- none is left
   pub good-none : (height at i : ℕ) → height ≤ i → itemsGood height b at ≡ itemsGood (height - i) b (at + 12 * i) → true ≡ itemsGood height b at
@@ -60,7 +62,7 @@ module _ (b : List ℕ) where
       ap (λ (n : ℕ). itemAt b at ∷ set (itemsFrom left i b (at + 12)) i (itemAt b n)) e
       ∙ ap (λ (l : List SavedItem). itemAt b at ∷ l) (set-item left i (at + 12) (omega arith))
 
-  pub items-next : (items : List SavedItem) (item : SavedItem) (left i at : ℕ) → i < left → items ≡ itemsFrom left i b at → item ≡ itemAt b (at + 12 * i)
-      → set items i item ≡ itemsFrom left (i + 1) b at
+  pub items-next : (items : List SavedItem) (item : SavedItem) (left i at : ℕ) → i < left → items ≡ itemsFrom left i b at
+      → item ≡ itemAt b (at + 12 * i) → set items i item ≡ itemsFrom left (i + 1) b at
   items-next items item left i at h e k =
       (λ j. set (e j) i (k j)) ∙ (set-item left i at h ∙ ap (λ (n : ℕ). itemsFrom left n b at) (sym (add-one i)))

@@ -1,3 +1,7 @@
+-- What the proofs of several functions use.
 pub mod Words
 pub mod Items
 pub mod Held
+pub mod Little
+pub mod Parts
+pub mod ReportLaws

@@ -11,22 +11,15 @@ ghost use Rattle.definitions.specs.Exports.{savedWidth, itemsOffset, itemWidth,
 ghost use Rattle.definitions.specs.Saved.{zeroItem};
 ghost use Rattle.exports.specs.Small.{Widened};
 ghost use Rattle.exports.specs.Held.{fieldsIn, readOf};
+use super::BINDINGS;
+use super::BOUND;
+use super::FETCHED;
+use super::ITEM_WIDTH;
+use super::ITEMS;
 use super::SavedRead;
+use super::TYPES;
 use definitions::SavedItem;
 use definitions::SavedRun;
-
-// Offsets in the saved run's bytes, and the width of an item.
-const TYPES: usize = 6;
-
-const BOUND: usize = 22;
-
-const BINDINGS: usize = 38;
-
-const FETCHED: usize = 70;
-
-const ITEMS: usize = 198;
-
-const ITEM: usize = 12;
 
 fn wide(x: u8) -> u16
     ensures { λ r. ⌜ Widened x r ⌝ }
@@ -101,7 +94,7 @@ fn items_good(b: &[u8], height: usize) -> bool
 {
     let mut i = 0;
     while i < height {
-        let at = ITEMS + ITEM * i;
+        let at = ITEMS + ITEM_WIDTH * i;
         if 1 < b[at + 2] {
             return false;
         }
@@ -134,7 +127,7 @@ fn read_items(b: &[u8], height: usize) -> [SavedItem; 24]
     let mut items = [empty; 24];
     let mut i = 0;
     while i < height {
-        let at = ITEMS + ITEM * i;
+        let at = ITEMS + ITEM_WIDTH * i;
         items[i] = read_item(b, at);
         i += 1;
     }

@@ -3,3 +3,5 @@ pub mod Binding
 pub mod Filling
 pub mod Clean
 pub mod QuadLaws
+pub mod TermLaws
+pub mod TakeLaws

@@ -45,7 +45,7 @@ bytes-append [] m = refl
 bytes-append (q ∷ l) m =
     ap (λ (s : List ℕ). littleBytes 2 (q .graph) ++ (littleBytes 2 (q .subject) ++ (littleBytes 2 (q .property) ++ (littleBytes 2 (q .object) ++ s)))) (bytes-append l m)
 
-drop-replicate : (n k : ℕ) → drop {A = ℕ} n (replicate k 0) ≡ replicate (k - n) 0
+pub drop-replicate : (n k : ℕ) → drop {A = ℕ} n (replicate k 0) ≡ replicate (k - n) 0
 drop-replicate zero k = rw sub-zero
 drop-replicate (suc n) zero = let z : 0 - suc n ≡ 0 = omega arith in ap (λ (k : ℕ). replicate {A = ℕ} k 0) (sym z)
 drop-replicate (suc n) (suc k) = drop-replicate n k ∙ rw suc-sub-suc

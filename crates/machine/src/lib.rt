@@ -1,4 +1,26 @@
 // The machine: operations on the saved run, one step, a run, a page taken in.
 pub mod canonical; // canonical.rt: the saved run without what means nothing
+pub mod page; // page.rt: taking in a page
 pub mod quads; // quads.rt: the quad table
 pub mod stack; // stack.rt: stack and bindings
+
+// A term's number, and how many terms there then are.
+pub struct Joined {
+    pub number: u16,
+    pub terms: usize,
+}
+
+// The numbers of a triple's terms, and how many terms there then are.
+pub struct Numbers {
+    pub subject: u16,
+    pub property: u16,
+    pub object: u16,
+    pub terms: usize,
+}
+
+// Terms, quads and skipped records so far.
+pub struct Counts {
+    pub terms: usize,
+    pub quads: usize,
+    pub skipped: u32,
+}

@@ -3,3 +3,4 @@ pub mod Present
 pub mod FieldLaws
 pub mod PairLaws
 pub mod Ends
+pub mod MarkLaws

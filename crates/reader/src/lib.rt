@@ -3,6 +3,7 @@
 pub mod fields; // fields.rt: patterns and language ranges
 pub mod pairs; // pairs.rt: the pairs of a block
 pub mod script; // script.rt: names, expressions, booleans, queries, scripts
+pub mod uses; // uses.rt: the variables that stand in a record
 
 // What reading a record gives: the offset after the record and its children, or that it is malformed.
 pub enum Read {

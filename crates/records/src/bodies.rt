@@ -21,7 +21,7 @@ const SECONDS_BEFORE: u64 = 62135596800;
 
 const SECONDS_AFTER: u64 = 253402300799;
 
-// The length of a body, 0 for a kind that is no term's.
+// The length of a body, 0 for a kind that is no term's. Ruled out: a string's without its tag; a length for kind 16.
 pub fn body_width(kind: u8) -> usize
     ensures { λ r. ⌜ r ≡ widthOf (ofTermKind kind) ⌝ }
 {
@@ -33,7 +33,7 @@ pub fn body_width(kind: u8) -> usize
     }
 }
 
-// Whether a body of its kind's length says a term.
+// Whether a body of its kind's length says a term. Ruled out: a limit off by one; a bad tag let pass.
 pub fn body_ok(kind: u8, body: &[u8]) -> bool
     requires { ⌜ length (now body) ≡ widthOf (ofTermKind kind) ⌝ }
     ensures { λ r. ⌜ r ≡ isSome (bodyTerm (ofTermKind kind) (now (body .entry))) ⌝ }

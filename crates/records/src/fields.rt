@@ -21,6 +21,7 @@ fn byte_ok(b: u8, low: u8, high: u8, other: u8) -> bool
 }
 
 // Whether a field is a text of bytes from low to high, or other, and then zeros.
+// Ruled out: bytes after the first zero left unchecked; the last byte left out.
 pub fn field_ok(field: &[u8], low: u8, high: u8, other: u8) -> bool
     ensures { λ r. ⌜ r ≡ isSome (fieldText (rangeOr low high other) (length (now (field .entry))) (now (field .entry))) ⌝ }
 {
@@ -38,7 +39,7 @@ pub fn field_ok(field: &[u8], low: u8, high: u8, other: u8) -> bool
     true
 }
 
-// A URI: 1 to 40 bytes from 21 to 7E.
+// A URI: 1 to 40 bytes from 21 to 7E. Ruled out: an empty one; one with a blank.
 pub fn uri_ok(field: &[u8]) -> bool
     requires { ⌜ length (now field) ≡ textWidth ⌝ }
     ensures { λ r. ⌜ r ≡ isSome (uriText (now (field .entry))) ⌝ }
@@ -49,7 +50,7 @@ pub fn uri_ok(field: &[u8]) -> bool
     field_ok(field, 0x21, 0x7e, 0x7e)
 }
 
-// A string's text: bytes from 20 to 7E, or none.
+// A string's text: bytes from 20 to 7E, or none. Ruled out: byte 7F; an empty text refused.
 pub fn text_ok(field: &[u8]) -> bool
     requires { ⌜ length (now field) ≡ textWidth ⌝ }
     ensures { λ r. ⌜ r ≡ isSome (fieldText textByte textWidth (now (field .entry))) ⌝ }
@@ -57,7 +58,7 @@ pub fn text_ok(field: &[u8]) -> bool
     field_ok(field, 0x20, 0x7e, 0x7e)
 }
 
-// A language tag: small letters and hyphens, or none.
+// A language tag: small letters and hyphens, or none. Ruled out: a capital letter; a digit.
 pub fn tag_ok(field: &[u8]) -> bool
     requires { ⌜ length (now field) ≡ tagWidth ⌝ }
     ensures { λ r. ⌜ r ≡ isSome (fieldText tagByte tagWidth (now (field .entry))) ⌝ }

@@ -2,15 +2,18 @@
 use crate::Counted;
 use crate::Read;
 use crate::bodies::body_width;
+use crate::reading::ENTRY_WIDTH;
 use crate::reading::read_entry;
 use crate::reading::read_term;
 use crate::reading::read_triple;
+use definitions::TEXT_WIDTH;
 ghost use mathlib.Core.Path.{_≡_};
 ghost use mathlib.Core.Bool.{true};
 ghost use Rattle.definitions.specs.Terms.{sameTerm, sameProperty, readTerm, readEntry, readTerms, readSchema, readPage};
 ghost use Rattle.laws.proofs.RecordsAt.{recordsAt};
 ghost use Rattle.records.specs.Answers.{isSome, nextOf, countOf, sameIn, againIn, distinctIn};
 
+// How many term, schema or page records there are. Ruled out: the count up to the first bad record; one more for bytes left over.
 pub fn count_terms(s: &[u8]) -> Counted
     ensures { λ r. ⌜ r ≡ countOf (readTerms (now (s .entry))) ⌝ }
 {
@@ -56,7 +59,7 @@ pub fn count_triples(s: &[u8]) -> Counted
     Counted::Count(n)
 }
 
-// Where a good term record ends.
+// Where a good term record ends. Ruled out: the end of its body's text; the width of another kind.
 pub fn term_end(s: &[u8], at: usize) -> usize
     requires { ⌜ isSome (readTerm (now s) at) ≡ true ⌝ }
     ensures { λ r. ⌜ Read.Next r ≡ nextOf (readTerm (now (s .entry)) at) ⌝ }
@@ -91,7 +94,7 @@ fn term_again(s: &[u8], at: usize, from: usize) -> bool
     false
 }
 
-// Whether good term records are all different.
+// Whether term records are good and all different. Ruled out: neighbours alone compared; integer 3 and decimal 3.0 taken for one term.
 pub fn terms_distinct(s: &[u8]) -> bool
     ensures { λ r. ⌜ r ≡ distinctIn sameTerm (readTerms (now (s .entry))) ⌝ }
 {
@@ -115,9 +118,9 @@ fn same_property(s: &[u8], a: usize, b: usize) -> bool
     ensures { λ r. ⌜ r ≡ sameIn sameProperty (readEntry (now (s .entry)) a) (readEntry (now (s .entry)) b) ⌝ }
 {
     let a_field = a + 1;
-    let a_end = a_field + 40;
+    let a_end = a_field + TEXT_WIDTH;
     let b_field = b + 1;
-    let b_end = b_field + 40;
+    let b_end = b_field + TEXT_WIDTH;
     check::same(&s[a_field..a_end], &s[b_field..b_end])
 }
 
@@ -132,12 +135,12 @@ fn property_again(s: &[u8], at: usize, from: usize) -> bool
         if same_property(s, at, i) {
             return true;
         }
-        i += 42;
+        i += ENTRY_WIDTH;
     }
     false
 }
 
-// Whether good schema records are of different properties.
+// Whether schema records are good and of different properties. Ruled out: a property twice with two datatypes let pass; neighbours alone compared.
 pub fn properties_distinct(s: &[u8]) -> bool
     ensures { λ r. ⌜ r ≡ distinctIn sameProperty (readSchema (now (s .entry))) ⌝ }
 {
@@ -146,7 +149,7 @@ pub fn properties_distinct(s: &[u8]) -> bool
     };
     let mut at = 0;
     while at < s.len() {
-        let next = at + 42;
+        let next = at + ENTRY_WIDTH;
         if property_again(s, at, next) {
             return false;
         }

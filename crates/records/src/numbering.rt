@@ -1,10 +1,12 @@
 // Terms that join a term table, and the table that loading numbers.
 use crate::Added;
 use crate::lists::term_end;
+use crate::reading::ENTRY_WIDTH;
 use crate::table::find_term;
 use crate::table::put_slot;
 use crate::table::slot_of;
 use definitions::TERM_LIMIT;
+use definitions::TEXT_WIDTH;
 ghost use mathlib.Core.Path.{_≡_};
 ghost use mathlib.Core.Bool.{true};
 ghost use lib.ListN.{replicate};
@@ -16,6 +18,7 @@ ghost use Rattle.records.specs.Answers.{isSome};
 ghost use Rattle.records.specs.Table.{HoldsTerms, GoodSlot, listOf, withTerm, addedOf, tableOf};
 
 // A slot's term joins a table of n terms, where it is not there.
+// Ruled out: a second number for a term that is there; a refusal where a full table has it.
 pub fn add_term(table: &mut [u8], n: usize, slot: &[u8]) -> Added
     requires { ⌜ HoldsTerms (now table) n ⌝ }
     requires { ⌜ GoodSlot (now slot) ⌝ }
@@ -32,7 +35,7 @@ pub fn add_term(table: &mut [u8], n: usize, slot: &[u8]) -> Added
     Added::Count(n + 1)
 }
 
-// Writes listed terms into a table of zeros.
+// Writes listed terms into a table of zeros. Ruled out: one of them left out; bytes left over in a slot.
 pub fn list_terms(terms: &[u8], table: &mut [u8]) -> Added
     requires { ⌜ isSome (readTerms (now terms)) ≡ true ⌝ }
     requires { ⌜ now table ≡ replicate termTableWidth 0 ⌝ }
@@ -55,6 +58,7 @@ pub fn list_terms(terms: &[u8], table: &mut [u8]) -> Added
 }
 
 // Schema URIs join a table of n terms, those that are not there, in schema order.
+// Ruled out: another order; a URI written twice.
 pub fn add_properties(schema: &[u8], table: &mut [u8], n: usize) -> Added
     requires { ⌜ isSome (readSchema (now schema)) ≡ true ⌝ }
     requires { ⌜ HoldsTerms (now table) n ⌝ }
@@ -64,18 +68,19 @@ pub fn add_properties(schema: &[u8], table: &mut [u8], n: usize) -> Added
     let mut at = 0;
     while at < schema.len() {
         let field = at + 1;
-        let end = field + 40;
+        let end = field + TEXT_WIDTH;
         let slot = slot_of(0x11, &schema[field..end]);
         let Added::Count(more) = add_term(table, used, &slot) else {
             return Added::Full;
         };
         used = more;
-        at += 42;
+        at += ENTRY_WIDTH;
     }
     Added::Count(used)
 }
 
 // Writes the terms that loading numbers into a table of zeros: listed terms, then schema URIs that are not there.
+// Ruled out: schema URIs first; 513 terms accepted.
 pub fn number_terms(terms: &[u8], schema: &[u8], table: &mut [u8]) -> Added
     requires { ⌜ isSome (readTerms (now terms)) ≡ true ⌝ }
     requires { ⌜ isSome (readSchema (now schema)) ≡ true ⌝ }

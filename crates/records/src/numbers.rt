@@ -12,7 +12,7 @@ fn wide(s: &[u8], at: usize) -> u64
     s[at] as u64
 }
 
-// The 2-byte number at an offset.
+// The 2-byte number at an offset. Ruled out: the high byte first; one byte alone.
 pub fn word_at(s: &[u8], at: usize) -> usize
     requires { ⌜ at + 1 < length (now s) ⌝ }
     ensures { λ r. ⌜ (r ≡ word (now (s .entry)) at) × (r < 65536) ⌝ }
@@ -22,7 +22,7 @@ pub fn word_at(s: &[u8], at: usize) -> usize
     low + 256 * high
 }
 
-// The 8-byte number at an offset.
+// The 8-byte number at an offset. Ruled out: the high byte first; seven bytes of it.
 pub fn long_at(s: &[u8], at: usize) -> u64
     requires { ⌜ at + 8 ≤ length (now s) ⌝ }
     ensures { λ r. ⌜ r ≡ little (part (now (s .entry)) at 8) ⌝ }
@@ -37,7 +37,7 @@ pub fn long_at(s: &[u8], at: usize) -> u64
         + 72057594037927936 * wide(s, at + 7)
 }
 
-// The number that v is in two's complement.
+// The number that v is in two's complement. Ruled out: the sign left out; −1 off for negative ones.
 pub fn to_signed(v: u64) -> i64
     ensures { λ r. ⌜ r ≡ signed v ⌝ }
 {
@@ -48,6 +48,7 @@ pub fn to_signed(v: u64) -> i64
 }
 
 // Whether the number that v is in two's complement is from -low to high.
+// Ruled out: a limit off by one; limits that are the same on both sides.
 pub fn within(v: u64, low: u64, high: u64) -> bool
     requires { ⌜ 0 < low ⌝ }
     ensures { λ r. ⌜ r ≡ withinLimits low high (signed v) ⌝ }
@@ -58,6 +59,7 @@ pub fn within(v: u64, low: u64, high: u64) -> bool
     18446744073709551615 - v < low
 }
 
+// Ruled out: the last byte left out; a stop at the first zero.
 pub fn is_zero(s: &[u8]) -> bool
     ensures { λ r. ⌜ r ≡ allZero (now (s .entry)) ⌝ }
 {

@@ -8,9 +8,10 @@ ghost use mathlib.Core.Path.{_≡_};
 ghost use Rattle.definitions.specs.Terms.{ofTermKind, uriAt, readTerm, readEntry, readTriple};
 ghost use Rattle.records.specs.Answers.{hasRoom, nextOf, bodyFrom};
 
-const ENTRY_WIDTH: usize = 42;
+// Kind, URI body and datatype.
+pub const ENTRY_WIDTH: usize = 42;
 
-// Whether so many bytes follow from an offset on.
+// Whether so many bytes follow from an offset on. Ruled out: a sum that wraps; one byte too many.
 pub fn has_room(s: &[u8], at: usize, width: usize) -> bool
     ensures { λ r. ⌜ r ≡ hasRoom (now (s .entry)) at width ⌝ }
 {
@@ -20,7 +21,7 @@ pub fn has_room(s: &[u8], at: usize, width: usize) -> bool
     width <= s.len() - at
 }
 
-// A URI body.
+// A URI body. Ruled out: an empty URI; a field cut off by the end.
 pub fn read_uri(s: &[u8], at: usize) -> Read
     ensures { λ r. ⌜ r ≡ nextOf (uriAt (now (s .entry)) at) ⌝ }
 {
@@ -34,7 +35,7 @@ pub fn read_uri(s: &[u8], at: usize) -> Read
     Read::Next(end)
 }
 
-// A body of a term record's kind.
+// A body of a term record's kind. Ruled out: a body one byte short; a kind that is no term's.
 pub fn read_body(kind: u8, s: &[u8], at: usize) -> Read
     ensures { λ r. ⌜ r ≡ nextOf (bodyFrom (ofTermKind kind) (now (s .entry)) at) ⌝ }
 {
@@ -52,7 +53,7 @@ pub fn read_body(kind: u8, s: &[u8], at: usize) -> Read
     Read::Next(end)
 }
 
-// A term record, 11 to 15.
+// A term record, 11 to 15. Ruled out: kind 16; a number past its limits.
 pub fn read_term(s: &[u8], at: usize) -> Read
     ensures { λ r. ⌜ r ≡ nextOf (readTerm (now (s .entry)) at) ⌝ }
 {
@@ -62,7 +63,7 @@ pub fn read_term(s: &[u8], at: usize) -> Read
     read_body(s[at], s, at + 1)
 }
 
-// A schema record, 21.
+// A schema record, 21. Ruled out: datatype 6; a record without its datatype byte.
 pub fn read_entry(s: &[u8], at: usize) -> Read
     ensures { λ r. ⌜ r ≡ nextOf (readEntry (now (s .entry)) at) ⌝ }
 {
@@ -84,7 +85,7 @@ pub fn read_entry(s: &[u8], at: usize) -> Read
     }
 }
 
-// A page record, 81 to 85.
+// A page record, 81 to 85. Ruled out: kind 86; an object read as another kind's.
 pub fn read_triple(s: &[u8], at: usize) -> Read
     ensures { λ r. ⌜ r ≡ nextOf (readTriple (now (s .entry)) at) ⌝ }
 {

@@ -17,7 +17,7 @@ ghost use Rattle.definitions.specs.Saved.{slotTerm, termsIn};
 ghost use Rattle.records.specs.Answers.{isSome, countOf, distinctIn};
 ghost use Rattle.records.specs.Table.{HoldsTerms, GoodSlot, numberFrom, numberIn, slotSet, withTerm, addedOf, tableOf};
 
-// Whether a slot holds a term.
+// Whether a slot holds a term. Ruled out: bytes after the record that are not zero; a slot of zeros.
 pub fn slot_ok(slot: &[u8]) -> bool
     ensures { λ r. ⌜ r ≡ isSome (slotTerm (now (slot .entry))) ⌝ }
 {
@@ -27,7 +27,7 @@ pub fn slot_ok(slot: &[u8]) -> bool
     is_zero(&slot[end..])
 }
 
-// How many terms a table holds.
+// How many terms a table holds. Ruled out: a count past a slot of zeros; rubbish after the last let pass.
 pub fn used_terms(table: &[u8]) -> Counted
     requires { ⌜ length (now table) ≡ termTableWidth ⌝ }
     ensures { λ r. ⌜ r ≡ countOf (termsIn (now (table .entry))) ⌝ }
@@ -71,6 +71,7 @@ fn find_slot(table: &[u8], n: usize, slot: &[u8], from: usize) -> usize
 }
 
 // The number of a slot's term, or the number of terms where it is not there.
+// Ruled out: 0 for a term that is not there; the number of one like it.
 pub fn find_term(table: &[u8], n: usize, slot: &[u8]) -> usize
     requires { ⌜ HoldsTerms (now table) n ⌝ }
     requires { ⌜ GoodSlot (now slot) ⌝ }
@@ -79,7 +80,7 @@ pub fn find_term(table: &[u8], n: usize, slot: &[u8]) -> usize
     find_slot(table, n, slot, 0)
 }
 
-// Whether the terms of a table are all different.
+// Whether the terms of a table are all different. Ruled out: neighbours alone compared; a slot compared with itself.
 pub fn slots_distinct(table: &[u8], n: usize) -> bool
     requires { ⌜ HoldsTerms (now table) n ⌝ }
     ensures { λ r. ⌜ r ≡ distinctIn sameTerm (termsIn (now (table .entry))) ⌝ }
@@ -97,18 +98,18 @@ pub fn slots_distinct(table: &[u8], n: usize) -> bool
     true
 }
 
-// The slot of a record.
-pub fn slot_of(kind: u8, body: &[u8]) -> [u8; 49]
+// The slot of a record. Ruled out: no zeros after it; no kind before it.
+pub fn slot_of(kind: u8, body: &[u8]) -> [u8; SLOT_WIDTH]
     requires { ⌜ length (now body) < slotWidth ⌝ }
     ensures { λ r. ⌜ r ≡ filled slotWidth (kind ∷ now (body .entry)) ⌝ }
 {
-    let mut slot = [0u8; 49];
+    let mut slot = [0u8; SLOT_WIDTH];
     slot[0] = kind;
     bytes::copy(body, &mut slot[1..]);
     slot
 }
 
-// Writes a slot.
+// Writes a slot. Ruled out: the slot beside it changed; its last byte left as it was.
 pub fn put_slot(table: &mut [u8], n: usize, slot: &[u8])
     requires { ⌜ length (now table) ≡ termTableWidth ⌝ }
     requires { ⌜ n < termLimit ⌝ }

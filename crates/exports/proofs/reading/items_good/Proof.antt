@@ -1,9 +1,8 @@
+-- The loop: the items before `i` have passed the test, so the rest decides.
 use Prim.Native.Nat.{_≤_, _-_, _+_, _*_}
-use mathlib.Core.Path.{_≡_, ap}
 use native.Mathlib.Omega.{arith}
+use mathlib.Core.Path.{_≡_, ap}
 use borrow.Author.Needs.{needs}
-use borrow.Author.Tests.{le-leb, lt-leb, eq-eqb, ne-eqb}
-use lib.ListN.{getD}
 use Rattle.definitions.specs.Exports.{itemsOffset, itemWidth, itemsGood}
 use Rattle.exports.proofs.Items.{good-next, good-mark, good-zero, good-none}
 use Rattle.exports.proofs.reading.items_good.Statement.{statement}
@@ -16,7 +15,9 @@ abbrev μ-loop : tie.MeasureT-loop
 μ-loop b height i₀ i = height - i
 
 loop-holds : tie.Need-loop-holds Inv-loop μ-loop
-loop-holds c = let e : c .args .height ≡ c .args .height - 0 = omega arith in (omega arith, ap (λ n. itemsGood n (c .args .b .now) itemsOffset) e)
+loop-holds c =
+    let e : c .args .height ≡ c .args .height - 0 = omega arith in
+    (omega arith, ap (λ n. itemsGood n (c .args .b .now) itemsOffset) e)
 
 mul-at : tie.Need-mul-at Inv-loop μ-loop
 mul-at c = search needs
@@ -31,7 +32,10 @@ shared-slice-read-if1 : tie.Need-shared-slice-read-if1 Inv-loop μ-loop
 shared-slice-read-if1 c = search needs
 
 returns : tie.Need-returns Inv-loop μ-loop
-returns c = good-mark (c .before .before .before .before .args .b .now) _ _ _ (omega arith) (c .before .before .before .loop .inv .1) (lt-leb (getD (c .before .before .before .before .args .b .now) (itemsOffset + itemWidth * c .before .before .before .loop .i + 2) 0) 1 (c .if1 .taken))
+returns c =
+    let c₁ = c .before .before .before in
+    let c₂ = c₁ .before in
+    good-mark (c₂ .args .b .now) _ _ _ (omega arith) (c₁ .loop .inv .1) (c .if1 .taken)
 
 add-if2 : tie.Need-add-if2 Inv-loop μ-loop
 add-if2 c = search needs
@@ -40,7 +44,10 @@ shared-slice-read-if2 : tie.Need-shared-slice-read-if2 Inv-loop μ-loop
 shared-slice-read-if2 c = search needs
 
 returns-2 : tie.Need-returns-2 Inv-loop μ-loop
-returns-2 c = good-zero (c .before .before .before .before .before .before .args .b .now) _ _ _ (omega arith) (c .before .before .before .before .before .loop .inv .1) (le-leb (getD (c .before .before .before .before .before .before .args .b .now) (itemsOffset + itemWidth * c .before .before .before .before .before .loop .i + 2) 0) 1 (c .before .before .if1 .left)) (ne-eqb (getD (c .before .before .before .before .before .before .args .b .now) (itemsOffset + itemWidth * c .before .before .before .before .before .loop .i + 3) 0) 0 (c .if2 .taken))
+returns-2 c =
+    let c₁ = c .before .before .before .before .before in
+    let c₂ = c₁ .before in
+    good-zero (c₂ .args .b .now) _ _ _ (omega arith) (c₁ .loop .inv .1) (c .before .before .if1 .left) (c .if2 .taken)
 
 add-i : tie.Need-add-i Inv-loop μ-loop
 add-i c = search needs
@@ -49,7 +56,10 @@ loop-less : tie.Need-loop-less Inv-loop μ-loop
 loop-less c = search needs
 
 loop-again : tie.Need-loop-again Inv-loop μ-loop
-loop-again c = (omega arith, good-next (c .before .before .before .before .before .before .args .b .now) _ _ _ (omega arith) (c .before .before .before .before .before .loop .inv .1) (le-leb (getD (c .before .before .before .before .before .before .args .b .now) (itemsOffset + itemWidth * c .before .before .before .before .before .loop .i + 2) 0) 1 (c .before .before .if1 .left)) (eq-eqb (getD (c .before .before .before .before .before .before .args .b .now) (itemsOffset + itemWidth * c .before .before .before .before .before .loop .i + 3) 0) 0 (c .if2 .left)))
+loop-again c =
+    let c₁ = c .before .before .before .before .before in
+    let c₂ = c₁ .before in
+    (omega arith, good-next (c₂ .args .b .now) _ _ _ (omega arith) (c₁ .loop .inv .1) (c .before .before .if1 .left) (c .if2 .left))
 
 returns-3 : tie.Need-returns-3 Inv-loop μ-loop
 returns-3 c = good-none (c .before .before .args .b .now) _ _ _ (omega arith) (c .before .loop .inv .1)

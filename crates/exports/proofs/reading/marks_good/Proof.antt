@@ -1,6 +1,7 @@
+-- The loop: the marks before `i` have passed the test, so the rest decides.
 use Prim.Native.Nat.{_≤_, _-_}
 use native.Mathlib.Omega.{arith}
-use mathlib.Core.Path.{_≡_, refl}
+use mathlib.Core.Path.{_≡_}
 use borrow.Author.Needs.{needs}
 use borrow.Author.Tests.{le-leb, lt-leb}
 use lib.Dec.{leb}
@@ -23,7 +24,10 @@ shared-slice-read-if1 : tie.Need-shared-slice-read-if1 Inv-loop μ-loop
 shared-slice-read-if1 c = search needs
 
 returns : tie.Need-returns Inv-loop μ-loop
-returns c = let n = c .before .before .before in every-stop (λ m. leb m 1) (n .before .args .marks .now) (n .loop .i) 0 (n .loop .inv .1) (omega arith) (lt-leb (getD (n .before .args .marks .now) (n .loop .i) 0) 1 (c .if1 .taken))
+returns c =
+    let n = c .before .before .before in
+    let marks = n .before .args .marks .now in
+    every-stop (λ m. leb m 1) marks (n .loop .i) 0 (n .loop .inv .1) (omega arith) (lt-leb (getD marks (n .loop .i) 0) 1 (omega arith))
 
 add-i : tie.Need-add-i Inv-loop μ-loop
 add-i c = search needs
@@ -32,10 +36,16 @@ loop-less : tie.Need-loop-less Inv-loop μ-loop
 loop-less c = search needs
 
 loop-again : tie.Need-loop-again Inv-loop μ-loop
-loop-again c = let n = c .before .before .before in (omega arith, every-next (λ m. leb m 1) (n .before .args .marks .now) (n .loop .i) 0 (n .loop .inv .1) (omega arith) (le-leb (getD (n .before .args .marks .now) (n .loop .i) 0) 1 (c .if1 .left)))
+loop-again c =
+    let n = c .before .before .before in
+    let marks = n .before .args .marks .now in
+    let e = le-leb (getD marks (n .loop .i) 0) 1 (omega arith) in
+    (omega arith, every-next (λ m. leb m 1) marks (n .loop .i) 0 (n .loop .inv .1) (omega arith) e)
 
 returns-2 : tie.Need-returns-2 Inv-loop μ-loop
-returns-2 c = let n = c .before in every-none (λ m. leb m 1) (n .before .args .marks .now) (n .loop .i) 0 (n .loop .inv .1) (omega arith)
+returns-2 c =
+    let n = c .before in
+    every-none (λ m. leb m 1) (n .before .args .marks .now) (n .loop .i) 0 (n .loop .inv .1) (omega arith)
 
 pub marks-good-spec : {M : Type 1} → statement M
 marks-good-spec =

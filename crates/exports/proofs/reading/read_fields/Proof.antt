@@ -1,11 +1,11 @@
-use native.Mathlib.Omega.{arith}
-use mathlib.Core.Path.{_≡_, ap, _∙_}
+-- Field by field, from what the calls give.
 use Prim.Native.Nat.{ℕ}
+use mathlib.Core.Path.{_≡_, ap, _∙_}
+use borrow.Author.Needs.{needs}
 use lib.ListN.{length, replicate}
 use Rattle.definitions.specs.Bytes.{part}
 use Rattle.definitions.specs.Exports.{itemsOffset, typesOffset, itemsFrom}
 use Rattle.laws.proofs.Writing.{copied}
-use borrow.Author.Needs.{needs}
 use Rattle.exports.proofs.reading.read_fields.Statement.{statement}
 use Rattle.exports.proofs.reading.read_fields.Tie as tie
 
@@ -67,7 +67,27 @@ read-items-requires : tie.Need-read-items-requires
 read-items-requires c κs = search needs
 
 returns : tie.Need-returns
-returns c = let b = c .before .before .before .before .before .before .before .before .before .before .before .before .before .before .before .before .before .before .before .args .b .now in let l : length (part b typesOffset 16) ≡ length (replicate {A = ℕ} 16 0) = search needs in let t = c .before .before .before .before .before .before .before .before .before .before .before .before .before .before .before .copy .ensures .1 ∙ copied (part b typesOffset 16) (replicate 16 0) l in let e = c .before .before .before .word-at .ensures in let i = c .read-items .ensures ∙ ap (λ n. itemsFrom 24 n b itemsOffset) e in λ k. record { height = e k; quads = c .before .before .word-at2 .ensures k; graphs = c .before .word-at3 .ensures k; types = t k; bound = c .before .before .before .before .before .before .before .before .before .before .before .read-marks .ensures k; bindings = c .before .before .before .before .before .before .before .before .read-words .ensures k; fetched = c .before .before .before .before .before .read-words2 .ensures k; items = i k }
+returns c =
+    let c₁ = c .before .before .before .before .before in
+    let c₂ = c₁ .before .before .before in
+    let c₃ = c₂ .before .before .before in
+    let c₄ = c₃ .before .before .before .before in
+    let c₅ = c₄ .before .before .before .before in
+    let b = c₅ .args .b .now in
+    let l : length (part b typesOffset 16) ≡ length (replicate {A = ℕ} 16 0) = search needs in
+    let t = c₄ .copy .ensures .1 ∙ copied (part b typesOffset 16) (replicate 16 0) l in
+    let e = c .before .before .before .word-at .ensures in
+    let i = c .read-items .ensures ∙ ap (λ n. itemsFrom 24 n b itemsOffset) e in
+    λ k. record {
+      height = e k;
+      quads = c .before .before .word-at2 .ensures k;
+      graphs = c .before .word-at3 .ensures k;
+      types = t k;
+      bound = c₃ .read-marks .ensures k;
+      bindings = c₂ .read-words .ensures k;
+      fetched = c₁ .read-words2 .ensures k;
+      items = i k;
+    }
 
 pub read-fields-spec : {M : Type 1} → statement M
 read-fields-spec =

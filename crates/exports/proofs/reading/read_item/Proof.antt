@@ -1,3 +1,4 @@
+-- Field by field, from what the calls give.
 use Prim.Native.Nat.{_+_}
 use borrow.Author.Needs.{needs}
 use lib.Dec.{eqb}

@@ -1,6 +1,7 @@
-use Prim.Native.Nat.{_≤_, _-_, _+_, _*_}
-use mathlib.Core.Path.{_≡_, ap, sym, _∙_}
+-- The loop: the items before `i` are read, and zeros stand in the places after them.
+use Prim.Native.Nat.{_≤_, _-_}
 use native.Mathlib.Omega.{arith}
+use mathlib.Core.Path.{_≡_, ap, sym, _∙_}
 use borrow.Author.Needs.{needs}
 use lib.ListN.{replicate}
 use Rattle.definitions.specs.Exports.{itemsOffset, itemsFrom}
@@ -18,7 +19,8 @@ zero-item-requires : tie.Need-zero-item-requires Inv-loop μ-loop
 zero-item-requires c κs = search needs
 
 loop-holds : tie.Need-loop-holds Inv-loop μ-loop
-loop-holds c = (omega arith, ap (replicate 24) (c .zero-item .ensures) ∙ sym (items-none (c .before .before .args .b .now) 24 itemsOffset))
+loop-holds c =
+    (omega arith, ap (replicate 24) (c .zero-item .ensures) ∙ sym (items-none (c .before .before .args .b .now) 24 itemsOffset))
 
 mul-at : tie.Need-mul-at Inv-loop μ-loop
 mul-at c = search needs
@@ -42,10 +44,15 @@ loop-less : tie.Need-loop-less Inv-loop μ-loop
 loop-less c = search needs
 
 loop-again : tie.Need-loop-again Inv-loop μ-loop
-loop-again c = (omega arith, items-next (c .before .before .before .before .before .args .b .now) _ _ 24 _ itemsOffset (omega arith) (c .before .before .loop .inv .1) (c .read-item .ensures))
+loop-again c =
+    let c₁ = c .before .before .before .before .before in
+    (omega arith, items-next (c₁ .args .b .now) _ _ 24 _ itemsOffset (omega arith) (c .before .before .loop .inv .1) (c .read-item .ensures))
 
 returns : tie.Need-returns Inv-loop μ-loop
-returns c = let e : c .before .loop .i ≡ c .before .before .before .before .args .height = omega arith in c .before .loop .inv .1 ∙ ap (λ n. itemsFrom 24 n (c .before .before .before .before .args .b .now) itemsOffset) e
+returns c =
+    let c₁ = c .before .before .before .before in
+    let e : c .before .loop .i ≡ c₁ .args .height = omega arith in
+    c .before .loop .inv .1 ∙ ap (λ n. itemsFrom 24 n (c₁ .args .b .now) itemsOffset) e
 
 pub read-items-spec : {M : Type 1} → statement M
 read-items-spec =

@@ -1,6 +1,7 @@
+-- The loop: the marks before `i` are read.
 use Prim.Native.Nat.{_≤_, _-_}
-use mathlib.Core.Path.{_≡_}
 use native.Mathlib.Omega.{arith}
+use mathlib.Core.Path.{_≡_}
 use borrow.Author.Needs.{needs}
 use lib.Dec.{eqb}
 use lib.ListN.{length}
@@ -30,13 +31,15 @@ loop-less : tie.Need-loop-less Inv-loop μ-loop
 loop-less c = search needs
 
 loop-again : tie.Need-loop-again Inv-loop μ-loop
-loop-again c = (omega arith, search needs, map-next (eqb 1) _ _ _ _ 0 (omega arith) (omega arith) (c .before .before .loop .inv .2))
+loop-again c =
+    (omega arith, search needs, map-next (eqb 1) _ _ _ _ 0 (omega arith) (omega arith) (c .before .before .loop .inv .2))
 
 same-length : tie.Need-same-length Inv-loop μ-loop
 same-length c = search needs
 
 returns : tie.Need-returns Inv-loop μ-loop
-returns c = map-all (eqb 1) _ (c .before .before .args .out .now) _ (c .before .loop .i) (omega arith) (omega arith) (c .before .loop .inv .2)
+returns c =
+    map-all (eqb 1) _ (c .before .before .args .out .now) _ (c .before .loop .i) (omega arith) (omega arith) (c .before .loop .inv .2)
 
 pub read-marks-spec : {M : Type 1} → statement M
 read-marks-spec =

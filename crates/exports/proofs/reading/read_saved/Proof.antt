@@ -1,9 +1,10 @@
-use mathlib.Core.Path.{_≡_, ap, sym, _∙_}
+-- A law for each test that fails, and one where all pass.
+use mathlib.Core.Path.{ap, sym, _∙_}
 use mathlib.Core.Bool.{true}
 use borrow.Author.Tests.{not-true, not-false}
+use borrow.Author.Needs.{needs}
 use Rattle.exports.specs.Held.{readOf}
 use Rattle.exports.proofs.Held.{too-high, bad-marks, bad-items, all-good}
-use borrow.Author.Needs.{needs}
 use Rattle.exports.proofs.reading.read_saved.Statement.{statement}
 use Rattle.exports.proofs.reading.read_saved.Tie as tie
 
@@ -14,7 +15,8 @@ unsound-requires : tie.Need-unsound-requires
 unsound-requires c κs = search needs
 
 returns : tie.Need-returns
-returns c = c .unsound .ensures ∙ ap readOf (sym (too-high _ _ (c .before .before .word-at .ensures) (c .before .if1 .taken)))
+returns c =
+    c .unsound .ensures ∙ ap readOf (sym (too-high _ _ (c .before .before .word-at .ensures) (c .before .if1 .taken)))
 
 sub-marks-good : tie.Need-sub-marks-good
 sub-marks-good c = search needs
@@ -32,7 +34,11 @@ unsound-requires-2 : tie.Need-unsound-requires-2
 unsound-requires-2 c κs = search needs
 
 returns-2 : tie.Need-returns-2
-returns-2 c = c .unsound2 .ensures ∙ ap readOf (sym (bad-marks _ _ (c .before .before .before .before .before .word-at .ensures) (c .before .before .before .before .if1 .left) (sym (c .before .before .marks-good .ensures) ∙ not-true _ (c .before .if2 .taken))))
+returns-2 c =
+    let c₁ = c .before .before .before .before in
+    let c₂ = c₁ .before in
+    let m = sym (c .before .before .marks-good .ensures) ∙ not-true _ (c .before .if2 .taken) in
+    c .unsound2 .ensures ∙ ap readOf (sym (bad-marks _ _ (c₂ .word-at .ensures) (c₁ .if1 .left) m))
 
 cast-items-good : tie.Need-cast-items-good
 cast-items-good c = search needs
@@ -44,13 +50,26 @@ unsound-requires-3 : tie.Need-unsound-requires-3
 unsound-requires-3 c κs = search needs
 
 returns-3 : tie.Need-returns-3
-returns-3 c = c .unsound3 .ensures ∙ ap readOf (sym (bad-items _ _ (c .before .before .before .before .before .before .before .word-at .ensures) (c .before .before .before .before .before .before .if1 .left) (sym (c .before .before .before .before .marks-good .ensures) ∙ not-false _ (c .before .before .before .if2 .left)) (sym (c .before .before .items-good .ensures) ∙ not-true _ (c .before .if3 .taken))))
+returns-3 c =
+    let c₁ = c .before .before .before .before in
+    let c₂ = c₁ .before .before in
+    let c₃ = c₂ .before in
+    let m = sym (c₁ .marks-good .ensures) ∙ not-false _ (c .before .before .before .if2 .left) in
+    let i = sym (c .before .before .items-good .ensures) ∙ not-true _ (c .before .if3 .taken) in
+    c .unsound3 .ensures ∙ ap readOf (sym (bad-items _ _ (c₃ .word-at .ensures) (c₂ .if1 .left) m i))
 
 read-fields-requires : tie.Need-read-fields-requires
 read-fields-requires c κs = search needs
 
 returns-4 : tie.Need-returns-4
-returns-4 c = let h = all-good _ _ (c .before .before .before .before .before .before .before .word-at .ensures) (c .before .before .before .before .before .before .if1 .left) (sym (c .before .before .before .before .marks-good .ensures) ∙ not-false _ (c .before .before .before .if2 .left)) (sym (c .before .before .items-good .ensures) ∙ not-false _ (c .before .if3 .left)) in ap (λ r. record { ok = true; saved = r }) (c .read-fields .ensures) ∙ ap readOf (sym h)
+returns-4 c =
+    let c₁ = c .before .before .before .before in
+    let c₂ = c₁ .before .before in
+    let c₃ = c₂ .before in
+    let m = sym (c₁ .marks-good .ensures) ∙ not-false _ (c .before .before .before .if2 .left) in
+    let i = sym (c .before .before .items-good .ensures) ∙ not-false _ (c .before .if3 .left) in
+    let h = all-good _ _ (c₃ .word-at .ensures) (c₂ .if1 .left) m i in
+    ap (λ r. record { ok = true; saved = r }) (c .read-fields .ensures) ∙ ap readOf (sym h)
 
 pub read-saved-spec : {M : Type 1} → statement M
 read-saved-spec =

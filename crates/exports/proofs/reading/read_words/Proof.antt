@@ -1,9 +1,10 @@
-use Prim.Native.Nat.{_≤_, _-_, _+_, _*_}
+-- The loop: the numbers before `i` are read.
+use Prim.Native.Nat.{_≤_, _-_, _+_}
 use native.Mathlib.Omega.{arith}
-use borrow.Author.Needs.{needs}
-use mathlib.Core.Path.{_≡_, refl}
+use mathlib.Core.Path.{_≡_}
 use mathlib.Core.List.{_++_}
-use lib.ListN.{length, drop, length-set}
+use borrow.Author.Needs.{needs}
+use lib.ListN.{length, drop}
 use Rattle.definitions.specs.Exports.{wordsFrom}
 use Rattle.exports.proofs.Words.{words-next, words-all}
 use Rattle.exports.proofs.reading.read_words.Statement.{statement}
@@ -41,7 +42,8 @@ loop-less : tie.Need-loop-less Inv-loop μ-loop
 loop-less c = search needs
 
 loop-again : tie.Need-loop-again Inv-loop μ-loop
-loop-again c = (omega arith, search needs, words-next _ _ _ _ _ _ (omega arith) (c .word-at .ensures) (c .before .before .loop .inv .2))
+loop-again c =
+    (omega arith, search needs, words-next _ _ _ _ _ _ (omega arith) (c .word-at .ensures) (c .before .before .loop .inv .2))
 
 same-length : tie.Need-same-length Inv-loop μ-loop
 same-length c = search needs

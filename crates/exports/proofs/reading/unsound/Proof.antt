@@ -1,7 +1,7 @@
-use lib.ListN.{replicate}
+-- Field by field.
 use mathlib.Core.Bool.{false}
-use Rattle.definitions.specs.Saved.{noRun}
 use borrow.Author.Needs.{needs}
+use lib.ListN.{replicate}
 use Rattle.exports.proofs.reading.unsound.Statement.{statement}
 use Rattle.exports.proofs.reading.unsound.Tie as tie
 
@@ -9,7 +9,20 @@ zero-item-requires : tie.Need-zero-item-requires
 zero-item-requires c κs = search needs
 
 returns : tie.Need-returns
-returns c = λ k. record { ok = false; saved = record { height = 0; quads = 0; graphs = 0; types = replicate 16 0; bound = replicate 16 false; bindings = replicate 16 0; fetched = replicate 64 0; items = replicate 24 (c .zero-item .ensures k) } }
+returns c =
+    λ k. record {
+      ok = false;
+      saved = record {
+        height = 0;
+        quads = 0;
+        graphs = 0;
+        types = replicate 16 0;
+        bound = replicate 16 false;
+        bindings = replicate 16 0;
+        fetched = replicate 64 0;
+        items = replicate 24 (c .zero-item .ensures k);
+      };
+    }
 
 pub unsound-spec : {M : Type 1} → statement M
 unsound-spec = tie.close (tie.spec zero-item-requires returns)

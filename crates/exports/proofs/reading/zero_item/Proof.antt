@@ -1,3 +1,4 @@
+-- Field by field.
 use mathlib.Core.Path.{refl}
 use Rattle.definitions.specs.Bytes.{filled}
 use Rattle.exports.proofs.reading.zero_item.Statement.{statement}

@@ -1,0 +1,31 @@
+-- The reports, by the cases of an answer.
+use Prim.Native.Nat.{ℕ}
+use mathlib.Core.Path.{_≡_, refl, ap, sym, _∙_}
+use mathlib.Core.List.{List, _∷_, _++_}
+use Rattle.definitions.specs.Bytes.{littleBytes}
+use Rattle.definitions.specs.Numbers.{stateNumber, wantedGraph}
+use Rattle.definitions.specs.Exports.{runReport, pageReport}
+use Rattle.definitions.specs.declared.RunState.{RunState}
+use Rattle.definitions.specs.declared.RunAnswer.{RunAnswer}
+use Rattle.definitions.specs.declared.PageAnswer.{PageAnswer}
+use Rattle.definitions.specs.declared.RunAnswer.the-variants as RunAnswers
+use Rattle.definitions.specs.declared.PageAnswer.the-variants as PageAnswers
+
+module _ (report : List ℕ) {answer : RunAnswer} where
+  pub run-refused : {n : ℕ} → answer ≡ RunAnswers.Refused n → report ≡ runReport report answer
+  unfolding runReport
+  run-refused e = rw e
+
+  pub ran : {steps : ℕ} {state : RunState} → answer ≡ RunAnswers.Ran steps state → {p q : List ℕ} {x g : ℕ}
+      → p ≡ littleBytes 4 steps → x ≡ stateNumber state → q ≡ littleBytes 2 g → g ≡ wantedGraph state → p ++ (x ∷ 0 ∷ q) ≡ runReport report answer
+  unfolding runReport
+  ran e s t g w = (λ k. s k ++ (t k ∷ 0 ∷ (g ∙ ap (littleBytes 2) w) k)) ∙ ap (runReport report) (sym e)
+
+module _ (report : List ℕ) {answer : PageAnswer} where
+  pub page-refused : {n : ℕ} → answer ≡ PageAnswers.Refused n → report ≡ pageReport report answer
+  unfolding pageReport
+  page-refused e = rw e
+
+  pub taken : {skipped : ℕ} → answer ≡ PageAnswers.Taken skipped → {p : List ℕ} → p ≡ littleBytes 4 skipped → p ≡ pageReport report answer
+  unfolding pageReport
+  taken e s = s ∙ ap (pageReport report) (sym e)

@@ -1,0 +1,239 @@
+// Taking in a page: its triples become a graph's quads, and their new terms join the table.
+// A count above its limit says that the table had no room for all.
+ghost use mathlib.Core.Path.{_≡_};
+ghost use mathlib.Core.Bool.{cond};
+ghost use mathlib.Core.List.{List};
+ghost use mathlib.Core.Option.{some};
+ghost use Prim.Native.Nat.{ℕ, _+_, _≤_, _<_};
+ghost use lib.Dec.{ltb};
+ghost use lib.ListN.{length};
+ghost use Rattle.definitions.specs.Limits.{pageLimit};
+ghost use Rattle.definitions.specs.Types.{Datatype, datatypeCode};
+ghost use Rattle.definitions.specs.Terms.{Term, Schema, Triple, ofPageKind, readSchema, readPage};
+ghost use Rattle.definitions.specs.Evaluate.{Quad};
+ghost use Rattle.definitions.specs.Machine.{Taken, wellTyped, takeOne, takeAll};
+ghost use Rattle.laws.proofs.RecordsAt.{TripleAt};
+ghost use Rattle.machine.specs.Quads.{quad};
+ghost use Rattle.machine.specs.Page.{HeldTerms, Held, BodyIs, Says, Joins, PageKind, RecordAt, Reads, Numbering, HeldQuads, HeldSome, Stores, HeldTaken, HeldBoth, Took, GoodAt, PageReads};
+use crate::Counts;
+use crate::Joined;
+use crate::Numbers;
+use crate::quads::has_quad;
+use crate::quads::put_quad;
+use definitions::QUAD_LIMIT;
+use definitions::TERM_LIMIT;
+use records::bodies::body_width;
+use records::schema::datatype_of;
+use records::table::find_term;
+use records::table::put_slot;
+use records::table::slot_of;
+
+// The number of a body's term in a table of n terms. A new term joins at the end, where there is room.
+fn number_body(kind: u8, body: &[u8], table: &mut [u8], n: usize) -> Joined
+    requires { ⌜ Held (now table) n ⌝ }
+    requires { ⌜ Says kind (now body) ⌝ }
+    ensures { λ r. ⌜ ((ts : List Term) (t : Term) → HeldTerms (now (table .entry)) n ts → BodyIs kind (now (body .entry)) t → Joins ts t r (now (table .exit))) ⌝ }
+{
+    let slot = slot_of(kind, body);
+    let found = find_term(table, n, &slot);
+    if found < n {
+        let number = found as u16;
+        return Joined { number, terms: n };
+    }
+    let last = n as u16;
+    let terms = n + 1;
+    if TERM_LIMIT <= n {
+        return Joined {
+            number: last,
+            terms,
+        };
+    }
+    put_slot(table, n, &slot);
+    Joined {
+        number: last,
+        terms,
+    }
+}
+
+// The numbers of a record's terms, subject before object.
+fn number_triple(page: &[u8], at: usize, next: usize, table: &mut [u8], n: usize) -> Numbers
+    requires { ⌜ RecordAt (now page) at next ⌝ }
+    requires { ⌜ Held (now table) n ⌝ }
+    ensures { λ r. ⌜ ((ts : List Term) (x : Triple) → HeldTerms (now (table .entry)) n ts → TripleAt (now (page .entry)) at x next → Numbering ts x r (now (table .exit))) ⌝ }
+{
+    let from = at + 1;
+    let middle = at + 41;
+    let last = at + 81;
+    let kind = page[at] - 0x70;
+    let subject = number_body(0x11, &page[from..middle], table, n);
+    let one = subject.terms;
+    if TERM_LIMIT < one {
+        return Numbers {
+            subject: 0,
+            property: 0,
+            object: 0,
+            terms: one,
+        };
+    }
+    let property = number_body(0x11, &page[middle..last], table, one);
+    let two = property.terms;
+    if TERM_LIMIT < two {
+        return Numbers {
+            subject: 0,
+            property: 0,
+            object: 0,
+            terms: two,
+        };
+    }
+    let object = number_body(kind, &page[last..next], table, two);
+    Numbers {
+        subject: subject.number,
+        property: property.number,
+        object: object.number,
+        terms: object.terms,
+    }
+}
+
+// The code of the datatype of a page record's object.
+fn object_code(kind: u8) -> u8
+    requires { ⌜ PageKind kind ⌝ }
+    ensures { λ r. ⌜ ((d : Datatype) → ofPageKind kind ≡ some d → r ≡ datatypeCode d) ⌝ }
+{
+    match kind {
+        0x81 => 1,
+        0x82 => 2,
+        0x83 => 5,
+        0x84 => 3,
+        _ => 4,
+    }
+}
+
+// Whether a record's property has a schema entry and its object the entry's datatype; an integer is a decimal too.
+fn well_typed(page: &[u8], at: usize, next: usize, schema: &[u8]) -> bool
+    requires { ⌜ RecordAt (now page) at next ⌝ }
+    requires { ⌜ Reads (now schema) ⌝ }
+    ensures { λ r. ⌜ ((S : Schema) (x : Triple) → readSchema (now (schema .entry)) ≡ some S → TripleAt (now (page .entry)) at x next → r ≡ wellTyped S x) ⌝ }
+{
+    let middle = at + 41;
+    let last = at + 81;
+    let wanted = datatype_of(schema, &page[middle..last]);
+    let given = object_code(page[at]);
+    (given == wanted) | ((given == 5) & (wanted == 3))
+}
+
+// Stores a quad that is not there yet, where there is room; how many quads there then are.
+fn store_quad(
+    table: &mut [u8],
+    n: usize,
+    graph: u16,
+    subject: u16,
+    property: u16,
+    object: u16,
+) -> usize
+    requires { ⌜ HeldSome (now table) n ⌝ }
+    ensures { λ r. ⌜ ((qs : List Quad) → HeldQuads (now (table .entry)) n qs → Stores qs (quad graph subject property object) r (now (table .exit))) ⌝ }
+{
+    if has_quad(table, n, graph, subject, property, object) {
+        return n;
+    }
+    if QUAD_LIMIT <= n {
+        return n + 1;
+    }
+    put_quad(table, n, graph, subject, property, object);
+    n + 1
+}
+
+// Takes in a record, or skips it.
+fn take_record(
+    page: &[u8],
+    at: usize,
+    next: usize,
+    schema: &[u8],
+    graph: u16,
+    terms: &mut [u8],
+    quads: &mut [u8],
+    counts: Counts,
+) -> Counts
+    requires { ⌜ RecordAt (now page) at next ⌝ }
+    requires { ⌜ Reads (now schema) ⌝ }
+    requires { ⌜ HeldBoth (now terms) (now quads) counts ⌝ }
+    requires { ⌜ counts .skipped ≤ at ⌝ }
+    requires { ⌜ at ≤ pageLimit ⌝ }
+    ensures { λ r. ⌜ ((S : Schema) (x : Triple) (k : Taken) → readSchema (now (schema .entry)) ≡ some S → TripleAt (now (page .entry)) at x next → HeldTaken (now (terms .entry)) (now (quads .entry)) counts k → Took (now (terms .exit)) (now (quads .exit)) r (takeOne S graph x k)) ⌝ }
+    ensures { λ r. ⌜ r .skipped ≤ counts .skipped + 1 ⌝ }
+{
+    let n = counts.terms;
+    let m = counts.quads;
+    let skipped = counts.skipped;
+    if !well_typed(page, at, next, schema) {
+        let more = skipped + 1;
+        return Counts {
+            terms: n,
+            quads: m,
+            skipped: more,
+        };
+    }
+    let numbers = number_triple(page, at, next, terms, n);
+    let count = numbers.terms;
+    if TERM_LIMIT < count {
+        return Counts {
+            terms: count,
+            quads: m,
+            skipped,
+        };
+    }
+    let stored = store_quad(
+        quads,
+        m,
+        graph,
+        numbers.subject,
+        numbers.property,
+        numbers.object,
+    );
+    Counts {
+        terms: count,
+        quads: stored,
+        skipped,
+    }
+}
+
+// The offset after a record.
+fn record_end(page: &[u8], at: usize) -> usize
+    requires { ⌜ GoodAt (now page) at ⌝ }
+    ensures { λ r. ⌜ ((x : Triple) (n : ℕ) → TripleAt (now (page .entry)) at x n → r ≡ n) ⌝ }
+{
+    let kind = page[at] - 0x70;
+    at + 81 + body_width(kind)
+}
+
+// Takes in the records of a page, one by one, as long as there is room.
+pub fn take_page(
+    page: &[u8],
+    schema: &[u8],
+    graph: u16,
+    terms: &mut [u8],
+    quads: &mut [u8],
+    start: Counts,
+) -> Counts
+    requires { ⌜ PageReads (now page) ⌝ }
+    requires { ⌜ length (now page) ≤ pageLimit ⌝ }
+    requires { ⌜ Reads (now schema) ⌝ }
+    requires { ⌜ HeldBoth (now terms) (now quads) start ⌝ }
+    requires { ⌜ start .skipped ≡ 0 ⌝ }
+    ensures { λ r. ⌜ ((S : Schema) (rs : List Triple) (k : Taken) → readSchema (now (schema .entry)) ≡ some S → readPage (now (page .entry)) ≡ some rs → HeldTaken (now (terms .entry)) (now (quads .entry)) start k → Took (now (terms .exit)) (now (quads .exit)) r (takeAll S graph rs k)) ⌝ }
+{
+    let mut counts = start;
+    let mut at = 0;
+    while at < page.len() {
+        let next = record_end(page, at);
+        counts = take_record(page, at, next, schema, graph, terms, quads, counts);
+        if TERM_LIMIT < counts.terms {
+            return counts;
+        }
+        if QUAD_LIMIT < counts.quads {
+            return counts;
+        }
+        at = next;
+    }
+    counts
+}
