@@ -1,17 +1,15 @@
 -- The tests that a saved run's bytes have to pass, one after the other.
 use Prim.Native.Nat.{ℕ, _≤_, _<_}
-use native.Mathlib.Omega.{arith}
-use mathlib.Core.Path.{_≡_, refl, ap, sym, _∙_}
+use mathlib.Core.Path.{_≡_, ap, sym, _∙_}
 use mathlib.Core.List.{List}
 use mathlib.Core.Bool.{Bool, true, false, _&&_}
-use mathlib.Core.Option.{Option, none, some}
+use mathlib.Core.Option.{none, some}
 use lib.Dec.{leb}
 use borrow.Author.Tests.{le-leb, lt-leb}
 use Rattle.definitions.specs.Limits.{variableLimit, depthLimit}
 use Rattle.definitions.specs.Lists.{every}
 use Rattle.definitions.specs.Bytes.{word, part, provided}
 use Rattle.definitions.specs.Exports.{boundOffset, itemsOffset, itemsGood, savedFrom}
-use Rattle.definitions.specs.declared.SavedRun.{SavedRun}
 use Rattle.exports.specs.Held.{fieldsIn}
 
 module _ (b : List ℕ) (height : ℕ) (e : height ≡ word b 0) where

@@ -1,6 +1,6 @@
 -- The reports, by the cases of an answer.
 use Prim.Native.Nat.{ℕ}
-use mathlib.Core.Path.{_≡_, refl, ap, sym, _∙_}
+use mathlib.Core.Path.{_≡_, ap, sym, _∙_}
 use mathlib.Core.List.{List, _∷_, _++_}
 use Rattle.definitions.specs.Bytes.{littleBytes}
 use Rattle.definitions.specs.Numbers.{stateNumber, wantedGraph}

@@ -15,7 +15,7 @@ use Rattle.laws.proofs.Fill.{set-end}
 use Rattle.laws.proofs.Saved.{at-variable}
 
 -- the next place of a list with zeros after it
-put-next : {A : Type 0} (z x : A) (l : List A) (n i : ℕ) → length l ≡ i → i < n
+pub put-next : {A : Type 0} (z x : A) (l : List A) (n i : ℕ) → length l ≡ i → i < n
     → set (l ++ replicate (n - i) z) i x ≡ (l ++ (x ∷ [])) ++ replicate (n - (i + 1)) z
 put-next z x l n i e h =
     let m : n - i ≡ suc (n - (i + 1)) = omega arith in

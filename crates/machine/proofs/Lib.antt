@@ -5,3 +5,4 @@ pub mod Clean
 pub mod QuadLaws
 pub mod TermLaws
 pub mod TakeLaws
+pub mod DoneLaws

@@ -194,7 +194,7 @@ module _ (table : List ℕ) (n : ℕ) (qs : List Quad) (h : HeldQuads table n qs
   pub quads-width : length table ≡ quadTableWidth
   quads-width = ap length (h .is) ∙ quad-table-length qs (omega (arith, h .count, h .few))
 
-  quads-are : quadsFrom n table 0 ≡ qs
+  pub quads-are : quadsFrom n table 0 ≡ qs
   unfolding quadsIn
   quads-are =
       let fits = leb (length qs) quadLimit in

@@ -1,8 +1,10 @@
 -- Operations on the saved run, place by place. What they leave unused is zero.
 use Prim.Native.Nat.{ℕ, zero, suc, _+_, _-_}
-use mathlib.Core.Bool.{true, false}
+use mathlib.Core.Bool.{Bool, true, false, cond, _||_}
+use lib.Dec.{ltb}
 use mathlib.Core.List.{List, [], _∷_}
-use lib.ListN.{set, getD}
+use lib.ListN.{set, getD, take}
+use Rattle.definitions.specs.Lists.{isIn}
 use Rattle.definitions.specs.Bytes.{byte}
 use Rattle.definitions.specs.Saved.{noItem}
 use Rattle.definitions.specs.declared.SavedItem.{SavedItem}
@@ -62,3 +64,30 @@ unfoldable pub boundAll : SavedRun → (variables tuple : List ℕ) → SavedRun
 boundAll r [] t = r
 boundAll r (v ∷ vs) [] = r
 boundAll r (v ∷ vs) (i ∷ t) = boundTo (boundAll r vs t) v i
+
+-- ── a page ──────────────────────────────────────────────────────────────────────────────────
+
+abbrev pub fetchedIn : SavedRun → List ℕ
+fetchedIn r = take (r .graphs) (r .fetched)
+
+-- a graph that is fetched, or has room in the list
+unfoldable pub graphFits : SavedRun → ℕ → Bool
+graphFits r g = isIn g (fetchedIn r) || ltb (r .graphs) 64
+
+abbrev pub withStore : SavedRun → (quads graphs : ℕ) → (fetched : List ℕ) → SavedRun
+withStore r quads graphs fetched =
+    record {
+      height = r .height;
+      quads = quads;
+      graphs = graphs;
+      types = r .types;
+      bound = r .bound;
+      bindings = r .bindings;
+      fetched = fetched;
+      items = r .items;
+    }
+
+-- after a page: so many quads, and its graph in the fetched list
+unfoldable pub paged : SavedRun → (graph quads : ℕ) → SavedRun
+paged r g quads =
+    cond (isIn g (fetchedIn r)) (withStore r quads (r .graphs) (r .fetched)) (withStore r quads (r .graphs + 1) (set (r .fetched) (r .graphs) g))

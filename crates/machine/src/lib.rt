@@ -3,6 +3,7 @@ pub mod canonical; // canonical.rt: the saved run without what means nothing
 pub mod page; // page.rt: taking in a page
 pub mod quads; // quads.rt: the quad table
 pub mod stack; // stack.rt: stack and bindings
+pub mod taking; // taking.rt: a page call on copies of both tables
 
 // A term's number, and how many terms there then are.
 pub struct Joined {

@@ -1,11 +1,12 @@
 // Operations on the saved run: its stack and its bindings.
 ghost use mathlib.Core.Path.{_≡_};
+ghost use mathlib.Core.Bool.{true};
 ghost use mathlib.Core.List.{List};
 ghost use Prim.Native.Nat.{ℕ, _+_, _*_, _<_, _-_, _≤_};
 ghost use lib.ListN.{length, getD, take};
 ghost use Rattle.definitions.specs.Bytes.{byte};
 ghost use Rattle.definitions.specs.Lists.{isIn};
-ghost use Rattle.machine.specs.Stack.{pushed, popped, replaced, boundTo, freshItem, topOf, pairVariables, boundAll};
+ghost use Rattle.machine.specs.Stack.{pushed, popped, replaced, boundTo, freshItem, topOf, pairVariables, boundAll, graphFits, paged};
 use definitions::SavedItem;
 use definitions::SavedRun;
 
@@ -129,4 +130,31 @@ pub fn is_fetched(run: SavedRun, graph: u16) -> bool
         i += 1;
     }
     false
+}
+
+// Whether a graph is in the fetched list or has room there.
+pub fn graph_fits(run: SavedRun, graph: u16) -> bool
+    requires { ⌜ run .graphs ≤ 64 ⌝ }
+    ensures { λ r. ⌜ r ≡ graphFits run graph ⌝ }
+{
+    let n = run.graphs;
+    is_fetched(run, graph) | (n < 64)
+}
+
+// After a page: its graph is fetched, and there are so many quads.
+pub fn with_page(run: SavedRun, graph: u16, quads: u16) -> SavedRun
+    requires { ⌜ run .graphs ≤ 64 ⌝ }
+    requires { ⌜ graphFits run graph ≡ true ⌝ }
+    ensures { λ r. ⌜ r ≡ paged run graph quads ⌝ }
+{
+    let mut next = run;
+    next.quads = quads;
+    if is_fetched(run, graph) {
+        return next;
+    }
+    let n = run.graphs;
+    let place = n as usize;
+    next.fetched[place] = graph;
+    next.graphs = n + 1;
+    next
 }

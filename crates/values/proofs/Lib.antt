@@ -11,3 +11,6 @@ mod TextTests
 mod Patterns
 mod Rows
 mod Writing
+mod Calendars
+mod Strings
+mod Str

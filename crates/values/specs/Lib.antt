@@ -4,3 +4,4 @@ pub mod Texts
 pub mod Matching
 pub mod Whole
 pub mod Lines
+pub mod Dates

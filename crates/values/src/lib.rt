@@ -3,22 +3,24 @@ ghost use mathlib.Core.Path.{_≡_};
 ghost use lib.Dec.{T};
 ghost use mathlib.Core.Bool.{_&&_};
 ghost use Rattle.definitions.specs.Terms.{isDecimal, isDateTime};
-ghost use Rattle.definitions.specs.Values.{sum, difference, absolute, rankIn, before, stringBefore, equalPair, lessPair, Value as Meant};
+ghost use Rattle.definitions.specs.Values.{sum, difference, absolute, rankIn, before, stringBefore, equalPair, lessPair, textOf, Value as Meant};
 ghost use Rattle.definitions.specs.Bytes.{sameBytes, unfilled, part};
 ghost use Rattle.values.specs.Meaning.{meaning, where?, stringOf, Good, Gives, Tells, compared, textTest};
 ghost use Rattle.values.specs.Texts.{Is};
-ghost use Rattle.values.specs.Whole.{Holds};
+ghost use Rattle.values.specs.Whole.{Holds, plainString};
 ghost use Rattle.definitions.specs.Text.{LanguageRange, languageRangeOf, matches, Pattern, patternOf, accepts};
 ghost use mathlib.Core.Option.{some};
 ghost use Prim.Native.Nat.{_+_, _≤_};
 ghost use lib.ListN.{length};
 ghost use Rattle.values.specs.Numbers.{held, inKind, commonKind, countedIn};
 
+mod calendar;
 mod line;
 mod number;
 mod order;
 mod pattern;
 mod range;
+mod text;
 
 // Document 01's codes of the datatypes.
 pub const ANY_URI: u8 = 1;
@@ -459,5 +461,48 @@ pub fn now_value(seconds: i64) -> Value
         number: seconds,
         tag: [0; 8],
         text: [0; 40],
+    }
+}
+
+// A string with no tag.
+fn untagged(present: bool, text: [u8; 40]) -> Value
+    ensures { λ r. ⌜ r ≡ plainString present text ⌝ }
+{
+    Value {
+        kind: STRING,
+        present,
+        number: 0,
+        tag: [0; 8],
+        text,
+    }
+}
+
+// str: a URI's or string's text without tag, a number's digits, a dateTime as 1970-01-01T00:00:00Z.
+pub fn text_of(v: Value) -> Value
+    requires { ⌜ Good v ⌝ }
+    ensures { λ r. ⌜ Holds r (Meant.string (textOf (meaning v))) ⌝ }
+{
+    let kind = v.kind;
+    let present = v.present;
+    let n = v.number;
+    let bytes = v.text;
+    match kind {
+        2 => untagged(present, bytes),
+        3 => {
+            let line = text::decimal(n);
+            let digits = line.bytes;
+            untagged(present, digits)
+        }
+        4 => {
+            let line = text::date_time(n);
+            let digits = line.bytes;
+            untagged(true, digits)
+        }
+        5 => {
+            let line = text::integer(n);
+            let digits = line.bytes;
+            untagged(present, digits)
+        }
+        _ => untagged(true, bytes),
     }
 }

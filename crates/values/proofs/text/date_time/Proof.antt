@@ -1,0 +1,44 @@
+-- `values::text::date_time` meets its contract, by the laws of Calendars and Strings.
+use native.Mathlib.Omega.{arith}
+use Prim.Native.Nat.{_/_, _%_}
+use Rattle.definitions.specs.Bytes.{filled}
+use Rattle.values.specs.Dates.{meantDate}
+use Rattle.values.proofs.Calendars.{date-is}
+use Rattle.values.proofs.Strings.{dateTime-written, date-length, time-length}
+use borrow.Author.Needs.{needs}
+use Rattle.values.proofs.text.date_time.Statement.{statement}
+use Rattle.values.proofs.text.date_time.Tie as tie
+
+since-start-requires : tie.Need-since-start-requires
+since-start-requires c κs = search needs
+
+date-of-requires : tie.Need-date-of-requires
+date-of-requires c κs = search needs
+
+put-date-requires : tie.Need-put-date-requires
+put-date-requires c κs = search needs
+
+push-requires : tie.Need-push-requires
+push-requires c κs = omega (arith, c .put-date .ensures .size, date-length (meantDate (c .before .date-of .result)))
+
+put-time-requires : tie.Need-put-time-requires
+put-time-requires c κs = omega (arith, c .before .put-date .ensures .size, date-length (meantDate (c .before .before .date-of .result)), c .push .ensures .size)
+
+push-requires-2 : tie.Need-push-requires-2
+push-requires-2 c κs = omega (arith, c .before .before .put-date .ensures .size, date-length (meantDate (c .before .before .before .date-of .result)), c .before .push .ensures .size, c .put-time .ensures .size, time-length (c .before .before .before .before .since-start .result % 86400))
+
+returns : tie.Need-returns
+unfolding filled
+returns c = dateTime-written (c .before .before .before .before .before .before .args .n) (c .before .before .before .before .before .before .pre) (c .before .before .before .before .before .since-start .result) (meantDate (c .before .before .before .before .date-of .result)) (c .before .before .before .before .before .since-start .ensures .0) (date-is (c .before .before .before .before .date-of .ensures)) (c .before .before .before .put-date .ensures) (c .before .before .push .ensures) (c .before .put-time .ensures) (c .push2 .ensures)
+
+pub date-time-spec : {M : Type 1} → statement M
+date-time-spec =
+    tie.close
+    (tie.spec
+    since-start-requires
+    date-of-requires
+    put-date-requires
+    push-requires
+    put-time-requires
+    push-requires-2
+    returns)

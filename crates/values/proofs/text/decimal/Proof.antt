@@ -1,0 +1,37 @@
+-- `values::text::decimal` meets its contract, by the laws of Strings and Writing.
+use native.Mathlib.Omega.{arith}
+use Prim.Native.Nat.{_/_}
+use Rattle.values.proofs.Writing.{short-length}
+use Rattle.values.proofs.Strings.{decimal-written}
+use borrow.Author.Needs.{needs}
+use Rattle.values.proofs.text.decimal.Statement.{statement}
+use Rattle.values.proofs.text.decimal.Tie as tie
+
+amount-requires : tie.Need-amount-requires
+amount-requires c κs = search needs
+
+sign-requires : tie.Need-sign-requires
+sign-requires c κs = search needs
+
+natural-requires : tie.Need-natural-requires
+natural-requires c κs = search needs
+
+push-requires : tie.Need-push-requires
+push-requires c κs = omega (arith, c .before .sign .ensures .1, c .natural .ensures .size, short-length 20 (c .before .before .amount .result / 1000000))
+
+fraction-requires : tie.Need-fraction-requires
+fraction-requires c κs = omega (arith, c .before .before .sign .ensures .1, c .before .natural .ensures .size, short-length 20 (c .before .before .before .amount .result / 1000000), c .push .ensures .size)
+
+returns : tie.Need-returns
+returns c = decimal-written (c .before .before .before .before .before .args .n) (c .before .before .before .before .before .pre) (c .before .before .before .sign .result) (c .before .before .before .sign .ensures .0) (c .before .before .before .before .amount .result) (c .before .before .before .before .amount .ensures) (c .before .before .natural .result) (c .before .push .result) (c .fraction .result) (c .before .before .natural .ensures) (c .before .push .ensures) (c .fraction .ensures)
+
+pub decimal-spec : {M : Type 1} → statement M
+decimal-spec =
+    tie.close
+    (tie.spec
+    amount-requires
+    sign-requires
+    natural-requires
+    push-requires
+    fraction-requires
+    returns)

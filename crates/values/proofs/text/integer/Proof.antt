@@ -1,0 +1,20 @@
+-- `values::text::integer` meets its contract, by the laws of Strings.
+use Rattle.values.proofs.Strings.{integer-written}
+use borrow.Author.Needs.{needs}
+use Rattle.values.proofs.text.integer.Statement.{statement}
+use Rattle.values.proofs.text.integer.Tie as tie
+
+amount-requires : tie.Need-amount-requires
+amount-requires c κs = search needs
+
+sign-requires : tie.Need-sign-requires
+sign-requires c κs = search needs
+
+natural-requires : tie.Need-natural-requires
+natural-requires c κs = search needs
+
+returns : tie.Need-returns
+returns c = integer-written (c .before .before .before .args .n) (c .before .before .before .pre) (c .before .sign .result) (c .before .sign .ensures .0) (c .before .before .amount .result) (c .before .before .amount .ensures) (c .natural .result) (c .natural .ensures)
+
+pub integer-spec : {M : Type 1} → statement M
+integer-spec = tie.close (tie.spec amount-requires sign-requires natural-requires returns)

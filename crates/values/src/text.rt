@@ -1,0 +1,111 @@
+// The texts of numbers and dateTimes.
+use crate::calendar;
+use crate::calendar::Date;
+use crate::line;
+use crate::line::Line;
+use crate::number;
+ghost use mathlib.Core.Path.{_≡_};
+ghost use mathlib.Core.List.{[]};
+ghost use Prim.Native.Nat.{_≤_, _<_, _+_};
+ghost use lib.Dec.{T};
+ghost use lib.IntN.{pos, natAbs, _+ℤ_};
+ghost use Rattle.definitions.specs.Limits.{secondsBefore};
+ghost use Rattle.definitions.specs.Terms.{isDecimal, isDateTime};
+ghost use Rattle.definitions.specs.Calendar.{dateText, timeText, dateTimeText};
+ghost use Rattle.definitions.specs.Values.{signText, integerText, decimalText};
+ghost use Rattle.values.specs.Lines.{Puts, Written, lineOf};
+ghost use Rattle.values.specs.Dates.{meantDate};
+
+// A number's distance from 0.
+fn amount(n: i64) -> u64
+    requires { ⌜ T (isDecimal n) ⌝ }
+    ensures { λ r. ⌜ r ≡ natAbs n ⌝ }
+{
+    let far = number::distance(n);
+    far as u64
+}
+
+// The seconds from 0001-01-01T00:00:00Z to a dateTime.
+fn since_start(n: i64) -> u64
+    requires { ⌜ T (isDateTime n) ⌝ }
+    ensures { λ r. ⌜ (r ≡ natAbs (n +ℤ pos secondsBefore)) × (r < 315537897600) ⌝ }
+{
+    let seconds = number::sum(n, 62135596800);
+    seconds as u64
+}
+
+// An empty line, with a minus sign for a number below 0.
+fn sign(n: i64) -> Line
+    ensures { λ r. ⌜ (r ≡ lineOf (signText n)) × (r .len ≤ 1) ⌝ }
+{
+    let empty = Line {
+        bytes: [0; 40],
+        len: 0,
+    };
+    if n < 0 {
+        return line::push(empty, 45);
+    }
+    empty
+}
+
+pub fn integer(n: i64) -> Line
+    requires { ⌜ T (isDecimal n) ⌝ }
+    ensures { λ r. ⌜ Written r (integerText n) ⌝ }
+{
+    let far = amount(n);
+    let start = sign(n);
+    line::natural(start, 20, far)
+}
+
+// A decimal's millionths, with a digit on both sides of the point.
+pub fn decimal(n: i64) -> Line
+    requires { ⌜ T (isDecimal n) ⌝ }
+    ensures { λ r. ⌜ Written r (decimalText n) ⌝ }
+{
+    let far = amount(n);
+    let start = sign(n);
+    let whole = line::natural(start, 20, far / 1000000);
+    let point = line::push(whole, 46);
+    line::fraction(point, 6, far % 1000000)
+}
+
+// A date as 1970-01-01.
+fn put_date(start: Line, date: Date) -> Line
+    requires { ⌜ start .len + 10 ≤ 40 ⌝ }
+    ensures { λ r. ⌜ Puts start r (dateText (meantDate date)) ⌝ }
+{
+    let year = line::digits(start, 4, date.year);
+    let first = line::push(year, 45);
+    let month = line::digits(first, 2, date.month);
+    let second = line::push(month, 45);
+    line::digits(second, 2, date.day)
+}
+
+// A time of day as 00:00:00.
+fn put_time(start: Line, second: u64) -> Line
+    requires { ⌜ start .len + 8 ≤ 40 ⌝ }
+    ensures { λ r. ⌜ Puts start r (timeText second) ⌝ }
+{
+    let hours = line::digits(start, 2, second / 3600);
+    let first = line::push(hours, 58);
+    let minutes = line::digits(first, 2, second / 60 % 60);
+    let next = line::push(minutes, 58);
+    line::digits(next, 2, second % 60)
+}
+
+// A dateTime as 1970-01-01T00:00:00Z.
+pub fn date_time(n: i64) -> Line
+    requires { ⌜ T (isDateTime n) ⌝ }
+    ensures { λ r. ⌜ Written r (dateTimeText n) ⌝ }
+{
+    let seconds = since_start(n);
+    let date = calendar::date_of(seconds / 86400);
+    let empty = Line {
+        bytes: [0; 40],
+        len: 0,
+    };
+    let day = put_date(empty, date);
+    let mark = line::push(day, 84);
+    let time = put_time(mark, seconds % 86400);
+    line::push(time, 90)
+}
