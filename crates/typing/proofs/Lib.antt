@@ -7,3 +7,4 @@ pub mod Solve
 pub mod Infer
 pub mod CodeLaws
 pub mod TableLaws
+pub mod WalkLaws

@@ -13,13 +13,10 @@ use Rattle.typing.specs.declared.Place as Codes
 use Rattle.typing.specs.declared.Place.the-variants.{Variable, Known}
 use Rattle.typing.specs.Tables.{Place, variable, known, ownNode, rangeNode, merged, withLow, withHigh, withProperty, withEdge, when, atMost, asProperty, atLeast, edge, impossible, related}
 use Rattle.typing.specs.Codes.{datatypeOf, typeOf, placeOf, PlaceIn}
+use Rattle.typing.specs.Walk.{Joined}
 use Rattle.typing.proofs.Family.{family-below}
 use Rattle.typing.proofs.UnionFind.{merge-forest}
 use Rattle.typing.proofs.CodeLaws.{is-decimal, is-integer, plain-code, range-code}
-
--- the union-find of some tables hangs together
-abbrev pub Joined : Tables → Type 0
-Joined t = Forest 36 (t .families .parents)
 
 pub family-small : {f : ℕ} (k : ℕ) → f ≡ family (datatypeOf k) → f < 36
 family-small k e = omega (arith, family-below (datatypeOf k))

@@ -4,3 +4,4 @@ pub mod UnionFind
 pub mod Tables
 pub mod Infer
 pub mod Codes
+pub mod Walk

@@ -1,0 +1,79 @@
+// Names in the script's bytes. `sorts` has a byte for each term: the code of its least type. `written` has a byte for each
+// variable: 0 open, 255 unbound, else the code of its type.
+ghost use mathlib.Core.Path.{_≡_};
+ghost use lib.ListN.{length};
+ghost use Prim.Native.Nat.{_+_, _≤_, _<_};
+ghost use Rattle.definitions.specs.Bytes.{word};
+ghost use Rattle.definitions.specs.Tree.{var};
+ghost use Rattle.definitions.specs.Reading.{readName};
+ghost use Rattle.laws.proofs.Walking.{Loads};
+ghost use Rattle.laws.proofs.Walked.{Walked};
+ghost use Rattle.typing.specs.Tables.{placeNode};
+ghost use Rattle.typing.specs.Codes.{placeOf, PlaceIn};
+ghost use Rattle.typing.specs.Walk.{PlacedAs};
+use crate::NameRead;
+use crate::Place;
+use crate::UNBOUND;
+use crate::codes;
+
+fn wide(x: u8) -> usize
+    ensures { λ r. ⌜ (r ≡ x) × (r < 256) ⌝ }
+{
+    x as usize
+}
+
+fn word_at(s: &[u8], at: usize) -> usize
+    requires { ⌜ at + 2 ≤ length (now s) ⌝ }
+    ensures { λ r. ⌜ (r ≡ word (now (s .entry)) at) × (r < 65536) ⌝ }
+{
+    let low = wide(s[at]);
+    let high = wide(s[at + 1]);
+    low + 256 * high
+}
+
+// A variable's place: open, or known by its written type; an unbound one stands as anyURI.
+fn variable_place(sorts: &[u8], written: &[u8], x: usize) -> Place
+    requires { ⌜ (length (now written) ≡ 16) × (x < 16) ⌝ }
+    ensures { λ r. ⌜ PlacedAs (now (sorts .entry)) (now (written .entry)) r (var x) ⌝ }
+{
+    let code = written[x];
+    if code == 0 {
+        return Place::Variable(x);
+    }
+    if code == UNBOUND {
+        return Place::Known(1);
+    }
+    Place::Known(code)
+}
+
+// The name at an offset.
+pub fn name_at(script: &[u8], sorts: &[u8], written: &[u8], at: usize, left: u8) -> NameRead
+    requires { ⌜ Loads (readName (now script) (length (now sorts)) left at) ⌝ }
+    requires { ⌜ length (now written) ≡ 16 ⌝ }
+    ensures { λ r. ⌜ Walked (PlacedAs (now (sorts .entry)) (now (written .entry)) (r .place)) (readName (now (script .entry)) (length (now (sorts .entry))) left at) (r .next) ⌝ }
+{
+    let kind = script[at];
+    let first = at + 1;
+    if kind == 0x31 {
+        let x = wide(script[first]);
+        let place = variable_place(sorts, written, x);
+        let next = at + 2;
+        return NameRead { next, place };
+    }
+    let number = word_at(script, first);
+    let code = sorts[number];
+    let place = Place::Known(code);
+    let next = at + 3;
+    NameRead { next, place }
+}
+
+// The node of a place's family.
+pub fn node_of(place: Place) -> usize
+    requires { ⌜ PlaceIn place ⌝ }
+    ensures { λ r. ⌜ (r ≡ placeNode (placeOf place)) × (r < 36) ⌝ }
+{
+    match place {
+        Place::Variable(x) => 4 + x,
+        Place::Known(code) => codes::family(codes::own(code)),
+    }
+}
