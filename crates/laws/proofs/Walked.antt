@@ -1,7 +1,7 @@
 -- Laws of walks whose answer is a relation: P holds of the tree that is read. (`Walking` has those whose answer is a function of it.)
 use Prim.Native.Nat.{ℕ}
 use mathlib.Core.Option.{none, some}
-use mathlib.Core.Path.{_≡_, sym, ap, _∙_}
+use mathlib.Core.Path.{_≡_, sym, ap, subst, _∙_}
 use Rattle.definitions.specs.Bytes.{Got}
 use Rattle.definitions.specs.Reading.{oneOf, twoOf, fourOf, andThen}
 use Rattle.laws.proofs.Reading.{one-some, two-rest, four-rest, one-inv, two-inv, then-inv, same-read}
@@ -60,3 +60,15 @@ module _ {A B : Type 0} {g : Got B} (k : A → A → A → A → B) (p : ℕ →
           → ((a b c d : A) → P₁ a → P₂ b → P₃ c → P₄ d → Q (k a b c d)) → Walked Q g n
       four-walked x₃ x₄ f =
           two-walked (k (x₁ .tree) (x₂ .tree)) p p m₂ four-two x₃ x₄ (λ c d y z. f (x₁ .tree) (x₂ .tree) c d (x₁ .holds) (x₂ .holds) y z)
+
+-- two walks of the same bytes
+pub both-walked : {A : Type 0} {g : Got A} {P Q : A → Type 0} {m n : ℕ} → Walked P g m → Walked Q g n → Walked (λ a. P a × Q a) g m
+both-walked {A} {g} {P} {Q} x y = record { tree = x .tree; read = x .read; holds = (x .holds, subst Q (same-read (y .read) (x .read) .0) (y .holds)) }
+
+-- the same bytes, read in two ways
+module _ {A : Type 0} {g o : Got A} (h : g ≡ o) where
+  pub loads-as : Loads g → Loads o
+  loads-as l = (l .0, l .1, sym h ∙ l .2)
+
+  pub walked-as : {P : A → Type 0} {n : ℕ} → Walked P o n → Walked P g n
+  walked-as x = record { tree = x .tree; read = h ∙ x .read; holds = x .holds }

@@ -1,10 +1,10 @@
 -- A slice written from its front: element by element from another list, or part by part.
-use Prim.Native.Nat.{ℕ, suc, _+_, _-_, _≤_, _<_}
+use Prim.Native.Nat.{ℕ, _+_, _-_, _≤_, _<_}
 use native.Mathlib.Omega.{arith}
 use native.Mathlib.Numerals.{add-one}
 use mathlib.Core.Path.{_≡_, refl, ap, sym, _∙_}
 use mathlib.Core.List.{List, [], _∷_, _++_, map, append-assoc, append-nil}
-use lib.ListN.{length, set, getD, take, drop, length-map, length-append, length-take, length-drop, List·getD-map}
+use lib.ListN.{length, set, getD, take, drop, length-map, length-append, length-drop}
 use lib.Seq.{take-suc, take-all, take-length, take-at, drop-at, drop-drop, length-take-le}
 use Rattle.laws.proofs.Fill.{write-next, write-done}
 
@@ -34,7 +34,9 @@ module _ {A B : Type 0} (f : A → B) (from : List A) (old : List B) where
 
 -- a list copied over one of the same length
 pub copied : {A : Type 0} (from old : List A) → length from ≡ length old → take (length from) from ++ drop (length from) old ≡ from
-copied from old e = write-done old (take (length from) from ++ drop (length from) old) (take (length from) from) (length from) (omega arith) refl ∙ take-length from
+copied from old e =
+    let n = length from in
+    write-done old (take n from ++ drop n old) (take n from) n (omega arith) refl ∙ take-length from
 
 -- ── part by part ────────────────────────────────────────────────────────────────────────────
 
@@ -91,8 +93,8 @@ module _ {A B : Type 0} (f : A → List B) where
       ∙ (ap joined (sym (take-suc l i d h)) ∙ ap (λ (n : ℕ). joined (take n l)) (sym (add-one i)))
 
   -- the next part is written
-  pub put-joined : {old array : List B} {at : ℕ} (l : List A) (i : ℕ) (d : A) (part : List B) (end : ℕ) → Put old array (joined (take i l)) at → i < length l
-      → at ≤ end → end ≤ length old → part ≡ f (getD l i d) → length part ≡ length (take (end - at) (drop at array))
+  pub put-joined : {old array : List B} {at : ℕ} (l : List A) (i : ℕ) (d : A) (part : List B) (end : ℕ) → Put old array (joined (take i l)) at
+      → i < length l → at ≤ end → end ≤ length old → part ≡ f (getD l i d) → length part ≡ length (take (end - at) (drop at array))
       → Put old (take at array ++ (part ++ drop (end - at) (drop at array))) (joined (take (i + 1) l)) end
   put-joined l i d part end p h low fits e k =
       let done : joined (take i l) ++ part ≡ joined (take (i + 1) l) = ap (λ (m : List B). joined (take i l) ++ m) e ∙ joined-next l i d h in

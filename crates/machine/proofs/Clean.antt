@@ -13,8 +13,8 @@ use borrow.Author.Tests.{eq-eqb, ne-eqb, lt-ltb, eqb-true}
 use Rattle.definitions.specs.Limits.{graphLimit, depthLimit, variableLimit, quadLimit, quadWidth}
 use Rattle.definitions.specs.Bytes.{byte, filled, allZero, provided, onward}
 use Rattle.definitions.specs.Tree.{Script, success, fromNamed, block, sequence, Binder}
-use Rattle.definitions.specs.Reading.{readScript, parsed, bindersAt, binderAt, isEach}
-use Rattle.definitions.specs.Scope.{variables, variablesOf}
+use Rattle.definitions.specs.Reading.{readScript, parsed, isEach}
+use Rattle.definitions.specs.Scope.{variables}
 use Rattle.definitions.specs.Evaluate.{Quad}
 use Rattle.definitions.specs.Machine.{Item, State}
 use Rattle.definitions.specs.Saved.{Place, placeIn, lastTuple, noItem, stackFrom, savedItem, savedItems, zeroItem, savedOf, quadsFrom, quadsIn}
@@ -23,10 +23,10 @@ use Rattle.definitions.specs.declared.SavedItem.{SavedItem}
 use Rattle.definitions.specs.declared.SavedRun.{SavedRun}
 use Rattle.laws.proofs.Options.{some-is, some-not-none, onward-inv, provided-inv}
 use Rattle.laws.proofs.ScriptReads.{ReadsAs, script-reads, parsed-reads, ReadAt}
-use Rattle.laws.proofs.Saved.{at-variable, Holding, Shaped}
-use Rattle.machine.specs.Stack.{freshItem, pairVariables}
+use Rattle.laws.proofs.ReadBounds.{binders-bounded}
+use Rattle.laws.proofs.Saved.{at-variable, Holding}
+use Rattle.machine.specs.Stack.{freshItem}
 use Rattle.machine.specs.Canonical.{hasLast, startedItem, cleanItem, cleanItems, numberOf, cleanBindings, canonicalOf}
-use Rattle.machine.proofs.Binding.{pair-variables}
 
 -- ── one item ────────────────────────────────────────────────────────────────────────────────
 
@@ -68,16 +68,6 @@ module _ (s : List ℕ) (i : SavedItem) where
       (λ t. record { «at» = i .«at»; started = sym h t; last = (e ∙ ap (λ (n : ℕ). filled 4 (take n (i .last))) count) t })
       ∙ each-started h k f kind m g mode
 
--- so many pairs
-binders-count : (left count : ℕ) (s : List ℕ) (at : ℕ) (bs : List Binder) → bindersAt left count s at ≡ some bs → length bs ≡ count
-unfolding pairVariables
-binders-count left count s at bs e =
-    sym (length-map bs (λ b. b .variable)) ∙ (ap length (pair-variables left count s at bs e) ∙ counted count at)
-  where
-    counted : (count at : ℕ) → length (pairVariables count s at) ≡ count
-    counted zero at = refl
-    counted (suc n) at = ap suc (counted n (at + 2))
-
 -- the item of a record, as it is saved
 module _ (s : List ℕ) (terms left : ℕ) (i : SavedItem) where
   abbrev itemOf : Script → Item
@@ -112,7 +102,7 @@ module _ (s : List ℕ) (terms left : ℕ) (i : SavedItem) where
       differ e = let z : _≡_ {A = ℕ} 0 1 = cc in omega arith
   item-is (block o true bs q c) n e =
       let h = script-reads s terms left (i .«at») (block o true bs q c) n e in
-      each-item o bs (h .here) (h .kind) (h .isMode) (binders-count 4 (byte s (i .«at» + 2)) s (i .«at» + 3) bs (h .binders)) (i .started) refl
+      each-item o bs (h .here) (h .kind) (h .isMode) (binders-bounded 0 4 (byte s (i .«at» + 2)) s (i .«at» + 3) bs (h .binders) .1) (i .started) refl
   item-is (sequence o c d) n e =
       let h = script-reads s terms left (i .«at») (sequence o c d) n e in
       plain-item o 0x74 (h .here) (sym (h .kind)) (λ q. absurd (omega arith))
@@ -164,18 +154,18 @@ quads-count count table qs e =
     from (suc n) at = ap suc (from n (at + quadWidth))
 
 module _ (terms : ℕ) (script : List ℕ) (root : Script) (reads : parsed terms script ≡ some root) where
-  pub canonical-is : (termBytes quadBytes : List ℕ) (saved : SavedRun) (s : State) → Shaped saved → Holding root termBytes quadBytes saved s
+  pub canonical-is : (termBytes quadBytes : List ℕ) (saved : SavedRun) (s : State) → length (saved .bound) ≡ variableLimit → length (saved .fetched) ≡ graphLimit → length (saved .items) ≡ depthLimit → Holding root termBytes quadBytes saved s
       → canonicalOf script saved ≡ savedOf (saved .types) s
   unfolding savedOf cleanItems cleanBindings bindingsIn
-  canonical-is termBytes quadBytes saved s shaped h =
+  canonical-is termBytes quadBytes saved s sixteen places levels h =
       let low = leb→le (saved .height) depthLimit (h .height) in
       let few = leb→le (saved .graphs) graphLimit (h .graphs) in
       let β = s .control .bindings in
-      let k = items-are terms script root reads (saved .height) (saved .items) (s .control .stack) (omega (arith, shaped .items)) (h .stack) in
+      let k = items-are terms script root reads (saved .height) (saved .items) (s .control .stack) (omega (arith, levels)) (h .stack) in
       let height = k .0 in
       let bound : saved .bound ≡ map (λ v. isBound (β v)) variables =
-      ext-getD false (saved .bound) (map (λ v. isBound (β v)) variables) (shaped .bound) (λ v l.
-      let w : v < 16 = omega (arith, shaped .bound) in
+      ext-getD false (saved .bound) (map (λ v. isBound (β v)) variables) (sixteen) (λ v l.
+      let w : v < 16 = omega (arith, sixteen) in
       sym (at-variable (λ v. isBound (β v)) false v w ∙ (ap (λ b. isBound (b v)) (sym (h .bindings)) ∙ bound-is (ltb v 16) (getD (saved .bound) v false) (getD (saved .bindings) v 0) (lt-ltb v 16 w)))) in
       let number = numberOf (saved .bound) (saved .bindings) in
       let numbers : map number variables ≡ map (λ v. numberOrZero (β v)) variables =
@@ -183,10 +173,10 @@ module _ (terms : ℕ) (script : List ℕ) (root : Script) (reads : parsed terms
       at-variable number 0 v w
       ∙ sym (at-variable (λ v. numberOrZero (β v)) 0 v w ∙ (ap (λ b. numberOrZero (b v)) (sym (h .bindings)) ∙ number-is (ltb v 16) (getD (saved .bound) v false) (getD (saved .bindings) v 0) (lt-ltb v 16 w)))) in
       let graphs : saved .graphs ≡ length (s .store .fetched) =
-      omega (arith, length-take (saved .graphs) (saved .fetched), shaped .fetched, ap length (h .fetched)) in
+      omega (arith, length-take (saved .graphs) (saved .fetched), places, ap length (h .fetched)) in
       let items : map (cleanItem script) (take (saved .height) (saved .items)) ++ replicate (24 - saved .height) zeroItem ≡ savedItems (s .control .stack) ++ replicate (24 - length (savedItems (s .control .stack))) zeroItem =
       let size : saved .height ≡ length (savedItems (s .control .stack)) =
-      omega (arith, ap length (k .1), length-map (take (saved .height) (saved .items)) (cleanItem script), length-take (saved .height) (saved .items), shaped .items) in
+      omega (arith, ap length (k .1), length-map (take (saved .height) (saved .items)) (cleanItem script), length-take (saved .height) (saved .items), levels) in
       λ t. sym (k .1) t ++ replicate (24 - size t) zeroItem in
       λ t.
       record {

@@ -6,3 +6,4 @@ pub mod QuadLaws
 pub mod TermLaws
 pub mod TakeLaws
 pub mod DoneLaws
+pub mod StepLaws

@@ -21,7 +21,7 @@ pub fn byte_at(script: &[u8], at: usize) -> u8
 }
 
 // A tuple's first numbers, zeros after them.
-fn first_numbers(count: u8, numbers: [u16; 4]) -> [u16; 4]
+pub fn first_numbers(count: u8, numbers: [u16; 4]) -> [u16; 4]
     ensures { λ r. ⌜ r ≡ filled 4 (take count numbers) ⌝ }
 {
     let n = count as usize;

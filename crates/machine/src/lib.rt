@@ -3,7 +3,18 @@ pub mod canonical; // canonical.rt: the saved run without what means nothing
 pub mod page; // page.rt: taking in a page
 pub mod quads; // quads.rt: the quad table
 pub mod stack; // stack.rt: stack and bindings
+pub mod steps; // steps.rt: one step
 pub mod taking; // taking.rt: a page call on copies of both tables
+
+use definitions::RunState;
+use definitions::SavedRun;
+
+// A step's result: whether it moved, why it stands where it did not, and the saved run after it.
+pub struct Stepped {
+    pub moved: bool,
+    pub ending: RunState,
+    pub saved: SavedRun,
+}
 
 // A term's number, and how many terms there then are.
 pub struct Joined {

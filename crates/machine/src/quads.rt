@@ -55,7 +55,7 @@ pub fn put_quad(table: &mut [u8], n: usize, graph: u16, subject: u16, property: 
 }
 
 // The 2-byte number at an offset.
-fn number_at(table: &[u8], at: usize) -> u16
+pub fn number_at(table: &[u8], at: usize) -> u16
     requires { ⌜ at + 1 < length (now table) ⌝ }
     ensures { λ r. ⌜ r ≡ word (now (table .entry)) at ⌝ }
 {

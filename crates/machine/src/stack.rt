@@ -10,7 +10,7 @@ ghost use Rattle.machine.specs.Stack.{pushed, popped, replaced, boundTo,
 use definitions::SavedItem;
 use definitions::SavedRun;
 
-fn index(x: u8) -> usize
+pub fn index(x: u8) -> usize
     ensures { λ r. ⌜ r ≡ x ⌝ }
 {
     x as usize

@@ -12,9 +12,9 @@ use Rattle.definitions.specs.Limits.{variableLimit}
 use Rattle.definitions.specs.Tree.{Name, var, const, Query}
 use Rattle.definitions.specs.Evaluate.{numberOf}
 use Rattle.definitions.specs.Saved.{isBound}
-use Rattle.laws.proofs.Sound.{NameBounded, QueryBounded}
+use Rattle.laws.proofs.Sound.{NameBounded}
 use Rattle.query.specs.Seek.{Place, fixed, sought, free, known as placed, placeOf, agrees, pick, nameKnown}
-use Rattle.query.specs.Codes.{soughtCode, freeCode, placeAt, numberAt, bindingsOf, codeOf, codesOf}
+use Rattle.query.specs.Codes.{soughtCode, freeCode, placeAt, numberAt, bindingsOf, codeOf, Coded}
 
 -- no test is both
 pub never : false ≡ true → ⊥
@@ -117,7 +117,6 @@ module _ (known : List ℕ) where
 module _ (known : List ℕ) (v : ℕ) (g s p o : Name) {cg cs cp co : ℕ} where
   pub four-codes : (cg ≡ codeOf known v g) × NameBounded soughtCode g → (cs ≡ codeOf known v s) × NameBounded soughtCode s
       → (cp ≡ codeOf known v p) × NameBounded soughtCode p → (co ≡ codeOf known v o) × NameBounded soughtCode o
-      → (record { graph = cg; subject = cs; property = cp; object = co } ≡ codesOf known v (Query.pattern g s p o))
-      × QueryBounded soughtCode (Query.pattern g s p o)
+      → Coded known v (record { graph = cg; subject = cs; property = cp; object = co }) (Query.pattern g s p o)
   four-codes hg hs hp ho =
       ((λ i. record { graph = hg .0 i; subject = hs .0 i; property = hp .0 i; object = ho .0 i }), (hg .1, hs .1, hp .1, ho .1))

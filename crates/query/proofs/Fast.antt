@@ -20,8 +20,9 @@ use Rattle.laws.proofs.Tests.{andLeft, andRight, andMake, orLeft, orRight, orCa
 use Rattle.laws.proofs.Options.{some-not-none}
 use Rattle.laws.proofs.Bindings.{Holds, test-holds, holds-test, is-below, Fits}
 use Rattle.query.specs.Seek.{passes, seek, skip, set, clear, startAt, restOf, tries, but, next, hopeful, find, fastAnswer}
+use Rattle.query.specs.Ready.{Ready}
 use Rattle.query.proofs.Sorted.{isAfter}
-use Rattle.query.proofs.First.{First, first-map, Ready, Good as GoodAnswer, answer-first}
+use Rattle.query.proofs.First.{First, first-map, Good as GoodAnswer, answer-first}
 use Rattle.query.proofs.Filters.{Under}
 use Rattle.query.proofs.Reaches.{seek-floor, seek-reaches}
 use Rattle.query.proofs.Tries.{skip-floor, skip-reaches, skip-typed, after-start, after-rest, after-both, tries-first}
@@ -137,10 +138,23 @@ module _ (S : Schema) (Γ : Typing) (clock : ℤ) (terms : List Term) (quads : L
   but-in w [] m = m
   but-in w (v ∷ vs) m = orRight (eqb w v) (isIn w vs) m
 
-  module _ (v : ℕ) (vs : List ℕ) (d : T (isIn v vs) → ⊥) (γ : Bindings) (c : Cleared (v ∷ vs) γ) (last : Option Tuple) where
+  module _ (γ : Bindings) (v : ℕ) where
     abbrev step : ℕ → ℕ
     step lo = next S Γ clock terms quads q γ v lo
 
+    pub next-floor : (lo : ℕ) → step lo < length terms → lo ≤ step lo
+    unfolding next
+    next-floor lo h =
+        let i = least γ v lo in
+        let a = seek-floor S clock terms quads γ v (min lo (length terms)) (omega arith) q lo (omega arith) in
+        let b = skip-floor S (Γ v) terms (length terms - i) i in
+        omega arith
+
+    pub next-holds : (lo : ℕ) → step lo < length terms → Holds S terms (step lo) (Γ v)
+    unfolding next
+    next-holds lo h = test-holds S terms (Γ v) _ (skip-typed S (Γ v) terms (length terms - least γ v lo) (least γ v lo) (omega arith) h)
+
+  module _ (v : ℕ) (vs : List ℕ) (d : T (isIn v vs) → ⊥) (γ : Bindings) (c : Cleared (v ∷ vs) γ) (last : Option Tuple) where
     bound-here : (j : ℕ) (t : Tuple) → bind (v ∷ vs) (j ∷ t) γ v ≡ some j
     unfolding bind
     bound-here j t = rw (isTrue (eqb v v) (eqb-refl v)) refl
@@ -155,24 +169,12 @@ module _ (S : Schema) (Γ : Typing) (clock : ℤ) (terms : List Term) (quads : L
     widen : (i : ℕ) → Holds S terms i (Γ v) → startAt last ≤ i → (t : Tuple) → Good vs (set v i γ) (restOf last i) t → Good (v ∷ vs) γ last (i ∷ t)
     widen i h l t g = ((h, g .0), after-both last i t l (g .1), subst⁻¹ (λ δ. T (holds δ)) (later i t) (g .2))
 
-    next-floor : (lo : ℕ) → step lo < length terms → lo ≤ step lo
-    unfolding next
-    next-floor lo h =
-        let i = least γ v lo in
-        let a = seek-floor S clock terms quads γ v (min lo (length terms)) (omega arith) q lo (omega arith) in
-        let b = skip-floor S (Γ v) terms (length terms - i) i in
-        omega arith
-
-    next-reaches : (lo j : ℕ) (t : Tuple) → lo ≤ j → Good (v ∷ vs) γ last (j ∷ t) → step lo ≤ j
+    next-reaches : (lo j : ℕ) (t : Tuple) → lo ≤ j → Good (v ∷ vs) γ last (j ∷ t) → step γ v lo ≤ j
     unfolding next
     next-reaches lo j t l g =
         skip-reaches S (Γ v) terms _ (least γ v lo) j
         (seek-reaches S clock terms quads γ v (bind (v ∷ vs) (j ∷ t) γ) (under-bind (v ∷ vs) (j ∷ t) γ c) j (bound-here j t) q lo l (g .2))
         (holds-test S terms (Γ v) j (g .0 .0))
-
-    next-holds : (lo : ℕ) → step lo < length terms → Holds S terms (step lo) (Γ v)
-    unfolding next
-    next-holds lo h = test-holds S terms (Γ v) _ (skip-typed S (Γ v) terms (length terms - least γ v lo) (least γ v lo) (omega arith) h)
 
     no-hope : (i : ℕ) → T (not (hopeful S Γ clock terms quads q (set v i γ) (but vs))) → (t : Tuple) → Good (v ∷ vs) γ last (i ∷ t) → ⊥
     no-hope i n t g =
@@ -202,17 +204,17 @@ module _ (S : Schema) (Γ : Typing) (clock : ℤ) (terms : List Term) (quads : L
       out (a ∷ s) [] g = g .1
       out l (i ∷ t) g = g .0
   find-first (v ∷ vs) o γ c last =
-      tries-first (Good (v ∷ vs) γ last) body (step v vs (o .0) γ c last) (length terms) (startAt last)
+      tries-first (Good (v ∷ vs) γ last) body (step γ v) (length terms) (startAt last)
       (λ g. g .0)
       (λ j t g. is-below terms j (g .0 .0 .term) (g .0 .0 .there))
-      (next-floor v vs (o .0) γ c last)
+      (next-floor γ v)
       (next-reaches v vs (o .0) γ c last)
       (λ lo l b.
-      let i = step v vs (o .0) γ c last lo in
+      let i = step γ v lo in
       by-test (First (λ t. Good (v ∷ vs) γ last (i ∷ t))) (hope i) (rest i) none
       (λ k.
       first-map (Good vs (set v i γ) (restOf last i)) (λ t. Good (v ∷ vs) γ last (i ∷ t))
-      (widen v vs (o .0) γ c last i (next-holds v vs (o .0) γ c last lo b) l) (narrow v vs (o .0) γ c last i)
+      (widen v vs (o .0) γ c last i (next-holds γ v lo b) l) (narrow v vs (o .0) γ c last i)
       (rest i) (find-first vs (o .1) (set v i γ) (cleared-set v i vs γ (o .0) c) (restOf last i)))
       (no-hope v vs (o .0) γ c last i))
       (length terms) (omega arith) (λ j t g. after-start last j t (g .1))

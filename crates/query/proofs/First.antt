@@ -25,6 +25,7 @@ use Rattle.laws.proofs.Evaluate.{query-fine}
 use Rattle.laws.proofs.Answers.{after-fit, bind-typed, bound-reached}
 use Rattle.laws.proofs.Sound.{QueryBounded}
 use Rattle.query.specs.Seek.{passes}
+use Rattle.query.specs.Ready.{Ready}
 use Rattle.query.proofs.Sorted.{Pairwise, isAfter, after-sorted, after-all, after-only}
 
 -- the first of the good tuples, or none of them
@@ -77,15 +78,6 @@ module _ (test : Tuple → Outcome Bool) where
   first-none (x ∷ xs) f k = rw (first-failing x xs (k x here) (f .0)) (first-none xs (f .1) (λ u n. k u (there n)))
 
 -- ── a block's answer ────────────────────────────────────────────────────────────────────────
-
--- what soundness gives of a block: the bindings hold terms of their types, and its query is well typed over bound variables and known terms
-pub record Ready (S : Schema) (Γ : Typing) (terms : List Term) (β : Bindings) (vs : List ℕ) (q : Query) : Type 0 where
-  pub loaded : List Term
-  pub extends : Extends loaded terms
-  pub wellBound : WellBound S Γ terms β
-  pub bounded : QueryBounded (length loaded) q
-  pub bound : BoundIn β (λ v. not (isIn v vs) && inQuery v q)
-  pub typed : T (queryTyped (constantsOf S loaded) Γ q)
 
 module _ (S : Schema) (Γ : Typing) (clock : ℤ) (terms : List Term) (quads : List Quad) (β : Bindings) (vs : List ℕ) (q : Query)
     (ready : Ready S Γ terms β vs q) where

@@ -1,6 +1,8 @@
 pub mod Agree
 pub mod Sorted
 pub mod First
+pub mod Outcomes
+pub mod Patterns
 pub mod Rows
 pub mod Filters
 pub mod Reaches
@@ -8,3 +10,12 @@ pub mod Tries
 pub mod Fast
 pub mod CodeLaws
 pub mod RowLaws
+pub mod Exact
+pub mod EvalLaws
+pub mod TermLaws
+pub mod SeekLaws
+pub mod TypeLaws
+pub mod ReadyLaws
+pub mod Level
+pub mod FindLaws
+pub mod AnswerLaws

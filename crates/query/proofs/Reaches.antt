@@ -6,89 +6,20 @@ use mathlib.Core.List.{List}
 use mathlib.Core.Bool.{Bool, true, false, cond, not, _&&_, _||_}
 use mathlib.Core.Option.{Option, none, some}
 use lib.Dec.{T, eqb, eqb→eq, T-not}
-use lib.ListN.{length, getElem?}
+use lib.ListN.{length}
 use lib.IntN.{ℤ}
-use Rattle.definitions.specs.Types.{Datatype, plain}
-use Rattle.definitions.specs.Terms.{Term, Schema, hasType}
+use Rattle.definitions.specs.Terms.{Term, Schema}
 use Rattle.definitions.specs.Tree.{Name, var, const, Query}
 use Rattle.definitions.specs.Scope.{inCond}
-use Rattle.definitions.specs.Outcome.{Outcome, ok, fault, _>>=_, _>>_, demand, Fault, graphNoURI, subjectNoURI, objectNotOfDatatype}
-use Rattle.definitions.specs.Evaluate.{Bindings, Quad, stored, Named, named, numberOf, termOfNumber, withTerm, isURI, propertyDatatype, condition, query}
-use Rattle.laws.proofs.Tests.{andLeft, andRight, by-test}
-use Rattle.laws.proofs.Options.{some-not-none}
+use Rattle.definitions.specs.Outcome.{Outcome, ok, fault, _>>=_}
+use Rattle.definitions.specs.Evaluate.{Bindings, Quad, stored, numberOf, condition, query}
+use Rattle.laws.proofs.Tests.{andLeft, andRight, by-test, trueIs}
 use Rattle.query.specs.Seek.{passes, Place, sought, known, placeOf, placesOf, condKnown, seek}
 use Rattle.query.proofs.Agree.{condition-agrees}
+use Rattle.query.proofs.Outcomes.{passes-ok}
+use Rattle.query.proofs.Patterns.{pattern-ok}
 use Rattle.query.proofs.Rows.{Meets, Matches, row-top, row-fits, scan-floor, scan-here}
 use Rattle.query.proofs.Filters.{Under, bound-agrees, cond-bound}
-
--- ── a pattern that holds ────────────────────────────────────────────────────────────────────
-
--- the number of what a name gives
-abbrev numberIn : Outcome Named → Option ℕ
-numberIn (ok n) = some (n .number)
-numberIn (fault x) = none
-
-record Matched (quads : List Quad) (g s p o : Outcome Named) : Type 0 where
-  quad : Quad
-  graph : numberIn g ≡ some (quad .graph)
-  subject : numberIn s ≡ some (quad .subject)
-  property : numberIn p ≡ some (quad .property)
-  object : numberIn o ≡ some (quad .object)
-  isStored : T (stored quad quads)
-
--- the pattern's demands come before its answer
-demands-pass : (a b : Bool) (x y z : Fault) (m : Outcome Datatype) (k : Datatype → Bool) (answer : Bool)
-    → T (passes (demand a x >> (demand b y >> (m >>= λ d. demand (k d) z >> ok answer)))) → T answer
-unfolding _>>_ _>>=_ demand
-demands-pass false b x y z m k answer h = absurd h
-demands-pass true false x y z m k answer h = absurd h
-demands-pass true true x y z (fault e) k answer h = absurd h
-demands-pass true true x y z (ok d) k answer h = go (k d) h
-  where
-    go : (c : Bool) → T (passes (demand c z >> ok answer)) → T answer
-    go true h = h
-    go false h = absurd h
-
-module _ (S : Schema) (quads : List Quad) where
-  abbrev patternOf : (g s p o : Outcome Named) → Outcome Bool
-  patternOf g s p o =
-      g >>= λ G. s >>= λ X. p >>= λ P. o >>= λ O.
-      demand (isURI (G .term)) graphNoURI
-      >> (demand (isURI (X .term)) subjectNoURI
-      >> (propertyDatatype S (P .term) >>= λ d.
-      demand (hasType S (O .term) (plain d)) objectNotOfDatatype
-      >> ok (stored (record { graph = G .number; subject = X .number; property = P .number; object = O .number }) quads)))
-
-  matched : (g s p o : Outcome Named) → T (passes (patternOf g s p o)) → Matched quads g s p o
-  unfolding _>>=_
-  matched (fault e) s p o h = absurd h
-  matched (ok G) (fault e) p o h = absurd h
-  matched (ok G) (ok X) (fault e) o h = absurd h
-  matched (ok G) (ok X) (ok P) (fault e) h = absurd h
-  matched (ok G) (ok X) (ok P) (ok O) h =
-      record {
-        quad = record { graph = G .number; subject = X .number; property = P .number; object = O .number };
-        graph = refl;
-        subject = refl;
-        property = refl;
-        object = refl;
-        isStored =
-            demands-pass (isURI (G .term)) (isURI (X .term)) graphNoURI subjectNoURI objectNotOfDatatype (propertyDatatype S (P .term))
-            (λ d. hasType S (O .term) (plain d)) _ h;
-      }
-
--- what a name gives has the name's number
-named-number : (terms : List Term) (δ : Bindings) (n : Name) (x : ℕ) → numberIn (named terms δ n) ≡ some x → numberOf δ n ≡ some x
-unfolding named
-named-number terms δ n x e = go (numberOf δ n) e
-  where
-    inner : (i : ℕ) (t : Option Term) → numberIn (withTerm i t) ≡ some x → some i ≡ some x
-    inner i none e = absurd (some-not-none e refl)
-    inner i (some t) e = e
-
-    go : (o : Option ℕ) → numberIn (termOfNumber terms o) ≡ some x → o ≡ some x
-    go none e = absurd (some-not-none e refl)
-    go (some i) e = inner i (getElem? terms i) e
 
 -- ── a name's place ──────────────────────────────────────────────────────────────────────────
 
@@ -137,16 +68,16 @@ module _ (S : Schema) (clock : ℤ) (terms : List Term) (quads : List Quad) (γ 
     pub seek-reaches : (q : Query) (lo : ℕ) → lo ≤ j → T (test δ q) → seek S clock terms quads γ v q lo ≤ j
     unfolding seek query
     seek-reaches (Query.pattern g s p o) lo l h =
-        let m = matched S quads (named terms δ g) (named terms δ s) (named terms δ p) (named terms δ o) h in
+        let m = pattern-ok S clock terms quads δ g s p o true (passes-ok (query S clock terms quads δ (Query.pattern g s p o)) h) in
         let r = m .quad in
         let places = placesOf γ v g s p o in
         let fit : Matches places j r = record {
-          graph = place-meets γ δ u v j is g (r .graph) (named-number terms δ g (r .graph) (m .graph));
-          subject = place-meets γ δ u v j is s (r .subject) (named-number terms δ s (r .subject) (m .subject));
-          property = place-meets γ δ u v j is p (r .property) (named-number terms δ p (r .property) (m .property));
-          object = place-meets γ δ u v j is o (r .object) (named-number terms δ o (r .object) (m .object));
+          graph = place-meets γ δ u v j is g (r .graph) (m .graph);
+          subject = place-meets γ δ u v j is s (r .subject) (m .subject);
+          property = place-meets γ δ u v j is p (r .property) (m .property);
+          object = place-meets γ δ u v j is o (r .object) (m .object);
         } in
-        omega (arith, scan-here places lo (length terms) r quads (m .isStored) (row-fits places lo j l r fit), row-top places lo j l r fit)
+        omega (arith, scan-here places lo (length terms) r quads (trueIs (stored r quads) (m .isStored)) (row-fits places lo j l r fit), row-top places lo j l r fit)
     seek-reaches (Query.both q r) lo l h =
         let k = both-pass (query S clock terms quads δ q) (query S clock terms quads δ r) h in
         seek-reaches r (seek S clock terms quads γ v q lo) (seek-reaches q lo l (k .0)) (k .1)

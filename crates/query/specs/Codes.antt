@@ -1,6 +1,7 @@
 -- Numbers as the code has them. A place of a pattern: a number below 65,536 is fixed, 65,536 is sought, any other is free. What is known of a variable:
 -- a number below 65,536 is its term's, any other says that it is not known. The quads: four numbers each, one quad after the other.
 use Prim.Native.Nat.{ℕ, zero, suc, _+_}
+use mathlib.Core.Path.{_≡_}
 use mathlib.Core.List.{List, [], _∷_}
 use mathlib.Core.Bool.{Bool, true, false, cond}
 use mathlib.Core.Option.{Option, none, some}
@@ -8,6 +9,7 @@ use lib.Dec.{eqb, ltb}
 use lib.ListN.{getD}
 use Rattle.definitions.specs.Tree.{Name, var, const, Query}
 use Rattle.definitions.specs.Evaluate.{Quad, Bindings}
+use Rattle.laws.proofs.Sound.{QueryBounded}
 use Rattle.query.specs.Seek.{Place, fixed, sought, free, Places}
 use Rattle.query.specs.declared.Four.{Four}
 
@@ -51,11 +53,12 @@ unfoldable pub codeOf : (known : List ℕ) → (v : ℕ) → Name → ℕ
 codeOf known v (var w) = cond (eqb w v) soughtCode (cond (ltb (getD known w freeCode) soughtCode) (getD known w freeCode) freeCode)
 codeOf known v (const c) = c
 
--- the codes of a pattern's names
-abbrev pub codesOf : (known : List ℕ) → (v : ℕ) → Query → Four
-codesOf known v (Query.pattern g s p o) =
-    record { graph = codeOf known v g; subject = codeOf known v s; property = codeOf known v p; object = codeOf known v o }
-codesOf known v (Query.both q r) = record { graph = 0; subject = 0; property = 0; object = 0 }
-codesOf known v (Query.union q r) = record { graph = 0; subject = 0; property = 0; object = 0 }
-codesOf known v (Query.filter c) = record { graph = 0; subject = 0; property = 0; object = 0 }
-codesOf known v Query.empty = record { graph = 0; subject = 0; property = 0; object = 0 }
+-- four codes are those of a pattern's names, where the variable v is sought
+abbrev pub Coded : (known : List ℕ) → (v : ℕ) → Four → Query → Type 0
+Coded known v codes (Query.pattern g s p o) =
+    (codes ≡ record { graph = codeOf known v g; subject = codeOf known v s; property = codeOf known v p; object = codeOf known v o })
+    × QueryBounded soughtCode (Query.pattern g s p o)
+Coded known v codes (Query.both q r) = ⊥
+Coded known v codes (Query.union q r) = ⊥
+Coded known v codes (Query.filter c) = ⊥
+Coded known v codes Query.empty = ⊥

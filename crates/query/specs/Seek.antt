@@ -164,10 +164,13 @@ module _ (S : Schema) (Γ : Typing) (clock : ℤ) (terms : List Term) (quads : L
   unfoldable pub next : Bindings → (v lo : ℕ) → ℕ
   next γ v lo = skip S (Γ v) terms (length terms - least γ v lo) (least γ v lo)
 
-  -- no variable of these is without a number; two passes
+  -- a variable still has a number: two passes
+  abbrev pub hopeAt : Bindings → (w : ℕ) → Bool
+  hopeAt γ w = ltb (least γ w (least γ w zero)) (length terms)
+
   unfoldable pub hopeful : Bindings → List ℕ → Bool
   hopeful γ [] = true
-  hopeful γ (w ∷ ws) = ltb (least γ w (least γ w zero)) (length terms) && hopeful γ ws
+  hopeful γ (w ∷ ws) = hopeAt γ w && hopeful γ ws
 
   -- The first answer after a tuple: vs are the variables still to choose. The look-ahead leaves out the next one, which the next level asks.
   unfoldable pub find : (variables : List ℕ) → Bindings → (last : Option Tuple) → Option Tuple

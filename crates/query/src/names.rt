@@ -1,35 +1,26 @@
 // Names in the script's bytes: their codes, and whether all those of an expression or a boolean are known.
 ghost use mathlib.Core.Path.{_≡_};
 ghost use lib.ListN.{length};
-ghost use Prim.Native.Nat.{_+_, _*_, _≤_, _<_};
-ghost use Rattle.definitions.specs.Bytes.{word};
+ghost use Prim.Native.Nat.{_<_};
 ghost use Rattle.definitions.specs.Tree.{var, Query};
 ghost use Rattle.definitions.specs.Reading.{fourOf, readName, readExpr, readCond};
 ghost use Rattle.laws.proofs.Walking.{Loads};
 ghost use Rattle.laws.proofs.Walked.{Walked};
-ghost use Rattle.laws.proofs.Sound.{NameBounded, QueryBounded};
+ghost use Rattle.laws.proofs.Sound.{NameBounded};
 ghost use Rattle.query.specs.Seek.{exprKnown, condKnown};
-ghost use Rattle.query.specs.Codes.{bindingsOf, codeOf, codesOf};
+ghost use Rattle.query.specs.Codes.{bindingsOf, codeOf, Coded};
 use crate::FREE;
 use crate::Four;
 use crate::NameRead;
 use crate::NamesRead;
 use crate::SOUGHT;
 use crate::Test;
+use records::numbers;
 
 fn wide(x: u8) -> usize
-    ensures { λ r. ⌜ (r ≡ x) × (r < 256) ⌝ }
+    ensures { λ r. ⌜ r ≡ x ⌝ }
 {
     x as usize
-}
-
-fn word_at(s: &[u8], at: usize) -> usize
-    requires { ⌜ at + 2 ≤ length (now s) ⌝ }
-    ensures { λ r. ⌜ (r ≡ word (now (s .entry)) at) × (r < 65536) ⌝ }
-{
-    let low = wide(s[at]);
-    let high = wide(s[at + 1]);
-    low + 256 * high
 }
 
 // What is known of a variable, as the code of its place; where v is the variable sought.
@@ -68,7 +59,7 @@ pub fn name_at(
         let next = at + 2;
         return NameRead { next, code };
     }
-    let code = word_at(script, first);
+    let code = numbers::word_at(script, first);
     let next = at + 3;
     NameRead { next, code }
 }
@@ -84,7 +75,7 @@ pub fn names_at(
 ) -> NamesRead
     requires { ⌜ Loads (fourOf Query.pattern (readName (now script) terms left) at) ⌝ }
     requires { ⌜ length (now known) ≡ 16 ⌝ }
-    ensures { λ r. ⌜ Walked (λ q. (r .codes ≡ codesOf (now (known .entry)) v q) × QueryBounded 65536 q) (fourOf Query.pattern (readName (now (script .entry)) terms left) at) (r .next) ⌝ }
+    ensures { λ r. ⌜ Walked (Coded (now (known .entry)) v (r .codes)) (fourOf Query.pattern (readName (now (script .entry)) terms left) at) (r .next) ⌝ }
 {
     let g = name_at(script, terms, at, left, known, v);
     let s = name_at(script, terms, g.next, left, known, v);

@@ -6,13 +6,14 @@ use mathlib.Core.Option.{Option, none, some}
 use mathlib.Core.Path.{_≡_, refl, sym, ap, _∙_}
 use lib.Dec.{eqb}
 use lib.ListN.{length}
-use Rattle.definitions.specs.Bytes.{Got, provided, onward, byte, past, body}
+use Rattle.definitions.specs.Bytes.{Got, onward, byte, past, body}
 use Rattle.definitions.specs.Limits.{blockWidth, pairLimit}
 use Rattle.definitions.specs.Tree.{Expr, Cond, Query, Binder, Script}
 use Rattle.definitions.specs.Reading.{oneOf, twoOf, fourOf, withBody, withBinders, bindersAt, isEach, readScript, parsed}
 use Rattle.laws.proofs.Reading as R
 use Rattle.reader.specs.Fields.{isSome}
-use Rattle.reader.specs.Next.{nextOf}
+use Rattle.laws.proofs.Walking.{Loads, not-none}
+use Rattle.reader.specs.Next.{nextOf, Ends}
 use Rattle.reader.proofs.Present.{is-none, is-some, provided-is}
 use Rattle.reader.specs.declared.Read.{Read}
 use Rattle.reader.specs.declared.Read.the-variants.{Next, Malformed}
@@ -85,6 +86,15 @@ module _ {A : Type 0} {g : Got A} where
 
         pub four-ends : {m₃ : ℕ} {r : Read} → o₃ ≡ Next m₃ → r ≡ nextOf (p m₃) → r ≡ nextOf g
         four-ends n₃ e₄ = two-ends _ p p m₂ (R.four-two f p at h (into (p at) e₁) (ap heard n₁) (into (p m₁) e₂) (ap heard n₂)) e₃ n₃ e₄
+
+-- ── what loads ──────────────────────────────────────────────────────────────────────────────
+
+module _ {A : Type 0} (o : Got A) {r : Read} (e : r ≡ nextOf o) where
+  pub never-fails : Loads o → r ≡ Malformed → ⊥
+  never-fails l m = not-none l (lost o (sym e ∙ m))
+
+  pub ends-next : {n : ℕ} → r ≡ Next n → Ends o n
+  ends-next m = let g = got o (sym e ∙ m) in record { tree = g .0; read = g .1; holds = tt }
 
 -- ── records with a body that is checked ─────────────────────────────────────────────────────
 

@@ -1,23 +1,22 @@
 -- Patterns and language ranges, byte by byte: what is left to check of a field, from each place on.
 use Prim.Native.Nat.{ℕ, suc, _+_, _-_, _≤_, _<_}
-use mathlib.Core.Bool.{Bool, true, false, cond, not, _&&_, _||_, and-true, and-false, and-assoc, and-comm, or-false, or-assoc}
+use mathlib.Core.Bool.{Bool, true, false, cond, not, _&&_, _||_, and-true, and-false, and-comm, or-false, or-assoc}
 use mathlib.Core.List.{List, [], _∷_}
 use mathlib.Core.Option.{Option, none, some}
 use mathlib.Core.Path.{_≡_, refl, sym, ap, ap₂, _∙_}
-use mathlib.Core.Logic.{_⊎_, inl, inr, ⊎-elim}
 use native.Mathlib.Omega.{arith}
 use native.Mathlib.Numerals.{add-one}
 use lib.Dec.{eqb, leb}
-use lib.ListN.{length, take, drop, length-take, length-drop}
+use lib.ListN.{length, length-take, length-drop}
 use lib.Seq.{drop-cons}
-use borrow.Author.Tests.{ne-eqb, eq-eqb}
+use borrow.Author.Tests.{ne-eqb}
 use Rattle.definitions.specs.Limits.{patternWidth, languageRangeWidth}
 use Rattle.definitions.specs.Lists.{every, some?, isEmpty}
 use Rattle.definitions.specs.Bytes.{byte, part, allZero, unfilled, provided, onward, sameBytes}
 use Rattle.definitions.specs.Ascii.{ascii}
-use Rattle.definitions.specs.Terms.{Text, textByte, tagByte, smallLetter, hyphen, fieldText}
-use Rattle.definitions.specs.Text.{Atom, Piece, one, many, withPiece, withStart, star, caret, dollar, dot, noLiteral, atomOf, piecesOf, patternOfText, patternOf, LanguageRange, everything, beginning, withoutStar, rangeOfText, languageRangeOf}
-use Rattle.laws.proofs.Fields.{by-same, filledBy, filled-zero, filled-byte, unfilled-byte, no-text, field-text}
+use Rattle.definitions.specs.Terms.{Text, textByte, tagByte, smallLetter, hyphen}
+use Rattle.definitions.specs.Text.{Atom, Piece, one, many, withPiece, withStart, star, caret, dollar, dot, noLiteral, atomOf, piecesOf, patternOfText, patternOf, everything, beginning, withoutStar, rangeOfText, languageRangeOf}
+use Rattle.laws.proofs.Fields.{by-same, filledBy, filled-byte, unfilled-byte, no-text, field-text}
 use Rattle.reader.specs.Fields.{isSome, isLiteral, mayFollow, arePieces}
 use Rattle.reader.proofs.Present.{onward-is, provided-is, provided-then, cond-is, elim-is}
 

@@ -4,3 +4,6 @@ pub mod FieldLaws
 pub mod PairLaws
 pub mod Ends
 pub mod MarkLaws
+pub mod BindLaws
+pub mod PlaceLaws
+pub mod WholeLaws

@@ -1,7 +1,7 @@
 -- The pairs of a block: what is left to check from each of them on.
 use Prim.Native.Nat.{ℕ, zero, suc, _+_, _-_, _≤_, _<_}
-use mathlib.Core.Bool.{Bool, true, false, cond, not, _&&_, and-true}
-use mathlib.Core.List.{List, [], _∷_}
+use mathlib.Core.Bool.{Bool, true, false, not, _&&_, and-true}
+use mathlib.Core.List.{List, _∷_}
 use mathlib.Core.Option.{Option, none, some}
 use mathlib.Core.Path.{_≡_, refl, sym, ap, _∙_}
 use mathlib.Core.Logic.{⊎-elim}
@@ -9,7 +9,7 @@ use native.Mathlib.Omega.{arith}
 use lib.Dec.{T, eqb, ltb}
 use borrow.Author.Tests.{lt-ltb, le-ltb}
 use Rattle.definitions.specs.Limits.{variableLimit}
-use Rattle.definitions.specs.Bytes.{byte, provided, onward, row}
+use Rattle.definitions.specs.Bytes.{byte, onward}
 use Rattle.definitions.specs.Tree.{Binder}
 use Rattle.definitions.specs.Types.{Ty, typeRows, typeOfCode}
 use Rattle.definitions.specs.Reading.{writtenOf, binderAt, bindersAt}
@@ -62,7 +62,7 @@ module _ (s : List ℕ) (count k next : ℕ) where
   abbrev pub pairsFrom : Bool
   pairsFrom = isSome (bindersAt (4 - k) (count - k) s next)
 
-  pair-next : k < 4 → pairsFrom ≡ (pairOk (ltb k count) (byte s next) (byte s (next + 1)) && isSome (bindersAt (4 - (k + 1)) (count - (k + 1)) s (next + 2)))
+  pub pair-next : k < 4 → pairsFrom ≡ (pairOk (ltb k count) (byte s next) (byte s (next + 1)) && isSome (bindersAt (4 - (k + 1)) (count - (k + 1)) s (next + 2)))
   pair-next h =
       let l : 4 - k ≡ suc (4 - (k + 1)) = omega arith in
       ⊎-elim

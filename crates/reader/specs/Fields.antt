@@ -14,6 +14,11 @@ abbrev pub isSome : {A : Type 0} → Option A → Bool
 isSome none = false
 isSome (some a) = true
 
+-- whether there is something that passes a test
+abbrev pub holdsOf : {A : Type 0} → (A → Bool) → Option A → Bool
+holdsOf test none = false
+holdsOf test (some a) = test a
+
 -- a byte of a text that stands for itself in a pattern, or `.`
 unfoldable pub isLiteral : ℕ → Bool
 isLiteral b = textByte b && isSome (atomOf b)

@@ -2,8 +2,12 @@
 use Prim.Native.Nat.{ℕ}
 use mathlib.Core.Bool.{Bool, false, not, _&&_, _||_}
 use mathlib.Core.List.{List, map}
-use lib.ListN.{getD}
-use Rattle.definitions.specs.Scope.{variables}
+use mathlib.Core.Option.{none, some}
+use lib.ListN.{getD, replicate}
+use Rattle.definitions.specs.Limits.{variableLimit}
+use Rattle.definitions.specs.Bytes.{Got}
+use Rattle.definitions.specs.Tree.{Script}
+use Rattle.definitions.specs.Scope.{variables, isFree}
 
 abbrev pub flag : List Bool → ℕ → Bool
 flag flags v = getD flags v false
@@ -11,3 +15,8 @@ flag flags v = getD flags v false
 -- those flagged already, and those that pass a test and are not hidden
 unfoldable pub marked : (hidden flags : List Bool) → (ℕ → Bool) → List Bool
 marked hidden flags test = map (λ v. flag flags v || (not (flag hidden v) && test v)) variables
+
+-- the variables free in what was read
+unfoldable pub freeIn : Got Script → List Bool
+freeIn none = replicate variableLimit false
+freeIn (some p) = map (λ v. isFree v (p .0)) variables

@@ -7,7 +7,7 @@ ghost use Rattle.definitions.specs.Terms.{tagByte};
 ghost use Rattle.definitions.specs.Text.{noLiteral, patternOf, languageRangeOf};
 ghost use Rattle.reader.specs.Fields.{isSome, isLiteral, mayFollow, arePieces};
 
-// Whether the bytes from an offset up to an end are all zero.
+// Whether the bytes from an offset up to an end are all zero. Ruled out: the first byte alone tested; the last left out.
 pub fn zeros(s: &[u8], from: usize, end: usize) -> bool
     requires { ⌜ end ≤ length (now s) ⌝ }
     ensures { λ r. ⌜ r ≡ allZero (part (now (s .entry)) from (end - from)) ⌝ }
@@ -74,7 +74,7 @@ fn pieces_ok(s: &[u8], from: usize, end: usize) -> bool
     true
 }
 
-// Whether the 16 bytes at an offset are a good pattern.
+// Whether the 16 bytes at an offset are a good pattern. Ruled out: a `*` let stand first; a byte after `$` let pass.
 pub fn pattern_ok(s: &[u8], at: usize) -> bool
     requires { ⌜ at + 16 ≤ length (now s) ⌝ }
     ensures { λ r. ⌜ r ≡ isSome (patternOf (part (now (s .entry)) at 16)) ⌝ }
@@ -94,6 +94,7 @@ fn tag_byte(b: u8) -> bool
 }
 
 // Whether the 8 bytes at an offset are a good language range.
+// Ruled out: hyphens with no letter taken; a `*` let stand right after a letter.
 pub fn range_ok(s: &[u8], at: usize) -> bool
     requires { ⌜ at + 8 ≤ length (now s) ⌝ }
     ensures { λ r. ⌜ r ≡ isSome (languageRangeOf (part (now (s .entry)) at 8)) ⌝ }

@@ -28,6 +28,7 @@ fn pair_ok(used: bool, variable: u8, written: u8) -> bool
 }
 
 // Whether the four pairs at an offset are good, the first `count` of them used.
+// Ruled out: an unused pair left unchecked; a count of 5 taken.
 pub fn pairs_ok(s: &[u8], at: usize, count: u8) -> bool
     requires { ⌜ at + 8 ≤ length (now s) ⌝ }
     ensures { λ r. ⌜ r ≡ isSome (bindersAt 4 count (now (s .entry)) at) ⌝ }

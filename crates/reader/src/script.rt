@@ -12,7 +12,7 @@ ghost use Rattle.definitions.specs.Reading.{readName, readExpr, readCond, readQ
 ghost use Rattle.reader.specs.Fields.{isSome};
 ghost use Rattle.reader.specs.Next.{nextOf};
 
-// The 2-byte number at an offset.
+// The 2-byte number at an offset. Ruled out: the high byte taken first; the second byte dropped.
 pub fn word_at(s: &[u8], at: usize) -> usize
     requires { ⌜ at + 1 < length (now s) ⌝ }
     ensures { λ r. ⌜ r ≡ word (now (s .entry)) at ⌝ }
@@ -20,7 +20,7 @@ pub fn word_at(s: &[u8], at: usize) -> usize
     s[at] as usize + 256 * (s[at + 1] as usize)
 }
 
-// A name: 31 a variable, 32 a constant.
+// A name: 31 a variable, 32 a constant. Ruled out: variable 16 taken; a term number past the table taken.
 pub fn read_name(script: &[u8], terms: usize, at: usize, left: u8) -> Read
     ensures { λ r. ⌜ r ≡ nextOf (readName (now (script .entry)) terms left at) ⌝ }
 {
@@ -59,6 +59,7 @@ pub fn read_name(script: &[u8], terms: usize, at: usize, left: u8) -> Read
 }
 
 // An expression: a name, 41 now, 42 str, 43 abs, 44 plus, 45 minus.
+// Ruled out: the second part of a sum left unread; an expression one level too deep taken.
 pub fn read_expr(script: &[u8], terms: usize, at: usize, left: u8) -> Read
     ensures { λ r. ⌜ r ≡ nextOf (readExpr (now (script .entry)) terms left at) ⌝ }
 {
@@ -84,6 +85,7 @@ pub fn read_expr(script: &[u8], terms: usize, at: usize, left: u8) -> Read
 }
 
 // A boolean: 50 false, 51 true, 52 or, 53 and, 54 not, 55 regex, 56 langMatches, 57 equal, 58 less.
+// Ruled out: a bad pattern taken; a boolean where an expression must stand.
 pub fn read_cond(script: &[u8], terms: usize, at: usize, left: u8) -> Read
     ensures { λ r. ⌜ r ≡ nextOf (readCond (now (script .entry)) terms left at) ⌝ }
 {
@@ -132,6 +134,7 @@ pub fn read_cond(script: &[u8], terms: usize, at: usize, left: u8) -> Read
 }
 
 // A query: 61 pattern, 62 both, 63 union, 64 filter, 65 empty.
+// Ruled out: a pattern of three names taken; a filter of a query taken.
 pub fn read_query(script: &[u8], terms: usize, at: usize, left: u8) -> Read
     ensures { λ r. ⌜ r ≡ nextOf (readQuery (now (script .entry)) terms left at) ⌝ }
 {
@@ -168,6 +171,7 @@ pub fn read_query(script: &[u8], terms: usize, at: usize, left: u8) -> Read
 }
 
 // A script: 71 success, 72 from named, 73 block, 74 sequence.
+// Ruled out: a block of mode 2 taken; a sequence whose second script is missing taken.
 pub fn read_script(script: &[u8], terms: usize, at: usize, left: u8) -> Read
     ensures { λ r. ⌜ r ≡ nextOf (readScript (now (script .entry)) terms left at) ⌝ }
 {
@@ -213,6 +217,7 @@ pub fn read_script(script: &[u8], terms: usize, at: usize, left: u8) -> Read
 }
 
 // Whether the whole script is well formed: records 24 deep, no bytes left over.
+// Ruled out: records 25 deep taken; a byte after the root's record taken.
 pub fn script_ok(script: &[u8], terms: usize) -> bool
     ensures { λ r. ⌜ r ≡ isSome (parsed terms (now (script .entry))) ⌝ }
 {

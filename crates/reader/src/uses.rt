@@ -13,6 +13,7 @@ pub struct Marked {
     pub free: [bool; 16],
 }
 
+// Ruled out: a hidden variable flagged; a constant's number flagged as a variable.
 pub fn mark_name(
     script: &[u8],
     terms: usize,
@@ -40,6 +41,7 @@ pub fn mark_name(
     }
 }
 
+// Ruled out: the second part of a sum passed over; flags set before lost.
 pub fn mark_expr(
     script: &[u8],
     terms: usize,
@@ -73,6 +75,7 @@ pub fn mark_expr(
     }
 }
 
+// Ruled out: the expression of a regex passed over; its pattern's bytes taken for variables.
 pub fn mark_cond(
     script: &[u8],
     terms: usize,
@@ -116,6 +119,7 @@ pub fn mark_cond(
     }
 }
 
+// Ruled out: the object of a pattern passed over; a filter's boolean passed over.
 pub fn mark_query(
     script: &[u8],
     terms: usize,

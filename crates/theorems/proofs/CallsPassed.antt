@@ -18,7 +18,7 @@ use Rattle.definitions.specs.declared.SavedRun.{SavedRun}
 use Rattle.laws.proofs.Fine.{Fine, fine-ok}
 use Rattle.laws.proofs.Results.{passed-is, bind-inv, given-bind-inv, require-after-inv}
 use Rattle.laws.proofs.SoundIn.{SoundIn, sound-in, is-accepted}
-use Rattle.theorems.proofs.RunSound.{RunSound, run-sound}
+use Rattle.safety.proofs.RunSound.{RunSound, run-sound}
 
 -- what an outcome gives is one thing
 pub ok-is : {A : Type 0} {a b : A} → ok a ≡ ok b → a ≡ b

@@ -47,9 +47,9 @@ use Rattle.laws.proofs.RunStore.{run-keeps, last-all}
 use Rattle.laws.proofs.Saved.{held-again}
 use Rattle.laws.proofs.SoundIn.{is-accepted}
 use Rattle.theorems.proofs.Verdict.{isTyping, isGreatest, verdict-claim}
-use Rattle.theorems.proofs.RunSound.{run-sound, last-sound}
-use Rattle.theorems.proofs.RunSteps.{Steps, Ends, run-takes}
-use Rattle.theorems.proofs.PageSound.{page-sound}
+use Rattle.safety.proofs.RunSound.{run-sound, last-sound}
+use Rattle.safety.proofs.RunSteps.{Steps, Ends, run-takes}
+use Rattle.safety.proofs.PageSound.{page-sound}
 use Rattle.theorems.proofs.PageTaken.{PageLeaves, page-leaves}
 use Rattle.theorems.proofs.CallsPassed.{ok-is, fine-at, RunPassed, run-passed, run-fine, run-gives, taking-passed}
 use Rattle.theorems.proofs.StillHeld.{valid-held, still-held}

@@ -43,7 +43,7 @@ use Rattle.laws.proofs.Tables.{term-table-length, quad-table-length}
 use Rattle.laws.proofs.Valid.{ValidIn, loaded-valid, check-valid}
 use Rattle.laws.proofs.Saved.{held-again, terms-few, quads-few}
 use Rattle.laws.proofs.Sound.{Accepted, Sound}
-use Rattle.theorems.proofs.RunSound.{last-sound}
+use Rattle.safety.proofs.RunSound.{last-sound}
 use Rattle.theorems.proofs.Safety.{WellTyped, well-typed, loaded-sound, CallSound, call-sound}
 use Rattle.theorems.proofs.Engine.{HostCall, fed, Kept, keptOf, keptAfterLoad, Handed, engineCall, engineCalls}
 use Rattle.theorems.proofs.EngineSound.{handedOf, engine-call, call-valid}

@@ -1,9 +1,6 @@
 pub mod Verdict
 pub mod Roster
 pub mod StepBound
-pub mod StepSound
-pub mod RunSound
-pub mod PageSound
 pub mod Safety
 pub mod PageTaken
 pub mod NotVacuous
@@ -11,7 +8,6 @@ pub mod CallsPassed
 pub mod Engine
 pub mod EngineSound
 pub mod StillHeld
-pub mod RunSteps
 pub mod Demand1
 pub mod ExportRefusals
 pub mod Demand2

@@ -25,7 +25,7 @@ use Rattle.laws.proofs.Taking.{Names, names-more, stored-one, with-quad-all, st
 use Rattle.laws.proofs.PageCheck.{page-passed}
 use Rattle.laws.proofs.Sound.{Accepted, Sound}
 use Rattle.laws.proofs.SoundMeans.{Facts, facts}
-use Rattle.theorems.proofs.PageSound.{page-sound}
+use Rattle.safety.proofs.PageSound.{page-sound}
 
 -- ── the claim ───────────────────────────────────────────────────────────────────────────────
 

@@ -32,8 +32,8 @@ use Rattle.laws.proofs.Check.{check-accepted}
 use Rattle.laws.proofs.Places.{atRoot, place-found, typed-at}
 use Rattle.laws.proofs.Sound.{Accepted, Sound}
 use Rattle.laws.proofs.SoundMeans.{QuadFacts, StackFacts, facts, sound, no-last}
-use Rattle.theorems.proofs.RunSound.{RunSound, run-sound, last-sound}
-use Rattle.theorems.proofs.PageSound.{page-sound}
+use Rattle.safety.proofs.RunSound.{RunSound, run-sound, last-sound}
+use Rattle.safety.proofs.PageSound.{page-sound}
 
 -- ── what a sound state is, in demand 3's words ──────────────────────────────────────────────
 

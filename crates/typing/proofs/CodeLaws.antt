@@ -1,12 +1,15 @@
 -- What the codes of types stand for.
-use Prim.Native.Nat.{ℕ, _-_, _≤_, _<_}
+use Prim.Native.Nat.{ℕ, _+_, _-_, _≤_, _<_}
 use native.Mathlib.Decide.{ℕ-discrete}
+use native.Mathlib.Omega.{arith}
 use mathlib.Core.Path.{_≡_, refl, sym, ap, ap₂, _∙_}
 use mathlib.Core.Bool.{Bool, true, false, not, _&&_}
-use lib.Dec.{eqb}
+use mathlib.Core.Logic.{_⊎_, ⊎-elim}
+use lib.Dec.{eqb, eqb→eq}
 use borrow.Author.Tests.{lt-ltb, le-ltb, eq-eqb, ne-eqb}
-use Rattle.definitions.specs.Types.{Datatype, anyURI, decimal, integer, plain, range, leqDatatype, sameDatatype}
+use Rattle.definitions.specs.Types.{Datatype, anyURI, decimal, integer, plain, range, datatypeCode, typeCode, leqDatatype, sameDatatype}
 use Rattle.laws.proofs.Reading.{Others, row-others, row-keys}
+use Rattle.laws.proofs.Ranges.{every-in}
 use Rattle.laws.proofs.Agree.{datatype-equal2}
 use Rattle.typing.specs.Family.{family, ownDatatype}
 use Rattle.typing.specs.Codes.{literalRows, datatypeOf, typeOf}
@@ -41,6 +44,22 @@ module _ (k : ℕ) where
           (λ n. refl, (λ n. refl, (λ n. refl, (λ n. absurd (n refl), tt)))) (λ n. refl) n
           ∙ sym (ne-eqb k 5 n)
 
+-- a literal's code is its datatype's, any other stands for anyURI's
+module _ (k : ℕ) where
+  pub literal-code : 2 ≤ k → k < 6 → (k ≡ datatypeCode (datatypeOf k)) × (k < 8)
+  unfolding datatypeOf
+  literal-code from to =
+      (eqb→eq k (datatypeCode (datatypeOf k)) (every-in (λ k. eqb k (datatypeCode (datatypeOf k))) 2 4 tt k from (omega arith)), omega arith)
+
+  pub other-code : (k < 2) ⊎ (6 ≤ k) → (1 ≡ datatypeCode (datatypeOf k)) × (1 < 8)
+  other-code h = (
+    sym (ap datatypeCode (other-datatype k ((((tt, outside 2 (omega arith) (omega arith)), outside 3 (omega arith) (omega arith)), outside 4 (omega arith) (omega arith)), outside 5 (omega arith) (omega arith)))),
+    omega arith,
+  )
+    where
+      outside : (j : ℕ) → 2 ≤ j → j < 6 → k ≡ j → ⊥
+      outside j from to e = ⊎-elim (λ w. omega arith) (λ w. omega arith) h
+
 -- decimal is not below integer; else a datatype is below those of its family
 leq-by-family : (d e : Datatype) → leqDatatype d e ≡ not (sameDatatype d decimal && sameDatatype e integer) && eqb (family d) (family e)
 leq-by-family = datatype-equal2 leqDatatype (λ d e. not (sameDatatype d decimal && sameDatatype e integer) && eqb (family d) (family e)) tt
@@ -68,3 +87,9 @@ module _ (k : ℕ) where
   pub own-range : 8 ≤ k → datatypeOf 1 ≡ ownDatatype (typeOf k)
   unfolding datatypeOf
   own-range h = sym (ap ownDatatype (range-code h))
+
+  pub normal-plain : {r : ℕ} → k < 8 → r ≡ datatypeCode (datatypeOf k) → r ≡ typeCode (typeOf k)
+  normal-plain h e = e ∙ sym (ap typeCode (plain-code h))
+
+  pub normal-range : {r : ℕ} → 8 ≤ k → r ≡ datatypeCode (datatypeOf (k - 8)) → 8 + r ≡ typeCode (typeOf k)
+  normal-range h e = ap (λ n. 8 + n) e ∙ sym (ap typeCode (range-code h))

@@ -136,7 +136,7 @@ module _ (t : Tables) where
 
 -- ── lists of 16 types ───────────────────────────────────────────────────────────────────────
 
-type-of : (f : ℕ → Ty) (x : ℕ) → x < 16 → typeAt (map f variables) x ≡ f x
+pub type-of : (f : ℕ → Ty) (x : ℕ) → x < 16 → typeAt (map f variables) x ≡ f x
 type-of f x l = getD-inside (map f variables) x (plain anyURI) (f 0) l ∙ List·getD-map f variables x 0 ∙ ap f same
   where
     same : getD variables x 0 ≡ x

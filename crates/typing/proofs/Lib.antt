@@ -8,3 +8,4 @@ pub mod Infer
 pub mod CodeLaws
 pub mod TableLaws
 pub mod WalkLaws
+pub mod ReadOffLaws

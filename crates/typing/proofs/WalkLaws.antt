@@ -37,7 +37,7 @@ use Rattle.typing.proofs.TableLaws.{family-small, merged-joined, proper
 
 module _ (sorts written : List ℕ) where
   module _ (x : ℕ) (sixteen : length written ≡ 16) (l : x < 16) where
-    written-here : getD (allWritten written) x unbound ≡ writtenAs (getD written x 0)
+    pub written-here : getD (allWritten written) x unbound ≡ writtenAs (getD written x 0)
     unfolding allWritten writtenAs
     written-here = List·getD-map writtenAs written x unboundCode ∙ ap writtenAs (getD-inside written x unboundCode 0 (omega arith))
 

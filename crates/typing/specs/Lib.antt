@@ -5,3 +5,4 @@ pub mod Tables
 pub mod Infer
 pub mod Codes
 pub mod Walk
+pub mod Answers

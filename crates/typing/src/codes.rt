@@ -1,6 +1,7 @@
 // Types by their codes: 1 to 5 a datatype, 9 to 13 range of datatype 1 to 5.
 ghost use mathlib.Core.Path.{_≡_};
-ghost use Rattle.definitions.specs.Types.{leqDatatype};
+ghost use Prim.Native.Nat.{_<_};
+ghost use Rattle.definitions.specs.Types.{leqDatatype, datatypeCode, typeCode};
 ghost use Rattle.typing.specs.Family.{family, ownDatatype};
 ghost use Rattle.typing.specs.Codes.{datatypeOf, typeOf};
 
@@ -35,4 +36,24 @@ pub fn below(a: u8, b: u8) -> bool
         return false;
     }
     family(a) == family(b)
+}
+
+// The code of the datatype that a number stands for.
+fn datatype(code: u8) -> u8
+    ensures { λ r. ⌜ (r ≡ datatypeCode (datatypeOf code)) × (r < 8) ⌝ }
+{
+    match code {
+        2..=5 => code,
+        _ => 1,
+    }
+}
+
+// The code of the type that a number stands for.
+pub fn normal(code: u8) -> u8
+    ensures { λ r. ⌜ r ≡ typeCode (typeOf code) ⌝ }
+{
+    if code < 8 {
+        return datatype(code);
+    }
+    8 + datatype(code - 8)
 }

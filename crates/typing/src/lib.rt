@@ -3,6 +3,7 @@ pub mod codes;
 pub mod families;
 pub mod names;
 pub mod noting;
+pub mod readoff;
 pub mod walk;
 
 use crate::noting::Tables;
@@ -33,4 +34,10 @@ pub struct ExprRead {
 pub struct TablesRead {
     pub next: usize,
     pub tables: Tables,
+}
+
+// What the typer answers: refusal 8 or 9 and zeros, or 0 and the reported type of each variable, 0 where no pair binds it.
+pub struct Answer {
+    pub refusal: u8,
+    pub types: [u8; 16],
 }

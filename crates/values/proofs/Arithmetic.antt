@@ -107,7 +107,7 @@ unfolding provided
 provided-where true n = refl
 provided-where false n = refl
 
-where-inv : (b : Bool) (n m : ℤ) → where? b n ≡ some m → T b × (n ≡ m)
+pub where-inv : (b : Bool) (n m : ℤ) → where? b n ≡ some m → T b × (n ≡ m)
 where-inv true n m e = (tt, some-is e)
 where-inv false n m e = absurd (some-not-none e refl)
 

@@ -121,7 +121,7 @@ pub every-wider : (p q : ℕ → Bool) → ((b : ℕ) → T (p b) → T (q b)) �
 every-wider p q f [] h = tt
 every-wider p q f (b ∷ s) h = andMake (q b) (every q s) (f b (andLeft (p b) (every p s) h)) (every-wider p q f s (andRight (p b) (every p s) h))
 
-between-wider : (low high l h b : ℕ) → l ≤ low → high ≤ h → T (between low high b) → T (between l h b)
+pub between-wider : (low high l h b : ℕ) → l ≤ low → high ≤ h → T (between low high b) → T (between l h b)
 between-wider low high l h b lo hi t =
     let x = leb→le low b (andLeft (leb low b) (leb b high) t) in
     let y = leb→le b high (andRight (leb low b) (leb b high) t) in

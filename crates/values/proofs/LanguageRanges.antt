@@ -17,7 +17,7 @@ use Rattle.laws.proofs.Tests.{andLeft, andRight, trueIs}
 use Rattle.laws.proofs.Ranges.{split}
 use Rattle.laws.proofs.Options.{some-is, provided-inv, onward-inv}
 use Rattle.laws.proofs.Same.{same-bytes}
-use Rattle.values.specs.Texts.{Is, endsAt}
+use Rattle.values.specs.Texts.{endsAt}
 use Rattle.values.proofs.Fields.{rest, rest-out, rest-end, rest-more, rest-cases, within, first-is, field-text}
 use Rattle.values.proofs.Booleans.{or-none, and-both}
 
@@ -178,17 +178,10 @@ module _ (f : List ℕ) where
       go (begins a b) = absurd (star-first e a)
 
   module _ (n : byte f 0 ≡ star → ⊥) where
-    pub range-fine : Is (languageRangeOf f) → T (every tagByte (withoutStar (unfilled f)))
-    range-fine i = go (ranged f (i .0) (i .1))
-      where
-        go : Ranged f (i .0) → T (every tagByte (withoutStar (unfilled f)))
-        go (all-of a b) = absurd (n (first-is f star [] a))
-        go (begins a b) = a
-
-    pub accepts-beginning : (g : List ℕ) (r : Bool) → r ≡ goesOn (withoutStar (unfilled f)) g → (q : LanguageRange) → languageRangeOf f ≡ some q → r ≡ matches q g
+    pub accepts-beginning : (g : List ℕ) (r : Bool) → (T (every tagByte (withoutStar (unfilled f))) → r ≡ goesOn (withoutStar (unfilled f)) g) → (q : LanguageRange) → languageRangeOf f ≡ some q → r ≡ matches q g
     unfolding matches
     accepts-beginning g r e q h = go (ranged f q h)
       where
         go : Ranged f q → r ≡ matches q g
         go (all-of a b) = absurd (n (first-is f star [] a))
-        go (begins a b) = rw b e
+        go (begins a b) = rw b (e a)

@@ -14,3 +14,5 @@ mod Writing
 mod Calendars
 mod Strings
 mod Str
+mod SlotValues
+mod Making

@@ -16,7 +16,6 @@ use Rattle.definitions.specs.Bytes.{byte, unfilled, provided, onward}
 use Rattle.definitions.specs.Terms.{Text, fieldText, textByte}
 use Rattle.definitions.specs.Text.{Atom, any, literal, Piece, one, many, isAtom, atomOf, noLiteral, piecesOf, withPiece, star, dot, dollar, caret, Pattern, patternOf, patternOfText, withStart, accepts}
 use Rattle.laws.proofs.Options.{some-is, some-not-none, provided-inv, onward-inv}
-use Rattle.values.specs.Texts.{Is}
 use Rattle.values.specs.Matching.{fits, anywhere, ahead, hits, RowFrom, Finds}
 use Rattle.values.proofs.Booleans.{or-false, true-false}
 use Rattle.values.proofs.Fields.{rest, rest-more, within, first-is, field-text, text-fits, text-byte, text-end}

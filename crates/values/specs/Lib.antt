@@ -5,3 +5,4 @@ pub mod Matching
 pub mod Whole
 pub mod Lines
 pub mod Dates
+pub mod Made

@@ -1,17 +1,11 @@
 -- Patterns and language ranges in the fields that hold them.
 use Prim.Native.Nat.{ℕ, _+_}
-use mathlib.Core.Path.{_≡_}
 use mathlib.Core.List.{List}
 use mathlib.Core.Bool.{Bool, _&&_, _||_}
-use mathlib.Core.Option.{Option, some}
 use lib.Dec.{eqb}
 use Rattle.definitions.specs.Bytes.{byte}
 use Rattle.definitions.specs.Terms.{hyphen}
 use Rattle.definitions.specs.Text.{star}
-
--- there is something
-abbrev pub Is : {A : Type 0} → Option A → Type 0
-Is {A} o = (a : A) × (o ≡ some a)
 
 -- a range ends at a place: at a zero, or at a `-*`
 abbrev pub endsAt : List ℕ → ℕ → Bool

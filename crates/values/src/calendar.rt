@@ -17,6 +17,7 @@ struct YearDay {
     day: u64,
 }
 
+// Every fourth year, of the hundreds every fourth.
 fn is_leap(year: u64) -> bool
     ensures { λ r. ⌜ r ≡ isLeap year ⌝ }
 {
@@ -26,6 +27,7 @@ fn is_leap(year: u64) -> bool
     by_four & (!by_hundred | by_four_hundred)
 }
 
+// The smaller of two numbers.
 fn at_most(n: u64, limit: u64) -> u64
     ensures { λ r. ⌜ r ≡ min n limit ⌝ }
 {
@@ -85,6 +87,7 @@ fn in_year(year: u64, day: u64) -> Date
 }
 
 // The date of a day that is counted from 0001-01-01.
+// Ruled out: 1900-02-29 for 1900-03-01; months counted from 0.
 pub fn date_of(day: u64) -> Date
     requires { ⌜ day < 3652059 ⌝ }
     ensures { λ r. ⌜ DateIs r (dateOf day) ⌝ }

@@ -6,7 +6,6 @@ ghost use Rattle.definitions.specs.Terms.{isDecimal, isDateTime};
 ghost use Rattle.definitions.specs.Values.{sum, difference, absolute, rankIn, before, stringBefore, equalPair, lessPair, textOf, Value as Meant};
 ghost use Rattle.definitions.specs.Bytes.{sameBytes, unfilled, part};
 ghost use Rattle.values.specs.Meaning.{meaning, where?, stringOf, Good, Gives, Tells, compared, textTest};
-ghost use Rattle.values.specs.Texts.{Is};
 ghost use Rattle.values.specs.Whole.{Holds, plainString};
 ghost use Rattle.definitions.specs.Text.{LanguageRange, languageRangeOf, matches, Pattern, patternOf, accepts};
 ghost use mathlib.Core.Option.{some};
@@ -16,10 +15,13 @@ ghost use Rattle.values.specs.Numbers.{held, inKind, commonKind, counted
 
 mod calendar;
 mod line;
+pub mod made;
 mod number;
 mod order;
 mod pattern;
 mod range;
+pub mod slot;
+mod tables;
 mod text;
 
 // Document 01's codes of the datatypes.
@@ -96,6 +98,7 @@ fn counted(v: Value, kind: u8) -> i64
     n
 }
 
+// The sum. Ruled out: a sum outside the limits clipped to them; an integer added to a decimal as so many millionths.
 pub fn plus(a: Value, b: Value) -> Value
     requires { ⌜ Good a ⌝ }
     requires { ⌜ Good b ⌝ }
@@ -111,6 +114,7 @@ pub fn plus(a: Value, b: Value) -> Value
     limited(kind, number::sum(x, y))
 }
 
+// The difference. Ruled out: the smaller taken from the larger; an integer where one side is a decimal.
 pub fn minus(a: Value, b: Value) -> Value
     requires { ⌜ Good a ⌝ }
     requires { ⌜ Good b ⌝ }
@@ -126,6 +130,7 @@ pub fn minus(a: Value, b: Value) -> Value
     limited(kind, number::difference(x, y))
 }
 
+// The distance from 0. Ruled out: a negative number given back; 0 for no value.
 pub fn abs(a: Value) -> Value
     requires { ⌜ Good a ⌝ }
     ensures { λ r. ⌜ Gives r (absolute (meaning a)) ⌝ }
@@ -135,204 +140,6 @@ pub fn abs(a: Value) -> Value
     let n = a.number;
     numeric(kind, present, number::distance(n))
 }
-
-// Document 01's rank table: blank, digits, letters as A a B b to Z z, then the others by byte.
-const RANKS: [u8; 95] = [
-    0,
-    63,
-    64,
-    65,
-    66,
-    67,
-    68,
-    69,
-    70,
-    71,
-    72,
-    73,
-    74,
-    75,
-    76,
-    77,
-    1,
-    2,
-    3,
-    4,
-    5,
-    6,
-    7,
-    8,
-    9,
-    10,
-    78,
-    79,
-    80,
-    81,
-    82,
-    83,
-    84,
-    11,
-    13,
-    15,
-    17,
-    19,
-    21,
-    23,
-    25,
-    27,
-    29,
-    31,
-    33,
-    35,
-    37,
-    39,
-    41,
-    43,
-    45,
-    47,
-    49,
-    51,
-    53,
-    55,
-    57,
-    59,
-    61,
-    85,
-    86,
-    87,
-    88,
-    89,
-    90,
-    12,
-    14,
-    16,
-    18,
-    20,
-    22,
-    24,
-    26,
-    28,
-    30,
-    32,
-    34,
-    36,
-    38,
-    40,
-    42,
-    44,
-    46,
-    48,
-    50,
-    52,
-    54,
-    56,
-    58,
-    60,
-    62,
-    91,
-    92,
-    93,
-    94,
-];
-
-// The table by which texts go by bytes.
-const BYTES: [u8; 95] = [
-    0,
-    1,
-    2,
-    3,
-    4,
-    5,
-    6,
-    7,
-    8,
-    9,
-    10,
-    11,
-    12,
-    13,
-    14,
-    15,
-    16,
-    17,
-    18,
-    19,
-    20,
-    21,
-    22,
-    23,
-    24,
-    25,
-    26,
-    27,
-    28,
-    29,
-    30,
-    31,
-    32,
-    33,
-    34,
-    35,
-    36,
-    37,
-    38,
-    39,
-    40,
-    41,
-    42,
-    43,
-    44,
-    45,
-    46,
-    47,
-    48,
-    49,
-    50,
-    51,
-    52,
-    53,
-    54,
-    55,
-    56,
-    57,
-    58,
-    59,
-    60,
-    61,
-    62,
-    63,
-    64,
-    65,
-    66,
-    67,
-    68,
-    69,
-    70,
-    71,
-    72,
-    73,
-    74,
-    75,
-    76,
-    77,
-    78,
-    79,
-    80,
-    81,
-    82,
-    83,
-    84,
-    85,
-    86,
-    87,
-    88,
-    89,
-    90,
-    91,
-    92,
-    93,
-    94,
-];
 
 // Whether two strings have the same tag and text.
 fn same_strings(a: Value, b: Value) -> bool
@@ -347,6 +154,7 @@ fn same_strings(a: Value, b: Value) -> bool
     tags & texts
 }
 
+// Whether two values have the same text.
 fn same_texts(a: Value, b: Value) -> bool
     requires { ⌜ Good a ⌝ }
     requires { ⌜ Good b ⌝ }
@@ -368,6 +176,7 @@ fn text_before(a: Value, b: Value, table: [u8; 95]) -> bool
     order::before(&text, &other_text, &table)
 }
 
+// Whether one tag comes before another under a rank table.
 fn tag_before(a: Value, b: Value, table: [u8; 95]) -> bool
     requires { ⌜ Good a ⌝ }
     requires { ⌜ Good b ⌝ }
@@ -391,6 +200,7 @@ fn string_before(a: Value, b: Value, table: [u8; 95]) -> bool
 }
 
 // Whether two values are equal: numbers by amount, dateTimes by seconds, strings by tag and text.
+// Ruled out: integer 3 apart from decimal 3.0; two "no value" equal.
 pub fn equal(a: Value, b: Value) -> bool
     requires { ⌜ Good a ⌝ }
     requires { ⌜ Good b ⌝ }
@@ -406,7 +216,8 @@ pub fn equal(a: Value, b: Value) -> bool
     }
 }
 
-// Whether a value is less than another.
+// Whether a value is less than another: strings by text, then tag, under the rank table, URIs by bytes.
+// Ruled out: string Z before string a; a text before its own beginning.
 pub fn less(a: Value, b: Value) -> bool
     requires { ⌜ Good a ⌝ }
     requires { ⌜ Good b ⌝ }
@@ -415,18 +226,18 @@ pub fn less(a: Value, b: Value) -> bool
     let kind = a.kind;
     let present = a.present & b.present;
     match kind {
-        2 => present & string_before(a, b, RANKS),
+        2 => present & string_before(a, b, tables::RANKS),
         3 | 5 => present & number::is_less(counted(a, DECIMAL), counted(b, DECIMAL)),
         4 => number::is_less(a.number, b.number),
-        _ => text_before(a, b, BYTES),
+        _ => text_before(a, b, tables::BYTES),
     }
 }
 
 // Whether a language range, in the 8 bytes of a script from an offset on, accepts a string's tag.
+// Ruled out: en that accepts the tag eng; * that refuses a string with no tag.
 pub fn lang_matches(v: Value, script: &[u8], at: usize) -> bool
     requires { ⌜ Good v ⌝ }
     requires { ⌜ at + 8 ≤ length (now script) ⌝ }
-    requires { ⌜ Is (languageRangeOf (part (now script) at 8)) ⌝ }
     ensures { λ r. ⌜ ((q : LanguageRange) → languageRangeOf (part (now (script .entry)) at 8) ≡ some q → Tells r (textTest (λ s. matches q (s .tag)) (meaning v))) ⌝ }
 {
     let end = at + 8;
@@ -437,10 +248,10 @@ pub fn lang_matches(v: Value, script: &[u8], at: usize) -> bool
 }
 
 // Whether a pattern, in the 16 bytes of a script from an offset on, accepts a string's text.
+// Ruled out: a pattern that has to fit the whole text; ^ and $ taken for literal bytes.
 pub fn regex(v: Value, script: &[u8], at: usize) -> bool
     requires { ⌜ Good v ⌝ }
     requires { ⌜ at + 16 ≤ length (now script) ⌝ }
-    requires { ⌜ Is (patternOf (part (now script) at 16)) ⌝ }
     ensures { λ r. ⌜ ((p : Pattern) → patternOf (part (now (script .entry)) at 16) ≡ some p → Tells r (textTest (λ s. accepts p (s .text)) (meaning v))) ⌝ }
 {
     let end = at + 16;
@@ -450,7 +261,7 @@ pub fn regex(v: Value, script: &[u8], at: usize) -> bool
     present & accepted
 }
 
-// The value of now.
+// The value of now. Ruled out: the seconds as an integer; a dateTime of another second.
 pub fn now_value(seconds: i64) -> Value
     requires { ⌜ T (isDateTime seconds) ⌝ }
     ensures { λ r. ⌜ Holds r (Meant.dateTime seconds) ⌝ }
@@ -478,6 +289,7 @@ fn untagged(present: bool, text: [u8; 40]) -> Value
 }
 
 // str: a URI's or string's text without tag, a number's digits, a dateTime as 1970-01-01T00:00:00Z.
+// Ruled out: 3 for the decimal 3.0; a string that keeps its tag.
 pub fn text_of(v: Value) -> Value
     requires { ⌜ Good v ⌝ }
     ensures { λ r. ⌜ Holds r (Meant.string (textOf (meaning v))) ⌝ }

@@ -10,7 +10,7 @@ pub struct Line {
     pub len: usize,
 }
 
-// A byte at the end.
+// A byte at the end. Ruled out: a byte over the last one; a length that stays.
 pub fn push(line: Line, b: u8) -> Line
     requires { ⌜ line .len < 40 ⌝ }
     ensures { λ r. ⌜ Puts line r (b ∷ []) ⌝ }
@@ -22,7 +22,7 @@ pub fn push(line: Line, b: u8) -> Line
     next
 }
 
-// The last digit of a number.
+// The last digit of a number. Ruled out: the first digit; the digit as a number from 0 to 9.
 pub fn push_digit(line: Line, n: u64) -> Line
     requires { ⌜ line .len < 40 ⌝ }
     ensures { λ r. ⌜ Puts line r (lastDigit n ∷ []) ⌝ }
@@ -31,7 +31,7 @@ pub fn push_digit(line: Line, n: u64) -> Line
     push(line, 48 + digit)
 }
 
-// The last count digits of a number.
+// The last count digits of a number. Ruled out: 7 for 07; the digits from the back.
 pub fn digits(line: Line, count: u8, n: u64) -> Line
     requires { ⌜ line .len + count ≤ 40 ⌝ }
     ensures { λ r. ⌜ Puts line r (calendar.digits count n) ⌝ }
@@ -43,7 +43,7 @@ pub fn digits(line: Line, count: u8, n: u64) -> Line
     push_digit(front, n)
 }
 
-// A number's digits, at most left of them, with no needless zero in front.
+// A number's digits, at most left of them, with no needless zero in front. Ruled out: 007; no digit at all for 0.
 pub fn natural(line: Line, left: u8, n: u64) -> Line
     requires { ⌜ line .len + left ≤ 40 ⌝ }
     ensures { λ r. ⌜ Puts line r (shortDigits left n) ⌝ }
@@ -58,7 +58,7 @@ pub fn natural(line: Line, left: u8, n: u64) -> Line
     push_digit(front, n)
 }
 
-// A fraction of count digits, with at least one digit and no needless zero.
+// A fraction of count digits, with at least one digit and no needless zero. Ruled out: 50 for 5; 5 for 05.
 pub fn fraction(line: Line, count: u8, m: u64) -> Line
     requires { ⌜ 1 ≤ count ⌝ }
     requires { ⌜ line .len + count ≤ 40 ⌝ }

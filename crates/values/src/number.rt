@@ -7,6 +7,7 @@ ghost use lib.Signed.{leZ, ltZ};
 ghost use Rattle.definitions.specs.Terms.{isInteger, isDecimal, sameNumber};
 ghost use Rattle.definitions.specs.Values.{million};
 
+// Ruled out: a sum that wraps; a difference.
 pub fn sum(a: i64, b: i64) -> i64
     requires { ⌜ T (isDecimal a) ⌝ }
     requires { ⌜ T (isDecimal b) ⌝ }
@@ -15,6 +16,7 @@ pub fn sum(a: i64, b: i64) -> i64
     a + b
 }
 
+// Ruled out: b - a; the distance between the two.
 pub fn difference(a: i64, b: i64) -> i64
     requires { ⌜ T (isDecimal a) ⌝ }
     requires { ⌜ T (isDecimal b) ⌝ }
@@ -23,7 +25,7 @@ pub fn difference(a: i64, b: i64) -> i64
     a - b
 }
 
-// An integer in millionths.
+// An integer in millionths. Ruled out: thousandths; the integer itself.
 pub fn scaled(n: i64) -> i64
     requires { ⌜ T (isInteger n) ⌝ }
     ensures { λ r. ⌜ r ≡ n *ℤ pos million ⌝ }
@@ -31,7 +33,7 @@ pub fn scaled(n: i64) -> i64
     n * 1000000
 }
 
-// The distance from 0.
+// The distance from 0. Ruled out: a number below 0; one less than the distance for those.
 pub fn distance(n: i64) -> i64
     requires { ⌜ T (isDecimal n) ⌝ }
     ensures { λ r. ⌜ r ≡ pos (natAbs n) ⌝ }
@@ -42,6 +44,7 @@ pub fn distance(n: i64) -> i64
     n
 }
 
+// Whether a number lies between two, both included. Ruled out: high left out; a number below low let in.
 pub fn within(n: i64, low: i64, high: i64) -> bool
     ensures { λ r. ⌜ r ≡ (leZ low n && leZ n high) ⌝ }
 {
@@ -50,12 +53,14 @@ pub fn within(n: i64, low: i64, high: i64) -> bool
     above & below
 }
 
+// Ruled out: equal numbers taken for less; a compare of distances from 0.
 pub fn is_less(a: i64, b: i64) -> bool
     ensures { λ r. ⌜ r ≡ ltZ a b ⌝ }
 {
     a < b
 }
 
+// Ruled out: -3 the same as 3; true for every pair.
 pub fn is_same(a: i64, b: i64) -> bool
     ensures { λ r. ⌜ r ≡ sameNumber a b ⌝ }
 {

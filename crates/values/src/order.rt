@@ -18,6 +18,7 @@ fn rank(table: &[u8; 95], b: u8) -> u8
 }
 
 // Whether the text in one field comes before the text in another, under a rank table.
+// Ruled out: the longer text first; a text before itself.
 pub fn before(a: &[u8], b: &[u8], table: &[u8; 95]) -> bool
     requires { ⌜ length (now a) ≡ length (now b) ⌝ }
     requires { ⌜ T (every textByte (unfilled (now a))) ⌝ }
@@ -45,6 +46,7 @@ pub fn before(a: &[u8], b: &[u8], table: &[u8; 95]) -> bool
 }
 
 // Whether two fields of one width hold the same text.
+// Ruled out: only the first bytes compared; fields apart that differ after the end.
 pub fn same(a: &[u8], b: &[u8]) -> bool
     requires { ⌜ length (now a) ≡ length (now b) ⌝ }
     ensures { λ r. ⌜ r ≡ sameBytes (unfilled (now (a .entry))) (unfilled (now (b .entry))) ⌝ }

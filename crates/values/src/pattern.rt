@@ -9,7 +9,6 @@ ghost use Rattle.definitions.specs.Bytes.{unfilled};
 ghost use Rattle.definitions.specs.Terms.{Text};
 ghost use Rattle.definitions.specs.Text.{Piece, piecesOf, Pattern, patternOf};
 ghost use Rattle.definitions.specs.Text as text;
-ghost use Rattle.values.specs.Texts.{Is};
 ghost use Rattle.values.specs.Matching.{fits, ahead, hits, RowFrom, Finds};
 
 const STAR: u8 = 42;
@@ -20,7 +19,7 @@ const CARET: u8 = 94;
 
 const DOLLAR: u8 = 36;
 
-// The length of a field's text.
+// The length of a field's text. Ruled out: the field's width; the zeros counted.
 pub fn text_length(field: &[u8]) -> usize
     ensures { λ r. ⌜ r ≡ length (unfilled (now (field .entry))) ⌝ }
 {
@@ -115,9 +114,9 @@ fn search(pattern: &[u8], start: usize, field: &[u8]) -> Found
 }
 
 // Whether a pattern, in 16 bytes, accepts the text of a field.
+// Ruled out: a* that wants an a; a pattern with $ that fits before the end.
 pub fn accepts(pattern: &[u8], field: &[u8]) -> bool
     requires { ⌜ length (now pattern) ≡ 16 ⌝ }
-    requires { ⌜ Is (patternOf (now pattern)) ⌝ }
     ensures { λ r. ⌜ ((p : Pattern) → patternOf (now (pattern .entry)) ≡ some p → r ≡ text.accepts p (unfilled (now (field .entry)))) ⌝ }
 {
     if pattern[0] == CARET {

@@ -8,7 +8,7 @@ ghost use Rattle.definitions.specs.Lists.{every};
 ghost use Rattle.definitions.specs.Bytes.{unfilled};
 ghost use Rattle.definitions.specs.Terms.{tagByte};
 ghost use Rattle.definitions.specs.Text.{LanguageRange, languageRangeOf, matches, withoutStar, goesOn};
-ghost use Rattle.values.specs.Texts.{Is, endsAt};
+ghost use Rattle.values.specs.Texts.{endsAt};
 
 const HYPHEN: u8 = 45;
 
@@ -38,8 +38,7 @@ fn ends(range: &[u8], i: usize) -> bool
 fn goes_on(range: &[u8], tag: &[u8]) -> bool
     requires { ⌜ length (now range) ≡ 8 ⌝ }
     requires { ⌜ length (now tag) ≡ 8 ⌝ }
-    requires { ⌜ T (every tagByte (withoutStar (unfilled (now range)))) ⌝ }
-    ensures { λ r. ⌜ r ≡ goesOn (withoutStar (unfilled (now (range .entry)))) (unfilled (now (tag .entry))) ⌝ }
+    ensures { λ r. ⌜ (T (every tagByte (withoutStar (unfilled (now (range .entry))))) → r ≡ goesOn (withoutStar (unfilled (now (range .entry)))) (unfilled (now (tag .entry)))) ⌝ }
 {
     let mut i = 0;
     while i < 8 {
@@ -57,11 +56,10 @@ fn goes_on(range: &[u8], tag: &[u8]) -> bool
     true
 }
 
-// Whether a range accepts a tag.
+// Whether a range accepts a tag. Ruled out: en that accepts eng; en-* that refuses en.
 pub fn accepts(range: &[u8], tag: &[u8]) -> bool
     requires { ⌜ length (now range) ≡ 8 ⌝ }
     requires { ⌜ length (now tag) ≡ 8 ⌝ }
-    requires { ⌜ Is (languageRangeOf (now range)) ⌝ }
     ensures { λ r. ⌜ ((q : LanguageRange) → languageRangeOf (now (range .entry)) ≡ some q → r ≡ matches q (unfilled (now (tag .entry)))) ⌝ }
 {
     if range[0] == STAR {

@@ -48,6 +48,7 @@ fn sign(n: i64) -> Line
     empty
 }
 
+// An integer's digits. Ruled out: +3; no digits for 0.
 pub fn integer(n: i64) -> Line
     requires { ⌜ T (isDecimal n) ⌝ }
     ensures { λ r. ⌜ Written r (integerText n) ⌝ }
@@ -57,7 +58,7 @@ pub fn integer(n: i64) -> Line
     line::natural(start, 20, far)
 }
 
-// A decimal's millionths, with a digit on both sides of the point.
+// A decimal's millionths, with a digit on both sides of the point. Ruled out: -.5; 3.000000.
 pub fn decimal(n: i64) -> Line
     requires { ⌜ T (isDecimal n) ⌝ }
     ensures { λ r. ⌜ Written r (decimalText n) ⌝ }
@@ -93,7 +94,7 @@ fn put_time(start: Line, second: u64) -> Line
     line::digits(next, 2, second % 60)
 }
 
-// A dateTime as 1970-01-01T00:00:00Z.
+// A dateTime as 1970-01-01T00:00:00Z. Ruled out: -1 seconds on 1970-01-01; 24:00:00 at midnight.
 pub fn date_time(n: i64) -> Line
     requires { ⌜ T (isDateTime n) ⌝ }
     ensures { λ r. ⌜ Written r (dateTimeText n) ⌝ }

@@ -1,7 +1,6 @@
 -- `values::lang_matches` meets its contract, by the laws of TextTests.
-use mathlib.Core.Path.{sym, ap, _∙_, subst}
+use mathlib.Core.Path.{ap, _∙_}
 use Rattle.definitions.specs.Text.{languageRangeOf, matches}
-use Rattle.values.specs.Texts.{Is}
 use Rattle.values.proofs.TextTests.{tells-text, part-is, part-length}
 use borrow.Author.Needs.{needs}
 use Rattle.values.proofs.lang_matches.Statement.{statement}
@@ -23,7 +22,7 @@ slice-aggregate-accepts : tie.Need-slice-aggregate-accepts
 slice-aggregate-accepts c = search needs
 
 accepts-requires : tie.Need-accepts-requires
-accepts-requires c κs = (part-length _ (c .before .before .before .before .args .at) 8 (c .before .before .before .before .pre .1 .0), (c .before .before .before .before .pre .0 .tag .size, subst (λ f. Is (languageRangeOf f)) (sym (part-is (c .before .before .before .before .args .script .now) (c .before .before .before .before .args .at) 8)) (c .before .before .before .before .pre .1 .1)))
+accepts-requires c κs = (part-length _ (c .before .before .before .before .args .at) 8 (c .before .before .before .before .pre .1), c .before .before .before .before .pre .0 .tag .size)
 
 returns : tie.Need-returns
 returns c = λ q e. tells-text (λ s. matches q (s .tag)) (c .before .before .before .before .before .args .v) (c .accepts .result) (c .accepts .ensures q (ap languageRangeOf (part-is (c .before .before .before .before .before .args .script .now) (c .before .before .before .before .before .args .at) 8) ∙ e))

@@ -1,7 +1,6 @@
 -- `values::regex` meets its contract, by the laws of TextTests.
-use mathlib.Core.Path.{sym, ap, _∙_, subst}
+use mathlib.Core.Path.{ap, _∙_}
 use Rattle.definitions.specs.Text.{patternOf, accepts}
-use Rattle.values.specs.Texts.{Is}
 use Rattle.values.proofs.TextTests.{tells-text, part-is, part-length}
 use borrow.Author.Needs.{needs}
 use Rattle.values.proofs.regex.Statement.{statement}
@@ -23,7 +22,7 @@ slice-aggregate-accepts : tie.Need-slice-aggregate-accepts
 slice-aggregate-accepts c = search needs
 
 accepts-requires : tie.Need-accepts-requires
-accepts-requires c κs = (part-length _ (c .before .before .before .before .args .at) 16 (c .before .before .before .before .pre .1 .0), subst (λ f. Is (patternOf f)) (sym (part-is (c .before .before .before .before .args .script .now) (c .before .before .before .before .args .at) 16)) (c .before .before .before .before .pre .1 .1))
+accepts-requires c κs = part-length _ (c .before .before .before .before .args .at) 16 (c .before .before .before .before .pre .1)
 
 returns : tie.Need-returns
 returns c = λ q e. tells-text (λ s. accepts q (s .text)) (c .before .before .before .before .before .args .v) (c .accepts .result) (c .accepts .ensures q (ap patternOf (part-is (c .before .before .before .before .before .args .script .now) (c .before .before .before .before .before .args .at) 16) ∙ e))

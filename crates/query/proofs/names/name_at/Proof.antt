@@ -28,7 +28,7 @@ add-next : tie.Need-add-next
 add-next c = omega (arith, name-var _ _ _ _ (c .before .before .before .before .before .before .before .pre .0) (c .before .before .before .if1 .taken))
 
 returns : tie.Need-returns
-returns c = leaf-walked (name-var _ _ _ _ (c .before .before .before .before .before .before .before .pre .0) (c .before .before .before .if1 .taken) .2) (c .variable-code .ensures ∙ ap (λ w. codeOf (c .before .before .before .before .before .before .before .args .known .now) (c .before .before .before .before .before .before .before .args .v) (var w)) (c .before .wide .ensures .0), name-var _ _ _ _ (c .before .before .before .before .before .before .before .pre .0) (c .before .before .before .if1 .taken) .1)
+returns c = leaf-walked (name-var _ _ _ _ (c .before .before .before .before .before .before .before .pre .0) (c .before .before .before .if1 .taken) .2) (c .variable-code .ensures ∙ ap (λ w. codeOf (c .before .before .before .before .before .before .before .args .known .now) (c .before .before .before .before .before .before .before .args .v) (var w)) (c .before .wide .ensures), name-var _ _ _ _ (c .before .before .before .before .before .before .before .pre .0) (c .before .before .before .if1 .taken) .1)
 
 word-at-requires : tie.Need-word-at-requires
 word-at-requires c κs = omega (arith, name-const _ _ _ _ (c .before .before .before .before .pre .0) (name-last _ _ _ _ (c .before .before .before .before .pre .0) (c .if1 .left)))

@@ -1,16 +1,12 @@
+-- `reader::fields::literal` meets its contract.
 use Rattle.reader.proofs.FieldLaws.{literal-is}
 use borrow.Author.Needs.{needs}
 use Rattle.reader.proofs.fields.literal.Statement.{statement}
 use Rattle.reader.proofs.fields.literal.Tie as tie
-use Rattle.reader.proofs.fields.literal.Reads as reads
-use Rattle.reader.proofs.fields.literal.Lts as lts
-use Rattle.reader.proofs.fields.no_literal.Reads as no-literal-reads
 
--- src/fields.rt:39:34
 no-literal-requires : tie.Need-no-literal-requires
 no-literal-requires c κs = search needs
 
--- src/fields.rt:36:1
 returns : tie.Need-returns
 returns c = literal-is _ (c .no-literal .ensures)
 

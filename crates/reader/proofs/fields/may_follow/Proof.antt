@@ -1,22 +1,17 @@
+-- `reader::fields::may_follow` meets its contract.
 use borrow.Author.Tests.{eq-eqb, ne-eqb}
 use Rattle.reader.specs.Fields.{mayFollow}
 use borrow.Author.Needs.{needs}
 use Rattle.reader.proofs.fields.may_follow.Statement.{statement}
 use Rattle.reader.proofs.fields.may_follow.Tie as tie
-use Rattle.reader.proofs.fields.may_follow.Reads as reads
-use Rattle.reader.proofs.fields.may_follow.Lts as lts
-use Rattle.reader.proofs.fields.literal.Reads as literal-reads
 
--- src/fields.rt:47:9
 returns : tie.Need-returns
 unfolding mayFollow
 returns c = rw (eq-eqb _ _ (c .if1 .taken))
 
--- src/fields.rt:49:5
 literal-requires : tie.Need-literal-requires
 literal-requires c κs = search needs
 
--- src/fields.rt:43:1
 returns-2 : tie.Need-returns-2
 unfolding mayFollow
 returns-2 c = rw (ne-eqb _ _ (c .before .if1 .left)) (c .literal .ensures)

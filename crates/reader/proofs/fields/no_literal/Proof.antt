@@ -1,11 +1,9 @@
+-- `reader::fields::no_literal` meets its contract.
 use mathlib.Core.Path.{refl}
 use Rattle.reader.proofs.FieldLaws.{no-literal}
 use Rattle.reader.proofs.fields.no_literal.Statement.{statement}
 use Rattle.reader.proofs.fields.no_literal.Tie as tie
-use Rattle.reader.proofs.fields.no_literal.Reads as reads
-use Rattle.reader.proofs.fields.no_literal.Lts as lts
 
--- src/fields.rt:26:1
 returns : tie.Need-returns
 returns c = no-literal _ refl
 

@@ -1,38 +1,28 @@
-use native.Mathlib.Omega.{arith}
+-- `reader::fields::pattern_ok` meets its contract.
 use mathlib.Core.Path.{sym, _∙_}
 use Rattle.reader.proofs.FieldLaws.{anchored, unanchored}
 use borrow.Author.Needs.{needs}
 use Rattle.reader.proofs.fields.pattern_ok.Statement.{statement}
 use Rattle.reader.proofs.fields.pattern_ok.Tie as tie
-use Rattle.reader.proofs.fields.pattern_ok.Reads as reads
-use Rattle.reader.proofs.fields.pattern_ok.Lts as lts
-use Rattle.reader.proofs.fields.pieces_ok.Reads as pieces-ok-reads
 
--- src/fields.rt:82:15
 add-end : tie.Need-add-end
 add-end c = search needs
 
--- src/fields.rt:83:8
 shared-slice-read-if1 : tie.Need-shared-slice-read-if1
 shared-slice-read-if1 c = search needs
 
--- src/fields.rt:84:29
 add-pieces-ok : tie.Need-add-pieces-ok
 add-pieces-ok c = search needs
 
--- src/fields.rt:84:9
 pieces-ok-requires : tie.Need-pieces-ok-requires
 pieces-ok-requires c κs = search needs
 
--- src/fields.rt:84:9
 returns : tie.Need-returns
 returns c = c .pieces-ok .ensures ∙ sym (anchored (c .before .before .before .before .args .s .now) (c .before .before .before .before .args .at) (c .before .before .before .before .pre) (c .before .if1 .taken))
 
--- src/fields.rt:86:5
 pieces-ok-requires-2 : tie.Need-pieces-ok-requires-2
 pieces-ok-requires-2 c κs = search needs
 
--- src/fields.rt:78:1
 returns-2 : tie.Need-returns-2
 returns-2 c = c .pieces-ok2 .ensures ∙ sym (unanchored (c .before .before .before .before .args .s .now) (c .before .before .before .before .args .at) (c .before .before .before .before .pre) (c .before .if1 .left))
 

@@ -1,19 +1,16 @@
+-- `reader::fields::range_ok` meets its contract.
 use native.Mathlib.Omega.{arith}
-use Prim.Native.Nat.{_-_, _+_, _≤_}
+use Prim.Native.Nat.{_-_, _+_}
 use borrow.Author.Needs.{needs}
 use borrow.Author.Tests.{not-true, not-false}
 use mathlib.Core.Bool.{Bool, _&&_}
-use mathlib.Core.Path.{_≡_, refl, sym, ap, _∙_}
-use Rattle.definitions.specs.Bytes.{part, allZero}
+use mathlib.Core.Path.{_≡_, sym, ap, _∙_}
+use Rattle.definitions.specs.Bytes.{part}
 use Rattle.definitions.specs.Text.{languageRangeOf}
 use Rattle.reader.specs.Fields.{isSome}
 use Rattle.reader.proofs.FieldLaws.{rangeFrom, everything-alone, tag-begins, tag-zero, tag-end, tag-bad, tag-turn, tag-done}
 use Rattle.reader.proofs.fields.range_ok.Statement.{statement}
 use Rattle.reader.proofs.fields.range_ok.Tie as tie
-use Rattle.reader.proofs.fields.range_ok.Reads as reads
-use Rattle.reader.proofs.fields.range_ok.Lts as lts
-use Rattle.reader.proofs.fields.tag_byte.Reads as tag-byte-reads
-use Rattle.reader.proofs.fields.zeros.Reads as zeros-reads
 
 abbrev Inv-loop : tie.InvT-loop
 Inv-loop s at end letter₀ hyphen₀ i₀ letter hyphen i = isSome (languageRangeOf (part s at 8)) ≡ rangeFrom letter hyphen (part s i (end - i))
@@ -21,75 +18,57 @@ Inv-loop s at end letter₀ hyphen₀ i₀ letter hyphen i = isSome (languageRan
 abbrev μ-loop : tie.MeasureT-loop
 μ-loop s at end letter₀ hyphen₀ i₀ letter hyphen i = end - i
 
--- src/fields.rt:101:15
 add-end : tie.Need-add-end Inv-loop μ-loop
 add-end c = omega arith
 
--- src/fields.rt:102:8
 shared-slice-read-if1 : tie.Need-shared-slice-read-if1 Inv-loop μ-loop
 shared-slice-read-if1 c = omega arith
 
--- src/fields.rt:103:25
 add-zeros : tie.Need-add-zeros Inv-loop μ-loop
 add-zeros c = omega arith
 
--- src/fields.rt:103:9
 zeros-requires : tie.Need-zeros-requires Inv-loop μ-loop
 zeros-requires c κs = omega arith
 
--- src/fields.rt:103:9
 returns : tie.Need-returns Inv-loop μ-loop
 returns c = c .zeros .ensures ∙ sym (everything-alone (c .before .before .before .before .args .s .now) (c .before .before .before .before .args .at) (c .before .before .before .before .pre) (c .before .if1 .taken))
 
--- src/fields.rt:108:5
 loop-holds : tie.Need-loop-holds Inv-loop μ-loop
 loop-holds c = tag-begins (c .before .before .before .args .s .now) (c .before .before .before .args .at) (c .before .before .before .pre) (c .if1 .left)
 
--- src/fields.rt:109:17
 shared-slice-read-b : tie.Need-shared-slice-read-b Inv-loop μ-loop
 shared-slice-read-b c = omega arith
 
--- src/fields.rt:111:29
 zeros-requires-2 : tie.Need-zeros-requires-2 Inv-loop μ-loop
 zeros-requires-2 c κs = omega arith
 
--- src/fields.rt:111:13
 returns-2 : tie.Need-returns-2 Inv-loop μ-loop
 returns-2 c = ap (λ (t : Bool). c .before .before .before .before .loop .letter && t) (c .zeros2 .ensures) ∙ sym (c .before .before .before .before .loop .inv ∙ tag-zero (c .before .before .before .before .before .before .before .before .args .s .now) (c .before .before .before .before .loop .i) (c .before .before .before .before .before .before .before .before .args .at + 8) (c .before .before .before .before .loop .letter) (c .before .before .before .before .loop .hyphen) (omega arith) (omega arith) (c .before .if2 .taken))
 
--- src/fields.rt:114:47
 add-zeros-2 : tie.Need-add-zeros-2 Inv-loop μ-loop
 add-zeros-2 c = omega arith
 
--- src/fields.rt:114:38
 zeros-requires-3 : tie.Need-zeros-requires-3 Inv-loop μ-loop
 zeros-requires-3 c κs = omega arith
 
--- src/fields.rt:114:13
 returns-3 : tie.Need-returns-3 Inv-loop μ-loop
 returns-3 c = ap (λ (t : Bool). (c .before .before .before .before .before .loop .letter && c .before .before .before .before .before .loop .hyphen) && t) (c .zeros3 .ensures) ∙ sym (c .before .before .before .before .before .loop .inv ∙ tag-end (c .before .before .before .before .before .before .before .before .before .args .s .now) (c .before .before .before .before .before .loop .i) (c .before .before .before .before .before .before .before .before .before .args .at + 8) (c .before .before .before .before .before .loop .letter) (c .before .before .before .before .before .loop .hyphen) (omega arith) (omega arith) (c .before .if3 .taken))
 
--- src/fields.rt:116:13
 tag-byte-requires : tie.Need-tag-byte-requires Inv-loop μ-loop
 tag-byte-requires c κs = search needs
 
--- src/fields.rt:117:13
 returns-4 : tie.Need-returns-4 Inv-loop μ-loop
 returns-4 c = sym (c .before .before .before .before .before .before .loop .inv ∙ tag-bad (c .before .before .before .before .before .before .before .before .before .before .args .s .now) (c .before .before .before .before .before .before .loop .i) (c .before .before .before .before .before .before .before .before .before .before .args .at + 8) (c .before .before .before .before .before .before .loop .letter) (c .before .before .before .before .before .before .loop .hyphen) (omega arith) (omega arith) (c .before .before .before .if2 .left) (c .before .before .if3 .left) (sym (c .before .tag-byte .ensures) ∙ not-true (c .before .tag-byte .result) (c .if4 .taken)))
 
--- src/fields.rt:121:9
 add-i : tie.Need-add-i Inv-loop μ-loop
 add-i c = omega arith
 
--- src/fields.rt:108:5
 loop-less : tie.Need-loop-less Inv-loop μ-loop
 loop-less c = omega arith
 
--- src/fields.rt:108:5
 loop-again : tie.Need-loop-again Inv-loop μ-loop
 loop-again c = c .before .before .before .before .before .before .loop .inv ∙ tag-turn (c .before .before .before .before .before .before .before .before .before .before .args .s .now) (c .before .before .before .before .before .before .loop .i) (c .before .before .before .before .before .before .before .before .before .before .args .at + 8) (c .before .before .before .before .before .before .loop .letter) (c .before .before .before .before .before .before .loop .hyphen) (omega arith) (omega arith) (c .before .before .before .if2 .left) (c .before .before .if3 .left) (sym (c .before .tag-byte .ensures) ∙ not-false (c .before .tag-byte .result) (c .if4 .left))
 
--- src/fields.rt:97:1
 returns-5 : tie.Need-returns-5 Inv-loop μ-loop
 returns-5 c = sym (c .before .loop .inv ∙ tag-done (c .before .before .before .before .before .args .s .now) (c .before .loop .i) (c .before .before .before .before .before .args .at + 8) (c .before .loop .letter) (c .before .loop .hyphen) (omega arith))
 

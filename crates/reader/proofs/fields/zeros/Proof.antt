@@ -1,3 +1,4 @@
+-- `reader::fields::zeros` meets its contract.
 use native.Mathlib.Omega.{arith}
 use Prim.Native.Nat.{_-_}
 use mathlib.Core.Path.{_≡_, refl, sym, ap, _∙_}
@@ -5,8 +6,6 @@ use Rattle.definitions.specs.Bytes.{part, allZero}
 use Rattle.reader.proofs.FieldLaws.{part-done, zeros-turn, zeros-stop}
 use Rattle.reader.proofs.fields.zeros.Statement.{statement}
 use Rattle.reader.proofs.fields.zeros.Tie as tie
-use Rattle.reader.proofs.fields.zeros.Reads as reads
-use Rattle.reader.proofs.fields.zeros.Lts as lts
 
 abbrev Inv-loop : tie.InvT-loop
 Inv-loop s from end i₀ i = allZero (part s from (end - from)) ≡ allZero (part s i (end - i))
@@ -14,31 +13,24 @@ Inv-loop s from end i₀ i = allZero (part s from (end - from)) ≡ allZero (par
 abbrev μ-loop : tie.MeasureT-loop
 μ-loop s from end i₀ i = end - i
 
--- src/fields.rt:16:5
 loop-holds : tie.Need-loop-holds Inv-loop μ-loop
 loop-holds c = refl
 
--- src/fields.rt:17:12
 shared-slice-read-if1 : tie.Need-shared-slice-read-if1 Inv-loop μ-loop
 shared-slice-read-if1 c = omega arith
 
--- src/fields.rt:18:13
 returns : tie.Need-returns Inv-loop μ-loop
 returns c = sym (c .before .before .before .loop .inv ∙ zeros-stop (c .before .before .before .before .args .s .now) (c .before .before .before .loop .i) (c .before .before .before .before .args .end) (omega arith) (omega arith) (c .if1 .taken))
 
--- src/fields.rt:20:9
 add-i : tie.Need-add-i Inv-loop μ-loop
 add-i c = omega arith
 
--- src/fields.rt:16:5
 loop-less : tie.Need-loop-less Inv-loop μ-loop
 loop-less c = omega arith
 
--- src/fields.rt:16:5
 loop-again : tie.Need-loop-again Inv-loop μ-loop
 loop-again c = c .before .before .before .loop .inv ∙ zeros-turn (c .before .before .before .before .args .s .now) (c .before .before .before .loop .i) (c .before .before .before .before .args .end) (omega arith) (omega arith) (c .if1 .left)
 
--- src/fields.rt:11:1
 returns-2 : tie.Need-returns-2 Inv-loop μ-loop
 returns-2 c = sym (c .before .loop .inv ∙ ap allZero (part-done (c .before .before .args .s .now) (c .before .loop .i) (c .before .before .args .end) (omega arith)))
 

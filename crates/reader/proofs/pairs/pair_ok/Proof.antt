@@ -1,3 +1,4 @@
+-- `reader::pairs::pair_ok` meets its contract.
 use mathlib.Core.Bool.{Bool, _&&_}
 use mathlib.Core.Path.{ap}
 use lib.Dec.{ltb}
@@ -5,20 +6,14 @@ use Rattle.reader.specs.Pairs.{pairOk}
 use borrow.Author.Needs.{needs}
 use Rattle.reader.proofs.pairs.pair_ok.Statement.{statement}
 use Rattle.reader.proofs.pairs.pair_ok.Tie as tie
-use Rattle.reader.proofs.pairs.pair_ok.Reads as reads
-use Rattle.reader.proofs.pairs.pair_ok.Lts as lts
-use Rattle.reader.proofs.pairs.written_ok.Reads as written-ok-reads
 
--- src/pairs.rt:25:34
 written-ok-requires : tie.Need-written-ok-requires
 written-ok-requires c κs = search needs
 
--- src/pairs.rt:25:9
 returns : tie.Need-returns
 unfolding pairOk
 returns c = rw (c .before .if1 .taken) (ap (λ (t : Bool). ltb (c .before .before .args .variable) 16 && t) (c .written-ok .ensures))
 
--- src/pairs.rt:21:1
 returns-2 : tie.Need-returns-2
 unfolding pairOk
 returns-2 c = rw (c .if1 .left)

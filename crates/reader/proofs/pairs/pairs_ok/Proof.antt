@@ -1,16 +1,14 @@
+-- `reader::pairs::pairs_ok` meets its contract.
 use native.Mathlib.Omega.{arith}
 use Prim.Native.Nat.{_-_, _+_, _*_, _≤_}
 use borrow.Author.Needs.{needs}
 use borrow.Author.Tests.{not-true, not-false}
-use mathlib.Core.Path.{_≡_, refl, sym, _∙_}
+use mathlib.Core.Path.{_≡_, sym, _∙_}
 use Rattle.definitions.specs.Reading.{bindersAt}
 use Rattle.reader.specs.Fields.{isSome}
 use Rattle.reader.proofs.PairLaws.{pairsFrom, pair-bad, pair-turn, pairs-done, pairs-many}
 use Rattle.reader.proofs.pairs.pairs_ok.Statement.{statement}
 use Rattle.reader.proofs.pairs.pairs_ok.Tie as tie
-use Rattle.reader.proofs.pairs.pairs_ok.Reads as reads
-use Rattle.reader.proofs.pairs.pairs_ok.Lts as lts
-use Rattle.reader.proofs.pairs.pair_ok.Reads as pair-ok-reads
 
 abbrev Inv-loop : tie.InvT-loop
 Inv-loop s at count k₀ next₀ k next = (isSome (bindersAt 4 count s at) ≡ pairsFrom s count k next) × (next ≡ at + 2 * k) × (k ≤ 4)
@@ -18,51 +16,39 @@ Inv-loop s at count k₀ next₀ k next = (isSome (bindersAt 4 count s at) ≡ p
 abbrev μ-loop : tie.MeasureT-loop
 μ-loop s at count k₀ next₀ k next = 4 - k
 
--- src/pairs.rt:36:9
 returns : tie.Need-returns Inv-loop μ-loop
 returns c = sym (pairs-many (c .before .before .args .s .now) (c .before .before .args .count) (c .before .before .args .at) (c .if1 .taken))
 
--- src/pairs.rt:40:5
 loop-holds : tie.Need-loop-holds Inv-loop μ-loop
 loop-holds c = (let e : c .before .before .args .count - 0 ≡ c .before .before .args .count = omega arith in rw e, omega arith, omega arith)
 
--- src/pairs.rt:41:32
 shared-slice-read-pair-ok : tie.Need-shared-slice-read-pair-ok Inv-loop μ-loop
 shared-slice-read-pair-ok c = omega arith
 
--- src/pairs.rt:41:43
 add-pair-ok : tie.Need-add-pair-ok Inv-loop μ-loop
 add-pair-ok c = omega arith
 
--- src/pairs.rt:41:41
 shared-slice-read-pair-ok-2 : tie.Need-shared-slice-read-pair-ok-2 Inv-loop μ-loop
 shared-slice-read-pair-ok-2 c = omega arith
 
--- src/pairs.rt:41:13
 pair-ok-requires : tie.Need-pair-ok-requires Inv-loop μ-loop
 pair-ok-requires c κs = search needs
 
--- src/pairs.rt:42:13
 returns-2 : tie.Need-returns-2 Inv-loop μ-loop
 returns-2 c = sym (c .before .before .before .before .before .loop .inv .0 ∙ pair-bad (c .before .before .before .before .before .before .before .before .args .s .now) (c .before .before .before .before .before .before .before .before .args .count) (c .before .before .before .before .before .loop .k) (c .before .before .before .before .before .loop .next) (omega arith) (sym (c .before .pair-ok .ensures) ∙ not-true (c .before .pair-ok .result) (c .if2 .taken)))
 
--- src/pairs.rt:44:9
 add-next : tie.Need-add-next Inv-loop μ-loop
 add-next c = omega arith
 
--- src/pairs.rt:45:9
 add-k : tie.Need-add-k Inv-loop μ-loop
 add-k c = omega arith
 
--- src/pairs.rt:40:5
 loop-less : tie.Need-loop-less Inv-loop μ-loop
 loop-less c = omega arith
 
--- src/pairs.rt:40:5
 loop-again : tie.Need-loop-again Inv-loop μ-loop
 loop-again c = (c .before .before .before .before .before .loop .inv .0 ∙ pair-turn (c .before .before .before .before .before .before .before .before .args .s .now) (c .before .before .before .before .before .before .before .before .args .count) (c .before .before .before .before .before .loop .k) (c .before .before .before .before .before .loop .next) (omega arith) (sym (c .before .pair-ok .ensures) ∙ not-false (c .before .pair-ok .result) (c .if2 .left)), omega arith, omega arith)
 
--- src/pairs.rt:31:1
 returns-3 : tie.Need-returns-3 Inv-loop μ-loop
 returns-3 c = sym (c .before .loop .inv .0 ∙ pairs-done (c .before .before .before .before .args .s .now) (c .before .before .before .before .args .count) (c .before .loop .k) (c .before .loop .next) (omega arith) (omega arith))
 

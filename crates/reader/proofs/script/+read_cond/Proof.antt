@@ -1,3 +1,4 @@
+-- `reader::script::read_cond` meets its contract.
 use borrow.Author.Needs.{needs}
 use borrow.Author.Tests.{not-true, not-false}
 use native.Mathlib.Omega.{arith}
@@ -27,7 +28,6 @@ abbrev read-cond-below : ℕ → In 1 read-cond-kinds.ps
 read-cond-below t =
     and 1 read-cond-kinds.ps (falls 1 read-cond-kinds.ps _<_ μ-read-cond t) read-cond.Pre
 
--- src/script.rt:90:9
 read-cond-returns : (t : ℕ) → read-cond-lts.Need-returns (
   read-cond-below t,
   read-cond.Post,
@@ -40,7 +40,6 @@ read-cond-returns : (t : ℕ) → read-cond-lts.Need-returns (
 ) (read-cond-at t) read-cond.Post
 read-cond-returns t c = none-ends (rw (c .if1 .taken) (cond-none _ _ _))
 
--- src/script.rt:93:9
 read-cond-returns-2 : (t : ℕ) → read-cond-lts.Need-returns-2 (
   read-cond-below t,
   read-cond.Post,
@@ -53,7 +52,6 @@ read-cond-returns-2 : (t : ℕ) → read-cond-lts.Need-returns-2 (
 ) (read-cond-at t) read-cond.Post
 read-cond-returns-2 t c = none-ends (cond-out _ _ _ _ (omega arith) (c .if2 .taken))
 
--- src/script.rt:95:16
 read-cond-shared-slice-read-kind : (t : ℕ) → read-cond-lts.Need-shared-slice-read-kind (
   read-cond-below t,
   read-cond.Post,
@@ -66,7 +64,6 @@ read-cond-shared-slice-read-kind : (t : ℕ) → read-cond-lts.Need-shared-slice
 ) (read-cond-at t) read-cond.Post
 read-cond-shared-slice-read-kind t c = search needs
 
--- src/script.rt:104:42
 read-cond-add-read-cond : (t : ℕ) → read-cond-lts.Need-add-read-cond (
   read-cond-below t,
   read-cond.Post,
@@ -79,7 +76,6 @@ read-cond-add-read-cond : (t : ℕ) → read-cond-lts.Need-add-read-cond (
 ) (read-cond-at t) read-cond.Post
 read-cond-add-read-cond t c = search needs
 
--- src/script.rt:104:50
 read-cond-sub-read-cond : (t : ℕ) → read-cond-lts.Need-sub-read-cond (
   read-cond-below t,
   read-cond.Post,
@@ -92,7 +88,6 @@ read-cond-sub-read-cond : (t : ℕ) → read-cond-lts.Need-sub-read-cond (
 ) (read-cond-at t) read-cond.Post
 read-cond-sub-read-cond t c = search needs
 
--- src/script.rt:104:17
 read-cond-read-cond-requires : (t : ℕ) → read-cond-lts.Need-read-cond-requires (
   read-cond-below t,
   read-cond.Post,
@@ -105,7 +100,6 @@ read-cond-read-cond-requires : (t : ℕ) → read-cond-lts.Need-read-cond-requir
 ) (read-cond-at t) read-cond.Post
 read-cond-read-cond-requires t c κs = omega arith
 
--- src/script.rt:106:16
 read-cond-sub-if3 : (t : ℕ) → read-cond-lts.Need-sub-if3 (
   read-cond-below t,
   read-cond.Post,
@@ -118,7 +112,6 @@ read-cond-sub-if3 : (t : ℕ) → read-cond-lts.Need-sub-if3 (
 ) (read-cond-at t) read-cond.Post
 read-cond-sub-if3 t c = search needs
 
--- src/script.rt:107:17
 read-cond-returns-3 : (t : ℕ) → read-cond-lts.Need-returns-3 (
   read-cond-below t,
   read-cond.Post,
@@ -131,7 +124,6 @@ read-cond-returns-3 : (t : ℕ) → read-cond-lts.Need-returns-3 (
 ) (read-cond-at t) read-cond.Post
 read-cond-returns-3 t c = body-short _ _ _ _ _ _ (cond-is _ _ _ _ (omega arith) 0x55 (c .before .match .keys2)) (omega arith)
 
--- src/script.rt:109:36
 read-cond-add-pattern-ok : (t : ℕ) → read-cond-lts.Need-add-pattern-ok (
   read-cond-below t,
   read-cond.Post,
@@ -144,7 +136,6 @@ read-cond-add-pattern-ok : (t : ℕ) → read-cond-lts.Need-add-pattern-ok (
 ) (read-cond-at t) read-cond.Post
 read-cond-add-pattern-ok t c = search needs
 
--- src/script.rt:109:17
 read-cond-pattern-ok-requires : (t : ℕ) → read-cond-lts.Need-pattern-ok-requires (
   read-cond-below t,
   read-cond.Post,
@@ -157,7 +148,6 @@ read-cond-pattern-ok-requires : (t : ℕ) → read-cond-lts.Need-pattern-ok-requ
 ) (read-cond-at t) read-cond.Post
 read-cond-pattern-ok-requires t c κs = omega arith
 
--- src/script.rt:110:17
 read-cond-returns-4 : (t : ℕ) → read-cond-lts.Need-returns-4 (
   read-cond-below t,
   read-cond.Post,
@@ -170,7 +160,6 @@ read-cond-returns-4 : (t : ℕ) → read-cond-lts.Need-returns-4 (
 ) (read-cond-at t) read-cond.Post
 read-cond-returns-4 t c = body-fails _ _ _ _ _ _ (cond-is _ _ _ _ (omega arith) 0x55 (c .before .before .before .match .keys2)) (omega arith) (c .before .pattern-ok .ensures) (not-true (c .before .pattern-ok .result) (c .if4 .taken))
 
--- src/script.rt:112:38
 read-cond-add-read-expr : (t : ℕ) → read-cond-lts.Need-add-read-expr (
   read-cond-below t,
   read-cond.Post,
@@ -183,7 +172,6 @@ read-cond-add-read-expr : (t : ℕ) → read-cond-lts.Need-add-read-expr (
 ) (read-cond-at t) read-cond.Post
 read-cond-add-read-expr t c = search needs
 
--- src/script.rt:112:47
 read-cond-sub-read-expr : (t : ℕ) → read-cond-lts.Need-sub-read-expr (
   read-cond-below t,
   read-cond.Post,
@@ -196,7 +184,6 @@ read-cond-sub-read-expr : (t : ℕ) → read-cond-lts.Need-sub-read-expr (
 ) (read-cond-at t) read-cond.Post
 read-cond-sub-read-expr t c = search needs
 
--- src/script.rt:112:13
 read-cond-read-expr-requires : (t : ℕ) → read-cond-lts.Need-read-expr-requires (
   read-cond-below t,
   read-cond.Post,
@@ -209,7 +196,6 @@ read-cond-read-expr-requires : (t : ℕ) → read-cond-lts.Need-read-expr-requir
 ) (read-cond-at t) read-cond.Post
 read-cond-read-expr-requires t c κs = search needs
 
--- src/script.rt:115:16
 read-cond-sub-if5 : (t : ℕ) → read-cond-lts.Need-sub-if5 (
   read-cond-below t,
   read-cond.Post,
@@ -222,7 +208,6 @@ read-cond-sub-if5 : (t : ℕ) → read-cond-lts.Need-sub-if5 (
 ) (read-cond-at t) read-cond.Post
 read-cond-sub-if5 t c = search needs
 
--- src/script.rt:116:17
 read-cond-returns-5 : (t : ℕ) → read-cond-lts.Need-returns-5 (
   read-cond-below t,
   read-cond.Post,
@@ -235,7 +220,6 @@ read-cond-returns-5 : (t : ℕ) → read-cond-lts.Need-returns-5 (
 ) (read-cond-at t) read-cond.Post
 read-cond-returns-5 t c = body-short _ _ _ _ _ _ (cond-is _ _ _ _ (omega arith) 0x56 (c .before .match .keys3)) (omega arith)
 
--- src/script.rt:118:34
 read-cond-add-range-ok : (t : ℕ) → read-cond-lts.Need-add-range-ok (
   read-cond-below t,
   read-cond.Post,
@@ -248,7 +232,6 @@ read-cond-add-range-ok : (t : ℕ) → read-cond-lts.Need-add-range-ok (
 ) (read-cond-at t) read-cond.Post
 read-cond-add-range-ok t c = search needs
 
--- src/script.rt:118:17
 read-cond-range-ok-requires : (t : ℕ) → read-cond-lts.Need-range-ok-requires (
   read-cond-below t,
   read-cond.Post,
@@ -261,7 +244,6 @@ read-cond-range-ok-requires : (t : ℕ) → read-cond-lts.Need-range-ok-requires
 ) (read-cond-at t) read-cond.Post
 read-cond-range-ok-requires t c κs = omega arith
 
--- src/script.rt:119:17
 read-cond-returns-6 : (t : ℕ) → read-cond-lts.Need-returns-6 (
   read-cond-below t,
   read-cond.Post,
@@ -274,7 +256,6 @@ read-cond-returns-6 : (t : ℕ) → read-cond-lts.Need-returns-6 (
 ) (read-cond-at t) read-cond.Post
 read-cond-returns-6 t c = body-fails _ _ _ _ _ _ (cond-is _ _ _ _ (omega arith) 0x56 (c .before .before .before .match .keys3)) (omega arith) (c .before .range-ok .ensures) (not-true (c .before .range-ok .result) (c .if6 .taken))
 
--- src/script.rt:121:38
 read-cond-add-read-expr-2 : (t : ℕ) → read-cond-lts.Need-add-read-expr-2 (
   read-cond-below t,
   read-cond.Post,
@@ -287,7 +268,6 @@ read-cond-add-read-expr-2 : (t : ℕ) → read-cond-lts.Need-add-read-expr-2 (
 ) (read-cond-at t) read-cond.Post
 read-cond-add-read-expr-2 t c = search needs
 
--- src/script.rt:121:46
 read-cond-sub-read-expr-2 : (t : ℕ) → read-cond-lts.Need-sub-read-expr-2 (
   read-cond-below t,
   read-cond.Post,
@@ -300,7 +280,6 @@ read-cond-sub-read-expr-2 : (t : ℕ) → read-cond-lts.Need-sub-read-expr-2 (
 ) (read-cond-at t) read-cond.Post
 read-cond-sub-read-expr-2 t c = search needs
 
--- src/script.rt:121:13
 read-cond-read-expr-requires-2 : (t : ℕ) → read-cond-lts.Need-read-expr-requires-2 (
   read-cond-below t,
   read-cond.Post,
@@ -313,7 +292,6 @@ read-cond-read-expr-requires-2 : (t : ℕ) → read-cond-lts.Need-read-expr-requ
 ) (read-cond-at t) read-cond.Post
 read-cond-read-expr-requires-2 t c κs = search needs
 
--- src/script.rt:97:35
 read-cond-add-t26 : (t : ℕ) → read-cond-lts.Need-add-t26 (
   read-cond-below t,
   read-cond.Post,
@@ -326,7 +304,6 @@ read-cond-add-t26 : (t : ℕ) → read-cond-lts.Need-add-t26 (
 ) (read-cond-at t) read-cond.Post
 read-cond-add-t26 t c = search needs
 
--- src/script.rt:99:63
 read-cond-add-read-cond-2 : (t : ℕ) → read-cond-lts.Need-add-read-cond-2 (
   read-cond-below t,
   read-cond.Post,
@@ -339,7 +316,6 @@ read-cond-add-read-cond-2 : (t : ℕ) → read-cond-lts.Need-add-read-cond-2 (
 ) (read-cond-at t) read-cond.Post
 read-cond-add-read-cond-2 t c = search needs
 
--- src/script.rt:99:71
 read-cond-sub-read-cond-2 : (t : ℕ) → read-cond-lts.Need-sub-read-cond-2 (
   read-cond-below t,
   read-cond.Post,
@@ -352,7 +328,6 @@ read-cond-sub-read-cond-2 : (t : ℕ) → read-cond-lts.Need-sub-read-cond-2 (
 ) (read-cond-at t) read-cond.Post
 read-cond-sub-read-cond-2 t c = search needs
 
--- src/script.rt:99:38
 read-cond-read-cond-requires-2 : (t : ℕ) → read-cond-lts.Need-read-cond-requires-2 (
   read-cond-below t,
   read-cond.Post,
@@ -365,7 +340,6 @@ read-cond-read-cond-requires-2 : (t : ℕ) → read-cond-lts.Need-read-cond-requ
 ) (read-cond-at t) read-cond.Post
 read-cond-read-cond-requires-2 t c κs = omega arith
 
--- src/script.rt:99:28
 read-cond-enum-known-second : (t : ℕ) → read-cond-lts.Need-enum-known-second (
   read-cond-below t,
   read-cond.Post,
@@ -378,7 +352,6 @@ read-cond-enum-known-second : (t : ℕ) → read-cond-lts.Need-enum-known-second
 ) (read-cond-at t) read-cond.Post
 read-cond-enum-known-second t c = search needs
 
--- src/script.rt:100:17
 read-cond-enum-told : (t : ℕ) → read-cond-lts.Need-enum-told (
   read-cond-below t,
   read-cond.Post,
@@ -391,7 +364,6 @@ read-cond-enum-told : (t : ℕ) → read-cond-lts.Need-enum-told (
 ) (read-cond-at t) read-cond.Post
 read-cond-enum-told t c = search needs
 
--- src/script.rt:100:17
 read-cond-returns-7 : (t : ℕ) → read-cond-lts.Need-returns-7 (
   read-cond-below t,
   read-cond.Post,
@@ -404,7 +376,6 @@ read-cond-returns-7 : (t : ℕ) → read-cond-lts.Need-returns-7 (
 ) (read-cond-at t) read-cond.Post
 read-cond-returns-7 t c = ⊎-elim (λ k. two-fails _ _ _ _ (cond-is _ _ _ _ (omega arith) 0x52 k) (c .before .before .read-cond2 .ensures) (c .enum-told .given .1)) (λ k. two-fails _ _ _ _ (cond-is _ _ _ _ (omega arith) 0x53 k) (c .before .before .read-cond2 .ensures) (c .enum-told .given .1)) (either 0x52 (omega arith) (omega arith))
 
--- src/script.rt:102:46
 read-cond-sub-read-cond-3 : (t : ℕ) → read-cond-lts.Need-sub-read-cond-3 (
   read-cond-below t,
   read-cond.Post,
@@ -417,7 +388,6 @@ read-cond-sub-read-cond-3 : (t : ℕ) → read-cond-lts.Need-sub-read-cond-3 (
 ) (read-cond-at t) read-cond.Post
 read-cond-sub-read-cond-3 t c = search needs
 
--- src/script.rt:102:13
 read-cond-read-cond-requires-3 : (t : ℕ) → read-cond-lts.Need-read-cond-requires-3 (
   read-cond-below t,
   read-cond.Post,
@@ -430,7 +400,6 @@ read-cond-read-cond-requires-3 : (t : ℕ) → read-cond-lts.Need-read-cond-requ
 ) (read-cond-at t) read-cond.Post
 read-cond-read-cond-requires-3 t c κs = omega arith
 
--- src/script.rt:124:63
 read-cond-add-read-expr-3 : (t : ℕ) → read-cond-lts.Need-add-read-expr-3 (
   read-cond-below t,
   read-cond.Post,
@@ -443,7 +412,6 @@ read-cond-add-read-expr-3 : (t : ℕ) → read-cond-lts.Need-add-read-expr-3 (
 ) (read-cond-at t) read-cond.Post
 read-cond-add-read-expr-3 t c = search needs
 
--- src/script.rt:124:71
 read-cond-sub-read-expr-3 : (t : ℕ) → read-cond-lts.Need-sub-read-expr-3 (
   read-cond-below t,
   read-cond.Post,
@@ -456,7 +424,6 @@ read-cond-sub-read-expr-3 : (t : ℕ) → read-cond-lts.Need-sub-read-expr-3 (
 ) (read-cond-at t) read-cond.Post
 read-cond-sub-read-expr-3 t c = search needs
 
--- src/script.rt:124:38
 read-cond-read-expr-requires-3 : (t : ℕ) → read-cond-lts.Need-read-expr-requires-3 (
   read-cond-below t,
   read-cond.Post,
@@ -469,7 +436,6 @@ read-cond-read-expr-requires-3 : (t : ℕ) → read-cond-lts.Need-read-expr-requ
 ) (read-cond-at t) read-cond.Post
 read-cond-read-expr-requires-3 t c κs = search needs
 
--- src/script.rt:124:28
 read-cond-enum-known-second-2 : (t : ℕ) → read-cond-lts.Need-enum-known-second-2 (
   read-cond-below t,
   read-cond.Post,
@@ -482,7 +448,6 @@ read-cond-enum-known-second-2 : (t : ℕ) → read-cond-lts.Need-enum-known-seco
 ) (read-cond-at t) read-cond.Post
 read-cond-enum-known-second-2 t c = search needs
 
--- src/script.rt:125:17
 read-cond-enum-told-2 : (t : ℕ) → read-cond-lts.Need-enum-told-2 (
   read-cond-below t,
   read-cond.Post,
@@ -495,7 +460,6 @@ read-cond-enum-told-2 : (t : ℕ) → read-cond-lts.Need-enum-told-2 (
 ) (read-cond-at t) read-cond.Post
 read-cond-enum-told-2 t c = search needs
 
--- src/script.rt:125:17
 read-cond-returns-8 : (t : ℕ) → read-cond-lts.Need-returns-8 (
   read-cond-below t,
   read-cond.Post,
@@ -508,7 +472,6 @@ read-cond-returns-8 : (t : ℕ) → read-cond-lts.Need-returns-8 (
 ) (read-cond-at t) read-cond.Post
 read-cond-returns-8 t c = ⊎-elim (λ k. two-fails _ _ _ _ (cond-is _ _ _ _ (omega arith) 0x57 k) (c .before .before .read-expr3 .ensures) (c .enum-told2 .given .1)) (λ k. two-fails _ _ _ _ (cond-is _ _ _ _ (omega arith) 0x58 k) (c .before .before .read-expr3 .ensures) (c .enum-told2 .given .1)) (either 0x57 (omega arith) (omega arith))
 
--- src/script.rt:127:46
 read-cond-sub-read-expr-4 : (t : ℕ) → read-cond-lts.Need-sub-read-expr-4 (
   read-cond-below t,
   read-cond.Post,
@@ -521,7 +484,6 @@ read-cond-sub-read-expr-4 : (t : ℕ) → read-cond-lts.Need-sub-read-expr-4 (
 ) (read-cond-at t) read-cond.Post
 read-cond-sub-read-expr-4 t c = search needs
 
--- src/script.rt:127:13
 read-cond-read-expr-requires-4 : (t : ℕ) → read-cond-lts.Need-read-expr-requires-4 (
   read-cond-below t,
   read-cond.Post,
@@ -534,7 +496,6 @@ read-cond-read-expr-requires-4 : (t : ℕ) → read-cond-lts.Need-read-expr-requ
 ) (read-cond-at t) read-cond.Post
 read-cond-read-expr-requires-4 t c κs = search needs
 
--- src/script.rt:86:1
 read-cond-returns-9 : (t : ℕ) → read-cond-lts.Need-returns-9 (
   read-cond-below t,
   read-cond.Post,
@@ -547,7 +508,6 @@ read-cond-returns-9 : (t : ℕ) → read-cond-lts.Need-returns-9 (
 ) (read-cond-at t) read-cond.Post
 read-cond-returns-9 t c = one-ends _ _ (cond-is _ _ _ _ (omega arith) 0x54 (c .before .match .keys1)) (c .read-cond .ensures)
 
--- src/script.rt:86:1
 read-cond-returns-10 : (t : ℕ) → read-cond-lts.Need-returns-10 (
   read-cond-below t,
   read-cond.Post,
@@ -560,7 +520,6 @@ read-cond-returns-10 : (t : ℕ) → read-cond-lts.Need-returns-10 (
 ) (read-cond-at t) read-cond.Post
 read-cond-returns-10 t c = body-ends _ _ _ _ _ _ (cond-is _ _ _ _ (omega arith) 0x55 (c .before .before .before .before .match .keys2)) (omega arith) (c .before .before .pattern-ok .ensures) (not-false (c .before .before .pattern-ok .result) (c .before .if4 .left)) (c .read-expr .ensures)
 
--- src/script.rt:86:1
 read-cond-returns-11 : (t : ℕ) → read-cond-lts.Need-returns-11 (
   read-cond-below t,
   read-cond.Post,
@@ -573,7 +532,6 @@ read-cond-returns-11 : (t : ℕ) → read-cond-lts.Need-returns-11 (
 ) (read-cond-at t) read-cond.Post
 read-cond-returns-11 t c = body-ends _ _ _ _ _ _ (cond-is _ _ _ _ (omega arith) 0x56 (c .before .before .before .before .match .keys3)) (omega arith) (c .before .before .range-ok .ensures) (not-false (c .before .before .range-ok .result) (c .before .if6 .left)) (c .read-expr2 .ensures)
 
--- src/script.rt:86:1
 read-cond-returns-12 : (t : ℕ) → read-cond-lts.Need-returns-12 (
   read-cond-below t,
   read-cond.Post,
@@ -586,7 +544,6 @@ read-cond-returns-12 : (t : ℕ) → read-cond-lts.Need-returns-12 (
 ) (read-cond-at t) read-cond.Post
 read-cond-returns-12 t c = ⊎-elim (λ k. leaf-ends (cond-is _ _ _ _ (omega arith) 0x50 k)) (λ k. leaf-ends (cond-is _ _ _ _ (omega arith) 0x51 k)) (either 0x50 (omega arith) (omega arith))
 
--- src/script.rt:86:1
 read-cond-returns-13 : (t : ℕ) → read-cond-lts.Need-returns-13 (
   read-cond-below t,
   read-cond.Post,
@@ -599,7 +556,6 @@ read-cond-returns-13 : (t : ℕ) → read-cond-lts.Need-returns-13 (
 ) (read-cond-at t) read-cond.Post
 read-cond-returns-13 t c = ⊎-elim (λ k. two-ends _ _ _ _ (cond-is _ _ _ _ (omega arith) 0x52 k) (c .before .before .before .before .read-cond2 .ensures) (c .before .before .second .given .1) (c .read-cond3 .ensures)) (λ k. two-ends _ _ _ _ (cond-is _ _ _ _ (omega arith) 0x53 k) (c .before .before .before .before .read-cond2 .ensures) (c .before .before .second .given .1) (c .read-cond3 .ensures)) (either 0x52 (omega arith) (omega arith))
 
--- src/script.rt:86:1
 read-cond-returns-14 : (t : ℕ) → read-cond-lts.Need-returns-14 (
   read-cond-below t,
   read-cond.Post,
@@ -612,7 +568,6 @@ read-cond-returns-14 : (t : ℕ) → read-cond-lts.Need-returns-14 (
 ) (read-cond-at t) read-cond.Post
 read-cond-returns-14 t c = ⊎-elim (λ k. two-ends _ _ _ _ (cond-is _ _ _ _ (omega arith) 0x57 k) (c .before .before .before .before .read-expr3 .ensures) (c .before .before .second2 .given .1) (c .read-expr4 .ensures)) (λ k. two-ends _ _ _ _ (cond-is _ _ _ _ (omega arith) 0x58 k) (c .before .before .before .before .read-expr3 .ensures) (c .before .before .second2 .given .1) (c .read-expr4 .ensures)) (either 0x57 (omega arith) (omega arith))
 
--- src/script.rt:86:1
 read-cond-returns-15 : (t : ℕ) → read-cond-lts.Need-returns-15 (
   read-cond-below t,
   read-cond.Post,
@@ -625,7 +580,6 @@ read-cond-returns-15 : (t : ℕ) → read-cond-lts.Need-returns-15 (
 ) (read-cond-at t) read-cond.Post
 read-cond-returns-15 t c = none-ends (cond-gap _ _ _ _ (omega arith) 0 0x50 (omega arith) (omega arith) tt)
 
--- src/script.rt:86:1
 read-cond-returns-16 : (t : ℕ) → read-cond-lts.Need-returns-16 (
   read-cond-below t,
   read-cond.Post,

@@ -1,7 +1,7 @@
+-- `reader::script::read_expr` meets its contract.
 use borrow.Author.Needs.{needs}
 use native.Mathlib.Omega.{arith}
 use mathlib.Core.Logic.{⊎-elim}
-use mathlib.Core.Path.{_∙_}
 use Rattle.laws.proofs.Ranges.{either}
 use Rattle.laws.proofs.Reading.{expr-none, expr-is, expr-out, expr-gap, expr-above}
 use Rattle.reader.proofs.Ends.{none-ends, leaf-ends, one-ends, two-ends, two-fails}
@@ -25,7 +25,6 @@ abbrev read-expr-below : ℕ → In 1 read-expr-kinds.ps
 read-expr-below t =
     and 1 read-expr-kinds.ps (falls 1 read-expr-kinds.ps _<_ μ-read-expr t) read-expr.Pre
 
--- src/script.rt:65:9
 read-expr-returns : (t : ℕ) → read-expr-lts.Need-returns (
   read-name-reads.Asked,
   read-name-reads.Learnt,
@@ -34,7 +33,6 @@ read-expr-returns : (t : ℕ) → read-expr-lts.Need-returns (
 ) (read-expr-at t) read-expr.Post
 read-expr-returns t c = none-ends (rw (c .if1 .taken) (expr-none _ _ _))
 
--- src/script.rt:68:9
 read-expr-returns-2 : (t : ℕ) → read-expr-lts.Need-returns-2 (
   read-name-reads.Asked,
   read-name-reads.Learnt,
@@ -43,7 +41,6 @@ read-expr-returns-2 : (t : ℕ) → read-expr-lts.Need-returns-2 (
 ) (read-expr-at t) read-expr.Post
 read-expr-returns-2 t c = none-ends (expr-out _ _ _ _ (omega arith) (c .if2 .taken))
 
--- src/script.rt:70:16
 read-expr-shared-slice-read-kind : (t : ℕ) → read-expr-lts.Need-shared-slice-read-kind (
   read-name-reads.Asked,
   read-name-reads.Learnt,
@@ -52,7 +49,6 @@ read-expr-shared-slice-read-kind : (t : ℕ) → read-expr-lts.Need-shared-slice
 ) (read-expr-at t) read-expr.Post
 read-expr-shared-slice-read-kind t c = search needs
 
--- src/script.rt:73:28
 read-expr-add-t12 : (t : ℕ) → read-expr-lts.Need-add-t12 (
   read-name-reads.Asked,
   read-name-reads.Learnt,
@@ -61,7 +57,6 @@ read-expr-add-t12 : (t : ℕ) → read-expr-lts.Need-add-t12 (
 ) (read-expr-at t) read-expr.Post
 read-expr-add-t12 t c = search needs
 
--- src/script.rt:72:24
 read-expr-read-name-requires : (t : ℕ) → read-expr-lts.Need-read-name-requires (
   read-name-reads.Asked,
   read-name-reads.Learnt,
@@ -70,7 +65,6 @@ read-expr-read-name-requires : (t : ℕ) → read-expr-lts.Need-read-name-requir
 ) (read-expr-at t) read-expr.Post
 read-expr-read-name-requires t c κs = search needs
 
--- src/script.rt:74:49
 read-expr-add-read-expr : (t : ℕ) → read-expr-lts.Need-add-read-expr (
   read-name-reads.Asked,
   read-name-reads.Learnt,
@@ -79,7 +73,6 @@ read-expr-add-read-expr : (t : ℕ) → read-expr-lts.Need-add-read-expr (
 ) (read-expr-at t) read-expr.Post
 read-expr-add-read-expr t c = search needs
 
--- src/script.rt:74:57
 read-expr-sub-read-expr : (t : ℕ) → read-expr-lts.Need-sub-read-expr (
   read-name-reads.Asked,
   read-name-reads.Learnt,
@@ -88,7 +81,6 @@ read-expr-sub-read-expr : (t : ℕ) → read-expr-lts.Need-sub-read-expr (
 ) (read-expr-at t) read-expr.Post
 read-expr-sub-read-expr t c = search needs
 
--- src/script.rt:74:24
 read-expr-read-expr-requires : (t : ℕ) → read-expr-lts.Need-read-expr-requires (
   read-name-reads.Asked,
   read-name-reads.Learnt,
@@ -97,7 +89,6 @@ read-expr-read-expr-requires : (t : ℕ) → read-expr-lts.Need-read-expr-requir
 ) (read-expr-at t) read-expr.Post
 read-expr-read-expr-requires t c κs = omega arith
 
--- src/script.rt:76:63
 read-expr-add-read-expr-2 : (t : ℕ) → read-expr-lts.Need-add-read-expr-2 (
   read-name-reads.Asked,
   read-name-reads.Learnt,
@@ -106,7 +97,6 @@ read-expr-add-read-expr-2 : (t : ℕ) → read-expr-lts.Need-add-read-expr-2 (
 ) (read-expr-at t) read-expr.Post
 read-expr-add-read-expr-2 t c = search needs
 
--- src/script.rt:76:71
 read-expr-sub-read-expr-2 : (t : ℕ) → read-expr-lts.Need-sub-read-expr-2 (
   read-name-reads.Asked,
   read-name-reads.Learnt,
@@ -115,7 +105,6 @@ read-expr-sub-read-expr-2 : (t : ℕ) → read-expr-lts.Need-sub-read-expr-2 (
 ) (read-expr-at t) read-expr.Post
 read-expr-sub-read-expr-2 t c = search needs
 
--- src/script.rt:76:38
 read-expr-read-expr-requires-2 : (t : ℕ) → read-expr-lts.Need-read-expr-requires-2 (
   read-name-reads.Asked,
   read-name-reads.Learnt,
@@ -124,7 +113,6 @@ read-expr-read-expr-requires-2 : (t : ℕ) → read-expr-lts.Need-read-expr-requ
 ) (read-expr-at t) read-expr.Post
 read-expr-read-expr-requires-2 t c κs = omega arith
 
--- src/script.rt:76:28
 read-expr-enum-known-second : (t : ℕ) → read-expr-lts.Need-enum-known-second (
   read-name-reads.Asked,
   read-name-reads.Learnt,
@@ -133,7 +121,6 @@ read-expr-enum-known-second : (t : ℕ) → read-expr-lts.Need-enum-known-second
 ) (read-expr-at t) read-expr.Post
 read-expr-enum-known-second t c = search needs
 
--- src/script.rt:77:17
 read-expr-enum-told : (t : ℕ) → read-expr-lts.Need-enum-told (
   read-name-reads.Asked,
   read-name-reads.Learnt,
@@ -142,7 +129,6 @@ read-expr-enum-told : (t : ℕ) → read-expr-lts.Need-enum-told (
 ) (read-expr-at t) read-expr.Post
 read-expr-enum-told t c = search needs
 
--- src/script.rt:77:17
 read-expr-returns-3 : (t : ℕ) → read-expr-lts.Need-returns-3 (
   read-name-reads.Asked,
   read-name-reads.Learnt,
@@ -151,7 +137,6 @@ read-expr-returns-3 : (t : ℕ) → read-expr-lts.Need-returns-3 (
 ) (read-expr-at t) read-expr.Post
 read-expr-returns-3 t c = ⊎-elim (λ k. two-fails _ _ _ _ (expr-is _ _ _ _ (omega arith) 0x44 k) (c .before .before .read-expr2 .ensures) (c .enum-told .given .1)) (λ k. two-fails _ _ _ _ (expr-is _ _ _ _ (omega arith) 0x45 k) (c .before .before .read-expr2 .ensures) (c .enum-told .given .1)) (either 0x44 (omega arith) (omega arith))
 
--- src/script.rt:79:46
 read-expr-sub-read-expr-3 : (t : ℕ) → read-expr-lts.Need-sub-read-expr-3 (
   read-name-reads.Asked,
   read-name-reads.Learnt,
@@ -160,7 +145,6 @@ read-expr-sub-read-expr-3 : (t : ℕ) → read-expr-lts.Need-sub-read-expr-3 (
 ) (read-expr-at t) read-expr.Post
 read-expr-sub-read-expr-3 t c = search needs
 
--- src/script.rt:79:13
 read-expr-read-expr-requires-3 : (t : ℕ) → read-expr-lts.Need-read-expr-requires-3 (
   read-name-reads.Asked,
   read-name-reads.Learnt,
@@ -169,7 +153,6 @@ read-expr-read-expr-requires-3 : (t : ℕ) → read-expr-lts.Need-read-expr-requ
 ) (read-expr-at t) read-expr.Post
 read-expr-read-expr-requires-3 t c κs = omega arith
 
--- src/script.rt:61:1
 read-expr-returns-4 : (t : ℕ) → read-expr-lts.Need-returns-4 (
   read-name-reads.Asked,
   read-name-reads.Learnt,
@@ -178,7 +161,6 @@ read-expr-returns-4 : (t : ℕ) → read-expr-lts.Need-returns-4 (
 ) (read-expr-at t) read-expr.Post
 read-expr-returns-4 t c = leaf-ends (expr-is _ _ _ _ (omega arith) 0x41 (c .match .keys1))
 
--- src/script.rt:61:1
 read-expr-returns-5 : (t : ℕ) → read-expr-lts.Need-returns-5 (
   read-name-reads.Asked,
   read-name-reads.Learnt,
@@ -187,7 +169,6 @@ read-expr-returns-5 : (t : ℕ) → read-expr-lts.Need-returns-5 (
 ) (read-expr-at t) read-expr.Post
 read-expr-returns-5 t c = ⊎-elim (λ k. one-ends _ _ (expr-is _ _ _ _ (omega arith) 0x31 k) (c .read-name .ensures)) (λ k. one-ends _ _ (expr-is _ _ _ _ (omega arith) 0x32 k) (c .read-name .ensures)) (either 0x31 (omega arith) (omega arith))
 
--- src/script.rt:61:1
 read-expr-returns-6 : (t : ℕ) → read-expr-lts.Need-returns-6 (
   read-name-reads.Asked,
   read-name-reads.Learnt,
@@ -196,7 +177,6 @@ read-expr-returns-6 : (t : ℕ) → read-expr-lts.Need-returns-6 (
 ) (read-expr-at t) read-expr.Post
 read-expr-returns-6 t c = ⊎-elim (λ k. one-ends _ _ (expr-is _ _ _ _ (omega arith) 0x42 k) (c .read-expr .ensures)) (λ k. one-ends _ _ (expr-is _ _ _ _ (omega arith) 0x43 k) (c .read-expr .ensures)) (either 0x42 (omega arith) (omega arith))
 
--- src/script.rt:61:1
 read-expr-returns-7 : (t : ℕ) → read-expr-lts.Need-returns-7 (
   read-name-reads.Asked,
   read-name-reads.Learnt,
@@ -205,7 +185,6 @@ read-expr-returns-7 : (t : ℕ) → read-expr-lts.Need-returns-7 (
 ) (read-expr-at t) read-expr.Post
 read-expr-returns-7 t c = ⊎-elim (λ k. two-ends _ _ _ _ (expr-is _ _ _ _ (omega arith) 0x44 k) (c .before .before .before .before .read-expr2 .ensures) (c .before .before .second .given .1) (c .read-expr3 .ensures)) (λ k. two-ends _ _ _ _ (expr-is _ _ _ _ (omega arith) 0x45 k) (c .before .before .before .before .read-expr2 .ensures) (c .before .before .second .given .1) (c .read-expr3 .ensures)) (either 0x44 (omega arith) (omega arith))
 
--- src/script.rt:61:1
 read-expr-returns-8 : (t : ℕ) → read-expr-lts.Need-returns-8 (
   read-name-reads.Asked,
   read-name-reads.Learnt,
@@ -214,7 +193,6 @@ read-expr-returns-8 : (t : ℕ) → read-expr-lts.Need-returns-8 (
 ) (read-expr-at t) read-expr.Post
 read-expr-returns-8 t c = none-ends (expr-gap _ _ _ _ (omega arith) 0 0x31 (omega arith) (omega arith) tt)
 
--- src/script.rt:61:1
 read-expr-returns-9 : (t : ℕ) → read-expr-lts.Need-returns-9 (
   read-name-reads.Asked,
   read-name-reads.Learnt,
@@ -223,7 +201,6 @@ read-expr-returns-9 : (t : ℕ) → read-expr-lts.Need-returns-9 (
 ) (read-expr-at t) read-expr.Post
 read-expr-returns-9 t c = none-ends (expr-gap _ _ _ _ (omega arith) 0x33 14 (omega arith) (omega arith) tt)
 
--- src/script.rt:61:1
 read-expr-returns-10 : (t : ℕ) → read-expr-lts.Need-returns-10 (
   read-name-reads.Asked,
   read-name-reads.Learnt,

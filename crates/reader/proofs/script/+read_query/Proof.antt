@@ -1,3 +1,4 @@
+-- `reader::script::read_query` meets its contract.
 use borrow.Author.Needs.{needs}
 use native.Mathlib.Omega.{arith}
 use mathlib.Core.Logic.{⊎-elim}
@@ -26,7 +27,6 @@ abbrev read-query-below : ℕ → In 1 read-query-kinds.ps
 read-query-below t =
     and 1 read-query-kinds.ps (falls 1 read-query-kinds.ps _<_ μ-read-query t) read-query.Pre
 
--- src/script.rt:138:9
 read-query-returns : (t : ℕ) → read-query-lts.Need-returns (
   read-name-reads.Asked,
   read-name-reads.Learnt,
@@ -37,7 +37,6 @@ read-query-returns : (t : ℕ) → read-query-lts.Need-returns (
 ) (read-query-at t) read-query.Post
 read-query-returns t c = none-ends (rw (c .if1 .taken) (query-none _ _ _))
 
--- src/script.rt:141:9
 read-query-returns-2 : (t : ℕ) → read-query-lts.Need-returns-2 (
   read-name-reads.Asked,
   read-name-reads.Learnt,
@@ -48,7 +47,6 @@ read-query-returns-2 : (t : ℕ) → read-query-lts.Need-returns-2 (
 ) (read-query-at t) read-query.Post
 read-query-returns-2 t c = none-ends (query-out _ _ _ _ (omega arith) (c .if2 .taken))
 
--- src/script.rt:143:16
 read-query-shared-slice-read-kind : (t : ℕ) → read-query-lts.Need-shared-slice-read-kind (
   read-name-reads.Asked,
   read-name-reads.Learnt,
@@ -59,7 +57,6 @@ read-query-shared-slice-read-kind : (t : ℕ) → read-query-lts.Need-shared-sli
 ) (read-query-at t) read-query.Post
 read-query-shared-slice-read-kind t c = search needs
 
--- src/script.rt:146:64
 read-query-add-read-name : (t : ℕ) → read-query-lts.Need-add-read-name (
   read-name-reads.Asked,
   read-name-reads.Learnt,
@@ -70,7 +67,6 @@ read-query-add-read-name : (t : ℕ) → read-query-lts.Need-add-read-name (
 ) (read-query-at t) read-query.Post
 read-query-add-read-name t c = search needs
 
--- src/script.rt:146:72
 read-query-sub-read-name : (t : ℕ) → read-query-lts.Need-sub-read-name (
   read-name-reads.Asked,
   read-name-reads.Learnt,
@@ -81,7 +77,6 @@ read-query-sub-read-name : (t : ℕ) → read-query-lts.Need-sub-read-name (
 ) (read-query-at t) read-query.Post
 read-query-sub-read-name t c = search needs
 
--- src/script.rt:146:39
 read-query-read-name-requires : (t : ℕ) → read-query-lts.Need-read-name-requires (
   read-name-reads.Asked,
   read-name-reads.Learnt,
@@ -92,7 +87,6 @@ read-query-read-name-requires : (t : ℕ) → read-query-lts.Need-read-name-requ
 ) (read-query-at t) read-query.Post
 read-query-read-name-requires t c κs = search needs
 
--- src/script.rt:146:28
 read-query-enum-known-subject : (t : ℕ) → read-query-lts.Need-enum-known-subject (
   read-name-reads.Asked,
   read-name-reads.Learnt,
@@ -103,7 +97,6 @@ read-query-enum-known-subject : (t : ℕ) → read-query-lts.Need-enum-known-sub
 ) (read-query-at t) read-query.Post
 read-query-enum-known-subject t c = search needs
 
--- src/script.rt:147:17
 read-query-enum-told : (t : ℕ) → read-query-lts.Need-enum-told (
   read-name-reads.Asked,
   read-name-reads.Learnt,
@@ -114,7 +107,6 @@ read-query-enum-told : (t : ℕ) → read-query-lts.Need-enum-told (
 ) (read-query-at t) read-query.Post
 read-query-enum-told t c = search needs
 
--- src/script.rt:147:17
 read-query-returns-3 : (t : ℕ) → read-query-lts.Need-returns-3 (
   read-name-reads.Asked,
   read-name-reads.Learnt,
@@ -125,7 +117,6 @@ read-query-returns-3 : (t : ℕ) → read-query-lts.Need-returns-3 (
 ) (read-query-at t) read-query.Post
 read-query-returns-3 t c = four-fails _ _ _ (query-is _ _ _ _ (omega arith) 0x61 (c .before .before .before .match .keys1)) (c .before .before .read-name .ensures) (c .enum-told .given .1)
 
--- src/script.rt:149:74
 read-query-sub-read-name-2 : (t : ℕ) → read-query-lts.Need-sub-read-name-2 (
   read-name-reads.Asked,
   read-name-reads.Learnt,
@@ -136,7 +127,6 @@ read-query-sub-read-name-2 : (t : ℕ) → read-query-lts.Need-sub-read-name-2 (
 ) (read-query-at t) read-query.Post
 read-query-sub-read-name-2 t c = search needs
 
--- src/script.rt:149:40
 read-query-read-name-requires-2 : (t : ℕ) → read-query-lts.Need-read-name-requires-2 (
   read-name-reads.Asked,
   read-name-reads.Learnt,
@@ -147,7 +137,6 @@ read-query-read-name-requires-2 : (t : ℕ) → read-query-lts.Need-read-name-re
 ) (read-query-at t) read-query.Post
 read-query-read-name-requires-2 t c κs = search needs
 
--- src/script.rt:149:28
 read-query-enum-known-property : (t : ℕ) → read-query-lts.Need-enum-known-property (
   read-name-reads.Asked,
   read-name-reads.Learnt,
@@ -158,7 +147,6 @@ read-query-enum-known-property : (t : ℕ) → read-query-lts.Need-enum-known-pr
 ) (read-query-at t) read-query.Post
 read-query-enum-known-property t c = search needs
 
--- src/script.rt:150:17
 read-query-enum-told-2 : (t : ℕ) → read-query-lts.Need-enum-told-2 (
   read-name-reads.Asked,
   read-name-reads.Learnt,
@@ -169,7 +157,6 @@ read-query-enum-told-2 : (t : ℕ) → read-query-lts.Need-enum-told-2 (
 ) (read-query-at t) read-query.Post
 read-query-enum-told-2 t c = search needs
 
--- src/script.rt:150:17
 read-query-returns-4 : (t : ℕ) → read-query-lts.Need-returns-4 (
   read-name-reads.Asked,
   read-name-reads.Learnt,
@@ -180,7 +167,6 @@ read-query-returns-4 : (t : ℕ) → read-query-lts.Need-returns-4 (
 ) (read-query-at t) read-query.Post
 read-query-returns-4 t c = four-fails₂ _ _ _ (query-is _ _ _ _ (omega arith) 0x61 (c .before .before .before .before .before .before .before .match .keys1)) (c .before .before .before .before .before .before .read-name .ensures) (c .before .before .before .before .subject .given .1) (c .before .before .read-name2 .ensures) (c .enum-told2 .given .1)
 
--- src/script.rt:152:73
 read-query-sub-read-name-3 : (t : ℕ) → read-query-lts.Need-sub-read-name-3 (
   read-name-reads.Asked,
   read-name-reads.Learnt,
@@ -191,7 +177,6 @@ read-query-sub-read-name-3 : (t : ℕ) → read-query-lts.Need-sub-read-name-3 (
 ) (read-query-at t) read-query.Post
 read-query-sub-read-name-3 t c = search needs
 
--- src/script.rt:152:38
 read-query-read-name-requires-3 : (t : ℕ) → read-query-lts.Need-read-name-requires-3 (
   read-name-reads.Asked,
   read-name-reads.Learnt,
@@ -202,7 +187,6 @@ read-query-read-name-requires-3 : (t : ℕ) → read-query-lts.Need-read-name-re
 ) (read-query-at t) read-query.Post
 read-query-read-name-requires-3 t c κs = search needs
 
--- src/script.rt:152:28
 read-query-enum-known-object : (t : ℕ) → read-query-lts.Need-enum-known-object (
   read-name-reads.Asked,
   read-name-reads.Learnt,
@@ -213,7 +197,6 @@ read-query-enum-known-object : (t : ℕ) → read-query-lts.Need-enum-known-obje
 ) (read-query-at t) read-query.Post
 read-query-enum-known-object t c = search needs
 
--- src/script.rt:153:17
 read-query-enum-told-3 : (t : ℕ) → read-query-lts.Need-enum-told-3 (
   read-name-reads.Asked,
   read-name-reads.Learnt,
@@ -224,7 +207,6 @@ read-query-enum-told-3 : (t : ℕ) → read-query-lts.Need-enum-told-3 (
 ) (read-query-at t) read-query.Post
 read-query-enum-told-3 t c = search needs
 
--- src/script.rt:153:17
 read-query-returns-5 : (t : ℕ) → read-query-lts.Need-returns-5 (
   read-name-reads.Asked,
   read-name-reads.Learnt,
@@ -235,7 +217,6 @@ read-query-returns-5 : (t : ℕ) → read-query-lts.Need-returns-5 (
 ) (read-query-at t) read-query.Post
 read-query-returns-5 t c = four-fails₃ _ _ _ (query-is _ _ _ _ (omega arith) 0x61 (c .before .before .before .before .before .before .before .before .before .before .before .match .keys1)) (c .before .before .before .before .before .before .before .before .before .before .read-name .ensures) (c .before .before .before .before .before .before .before .before .subject .given .1) (c .before .before .before .before .before .before .read-name2 .ensures) (c .before .before .before .before .property .given .1) (c .before .before .read-name3 .ensures) (c .enum-told3 .given .1)
 
--- src/script.rt:155:46
 read-query-sub-read-name-4 : (t : ℕ) → read-query-lts.Need-sub-read-name-4 (
   read-name-reads.Asked,
   read-name-reads.Learnt,
@@ -246,7 +227,6 @@ read-query-sub-read-name-4 : (t : ℕ) → read-query-lts.Need-sub-read-name-4 (
 ) (read-query-at t) read-query.Post
 read-query-sub-read-name-4 t c = search needs
 
--- src/script.rt:155:13
 read-query-read-name-requires-4 : (t : ℕ) → read-query-lts.Need-read-name-requires-4 (
   read-name-reads.Asked,
   read-name-reads.Learnt,
@@ -257,7 +237,6 @@ read-query-read-name-requires-4 : (t : ℕ) → read-query-lts.Need-read-name-re
 ) (read-query-at t) read-query.Post
 read-query-read-name-requires-4 t c κs = search needs
 
--- src/script.rt:163:42
 read-query-add-read-cond : (t : ℕ) → read-query-lts.Need-add-read-cond (
   read-name-reads.Asked,
   read-name-reads.Learnt,
@@ -268,7 +247,6 @@ read-query-add-read-cond : (t : ℕ) → read-query-lts.Need-add-read-cond (
 ) (read-query-at t) read-query.Post
 read-query-add-read-cond t c = search needs
 
--- src/script.rt:163:50
 read-query-sub-read-cond : (t : ℕ) → read-query-lts.Need-sub-read-cond (
   read-name-reads.Asked,
   read-name-reads.Learnt,
@@ -279,7 +257,6 @@ read-query-sub-read-cond : (t : ℕ) → read-query-lts.Need-sub-read-cond (
 ) (read-query-at t) read-query.Post
 read-query-sub-read-cond t c = search needs
 
--- src/script.rt:163:17
 read-query-read-cond-requires : (t : ℕ) → read-query-lts.Need-read-cond-requires (
   read-name-reads.Asked,
   read-name-reads.Learnt,
@@ -290,7 +267,6 @@ read-query-read-cond-requires : (t : ℕ) → read-query-lts.Need-read-cond-requ
 ) (read-query-at t) read-query.Post
 read-query-read-cond-requires t c κs = search needs
 
--- src/script.rt:164:28
 read-query-add-t22 : (t : ℕ) → read-query-lts.Need-add-t22 (
   read-name-reads.Asked,
   read-name-reads.Learnt,
@@ -301,7 +277,6 @@ read-query-add-t22 : (t : ℕ) → read-query-lts.Need-add-t22 (
 ) (read-query-at t) read-query.Post
 read-query-add-t22 t c = search needs
 
--- src/script.rt:158:64
 read-query-add-read-query : (t : ℕ) → read-query-lts.Need-add-read-query (
   read-name-reads.Asked,
   read-name-reads.Learnt,
@@ -312,7 +287,6 @@ read-query-add-read-query : (t : ℕ) → read-query-lts.Need-add-read-query (
 ) (read-query-at t) read-query.Post
 read-query-add-read-query t c = search needs
 
--- src/script.rt:158:72
 read-query-sub-read-query : (t : ℕ) → read-query-lts.Need-sub-read-query (
   read-name-reads.Asked,
   read-name-reads.Learnt,
@@ -323,7 +297,6 @@ read-query-sub-read-query : (t : ℕ) → read-query-lts.Need-sub-read-query (
 ) (read-query-at t) read-query.Post
 read-query-sub-read-query t c = search needs
 
--- src/script.rt:158:38
 read-query-read-query-requires : (t : ℕ) → read-query-lts.Need-read-query-requires (
   read-name-reads.Asked,
   read-name-reads.Learnt,
@@ -334,7 +307,6 @@ read-query-read-query-requires : (t : ℕ) → read-query-lts.Need-read-query-re
 ) (read-query-at t) read-query.Post
 read-query-read-query-requires t c κs = omega arith
 
--- src/script.rt:158:28
 read-query-enum-known-second : (t : ℕ) → read-query-lts.Need-enum-known-second (
   read-name-reads.Asked,
   read-name-reads.Learnt,
@@ -345,7 +317,6 @@ read-query-enum-known-second : (t : ℕ) → read-query-lts.Need-enum-known-seco
 ) (read-query-at t) read-query.Post
 read-query-enum-known-second t c = search needs
 
--- src/script.rt:159:17
 read-query-enum-told-4 : (t : ℕ) → read-query-lts.Need-enum-told-4 (
   read-name-reads.Asked,
   read-name-reads.Learnt,
@@ -356,7 +327,6 @@ read-query-enum-told-4 : (t : ℕ) → read-query-lts.Need-enum-told-4 (
 ) (read-query-at t) read-query.Post
 read-query-enum-told-4 t c = search needs
 
--- src/script.rt:159:17
 read-query-returns-6 : (t : ℕ) → read-query-lts.Need-returns-6 (
   read-name-reads.Asked,
   read-name-reads.Learnt,
@@ -367,7 +337,6 @@ read-query-returns-6 : (t : ℕ) → read-query-lts.Need-returns-6 (
 ) (read-query-at t) read-query.Post
 read-query-returns-6 t c = ⊎-elim (λ k. two-fails _ _ _ _ (query-is _ _ _ _ (omega arith) 0x62 k) (c .before .before .read-query .ensures) (c .enum-told4 .given .1)) (λ k. two-fails _ _ _ _ (query-is _ _ _ _ (omega arith) 0x63 k) (c .before .before .read-query .ensures) (c .enum-told4 .given .1)) (either 0x62 (omega arith) (omega arith))
 
--- src/script.rt:161:47
 read-query-sub-read-query-2 : (t : ℕ) → read-query-lts.Need-sub-read-query-2 (
   read-name-reads.Asked,
   read-name-reads.Learnt,
@@ -378,7 +347,6 @@ read-query-sub-read-query-2 : (t : ℕ) → read-query-lts.Need-sub-read-query-2
 ) (read-query-at t) read-query.Post
 read-query-sub-read-query-2 t c = search needs
 
--- src/script.rt:161:13
 read-query-read-query-requires-2 : (t : ℕ) → read-query-lts.Need-read-query-requires-2 (
   read-name-reads.Asked,
   read-name-reads.Learnt,
@@ -389,7 +357,6 @@ read-query-read-query-requires-2 : (t : ℕ) → read-query-lts.Need-read-query-
 ) (read-query-at t) read-query.Post
 read-query-read-query-requires-2 t c κs = omega arith
 
--- src/script.rt:134:1
 read-query-returns-7 : (t : ℕ) → read-query-lts.Need-returns-7 (
   read-name-reads.Asked,
   read-name-reads.Learnt,
@@ -400,7 +367,6 @@ read-query-returns-7 : (t : ℕ) → read-query-lts.Need-returns-7 (
 ) (read-query-at t) read-query.Post
 read-query-returns-7 t c = four-ends _ _ _ (query-is _ _ _ _ (omega arith) 0x61 (c .before .before .before .before .before .before .before .before .before .before .before .before .before .match .keys1)) (c .before .before .before .before .before .before .before .before .before .before .before .before .read-name .ensures) (c .before .before .before .before .before .before .before .before .before .before .subject .given .1) (c .before .before .before .before .before .before .before .before .read-name2 .ensures) (c .before .before .before .before .before .before .property .given .1) (c .before .before .before .before .read-name3 .ensures) (c .before .before .object .given .1) (c .read-name4 .ensures)
 
--- src/script.rt:134:1
 read-query-returns-8 : (t : ℕ) → read-query-lts.Need-returns-8 (
   read-name-reads.Asked,
   read-name-reads.Learnt,
@@ -411,7 +377,6 @@ read-query-returns-8 : (t : ℕ) → read-query-lts.Need-returns-8 (
 ) (read-query-at t) read-query.Post
 read-query-returns-8 t c = one-ends _ _ (query-is _ _ _ _ (omega arith) 0x64 (c .before .match .keys2)) (c .read-cond .ensures)
 
--- src/script.rt:134:1
 read-query-returns-9 : (t : ℕ) → read-query-lts.Need-returns-9 (
   read-name-reads.Asked,
   read-name-reads.Learnt,
@@ -422,7 +387,6 @@ read-query-returns-9 : (t : ℕ) → read-query-lts.Need-returns-9 (
 ) (read-query-at t) read-query.Post
 read-query-returns-9 t c = leaf-ends (query-is _ _ _ _ (omega arith) 0x65 (c .match .keys3))
 
--- src/script.rt:134:1
 read-query-returns-10 : (t : ℕ) → read-query-lts.Need-returns-10 (
   read-name-reads.Asked,
   read-name-reads.Learnt,
@@ -433,7 +397,6 @@ read-query-returns-10 : (t : ℕ) → read-query-lts.Need-returns-10 (
 ) (read-query-at t) read-query.Post
 read-query-returns-10 t c = ⊎-elim (λ k. two-ends _ _ _ _ (query-is _ _ _ _ (omega arith) 0x62 k) (c .before .before .before .before .read-query .ensures) (c .before .before .second .given .1) (c .read-query2 .ensures)) (λ k. two-ends _ _ _ _ (query-is _ _ _ _ (omega arith) 0x63 k) (c .before .before .before .before .read-query .ensures) (c .before .before .second .given .1) (c .read-query2 .ensures)) (either 0x62 (omega arith) (omega arith))
 
--- src/script.rt:134:1
 read-query-returns-11 : (t : ℕ) → read-query-lts.Need-returns-11 (
   read-name-reads.Asked,
   read-name-reads.Learnt,
@@ -444,7 +407,6 @@ read-query-returns-11 : (t : ℕ) → read-query-lts.Need-returns-11 (
 ) (read-query-at t) read-query.Post
 read-query-returns-11 t c = none-ends (query-gap _ _ _ _ (omega arith) 0 0x61 (omega arith) (omega arith) tt)
 
--- src/script.rt:134:1
 read-query-returns-12 : (t : ℕ) → read-query-lts.Need-returns-12 (
   read-name-reads.Asked,
   read-name-reads.Learnt,

@@ -1,3 +1,4 @@
+-- `reader::script::read_script` meets its contract.
 use borrow.Author.Needs.{needs}
 use borrow.Author.Tests.{not-true, not-false}
 use native.Mathlib.Omega.{arith}
@@ -26,7 +27,6 @@ abbrev read-script-below : ℕ → In 1 read-script-kinds.ps
 read-script-below t =
     and 1 read-script-kinds.ps (falls 1 read-script-kinds.ps _<_ μ-read-script t) read-script.Pre
 
--- src/script.rt:174:9
 read-script-returns : (t : ℕ) → read-script-lts.Need-returns (
   read-name-reads.Asked,
   read-name-reads.Learnt,
@@ -39,7 +39,6 @@ read-script-returns : (t : ℕ) → read-script-lts.Need-returns (
 ) (read-script-at t) read-script.Post
 read-script-returns t c = none-ends (rw (c .if1 .taken) (script-none _ _ _))
 
--- src/script.rt:177:9
 read-script-returns-2 : (t : ℕ) → read-script-lts.Need-returns-2 (
   read-name-reads.Asked,
   read-name-reads.Learnt,
@@ -52,7 +51,6 @@ read-script-returns-2 : (t : ℕ) → read-script-lts.Need-returns-2 (
 ) (read-script-at t) read-script.Post
 read-script-returns-2 t c = none-ends (script-out _ _ _ _ (omega arith) (c .if2 .taken))
 
--- src/script.rt:179:16
 read-script-shared-slice-read-kind : (t : ℕ) → read-script-lts.Need-shared-slice-read-kind (
   read-name-reads.Asked,
   read-name-reads.Learnt,
@@ -65,7 +63,6 @@ read-script-shared-slice-read-kind : (t : ℕ) → read-script-lts.Need-shared-s
 ) (read-script-at t) read-script.Post
 read-script-shared-slice-read-kind t c = search needs
 
--- src/script.rt:181:28
 read-script-add-t15 : (t : ℕ) → read-script-lts.Need-add-t15 (
   read-name-reads.Asked,
   read-name-reads.Learnt,
@@ -78,7 +75,6 @@ read-script-add-t15 : (t : ℕ) → read-script-lts.Need-add-t15 (
 ) (read-script-at t) read-script.Post
 read-script-add-t15 t c = search needs
 
--- src/script.rt:183:63
 read-script-add-read-name : (t : ℕ) → read-script-lts.Need-add-read-name (
   read-name-reads.Asked,
   read-name-reads.Learnt,
@@ -91,7 +87,6 @@ read-script-add-read-name : (t : ℕ) → read-script-lts.Need-add-read-name (
 ) (read-script-at t) read-script.Post
 read-script-add-read-name t c = search needs
 
--- src/script.rt:183:71
 read-script-sub-read-name : (t : ℕ) → read-script-lts.Need-sub-read-name (
   read-name-reads.Asked,
   read-name-reads.Learnt,
@@ -104,7 +99,6 @@ read-script-sub-read-name : (t : ℕ) → read-script-lts.Need-sub-read-name (
 ) (read-script-at t) read-script.Post
 read-script-sub-read-name t c = search needs
 
--- src/script.rt:183:38
 read-script-read-name-requires : (t : ℕ) → read-script-lts.Need-read-name-requires (
   read-name-reads.Asked,
   read-name-reads.Learnt,
@@ -117,7 +111,6 @@ read-script-read-name-requires : (t : ℕ) → read-script-lts.Need-read-name-re
 ) (read-script-at t) read-script.Post
 read-script-read-name-requires t c κs = search needs
 
--- src/script.rt:183:28
 read-script-enum-known-second : (t : ℕ) → read-script-lts.Need-enum-known-second (
   read-name-reads.Asked,
   read-name-reads.Learnt,
@@ -130,7 +123,6 @@ read-script-enum-known-second : (t : ℕ) → read-script-lts.Need-enum-known-se
 ) (read-script-at t) read-script.Post
 read-script-enum-known-second t c = search needs
 
--- src/script.rt:184:17
 read-script-enum-told : (t : ℕ) → read-script-lts.Need-enum-told (
   read-name-reads.Asked,
   read-name-reads.Learnt,
@@ -143,7 +135,6 @@ read-script-enum-told : (t : ℕ) → read-script-lts.Need-enum-told (
 ) (read-script-at t) read-script.Post
 read-script-enum-told t c = search needs
 
--- src/script.rt:184:17
 read-script-returns-3 : (t : ℕ) → read-script-lts.Need-returns-3 (
   read-name-reads.Asked,
   read-name-reads.Learnt,
@@ -156,7 +147,6 @@ read-script-returns-3 : (t : ℕ) → read-script-lts.Need-returns-3 (
 ) (read-script-at t) read-script.Post
 read-script-returns-3 t c = two-fails _ _ _ _ (script-is _ _ _ _ (omega arith) 0x72 (c .before .before .before .match .keys2)) (c .before .before .read-name .ensures) (c .enum-told .given .1)
 
--- src/script.rt:186:48
 read-script-sub-read-script : (t : ℕ) → read-script-lts.Need-sub-read-script (
   read-name-reads.Asked,
   read-name-reads.Learnt,
@@ -169,7 +159,6 @@ read-script-sub-read-script : (t : ℕ) → read-script-lts.Need-sub-read-script
 ) (read-script-at t) read-script.Post
 read-script-sub-read-script t c = search needs
 
--- src/script.rt:186:13
 read-script-read-script-requires : (t : ℕ) → read-script-lts.Need-read-script-requires (
   read-name-reads.Asked,
   read-name-reads.Learnt,
@@ -182,7 +171,6 @@ read-script-read-script-requires : (t : ℕ) → read-script-lts.Need-read-scrip
 ) (read-script-at t) read-script.Post
 read-script-read-script-requires t c κs = omega arith
 
--- src/script.rt:189:16
 read-script-sub-if3 : (t : ℕ) → read-script-lts.Need-sub-if3 (
   read-name-reads.Asked,
   read-name-reads.Learnt,
@@ -195,7 +183,6 @@ read-script-sub-if3 : (t : ℕ) → read-script-lts.Need-sub-if3 (
 ) (read-script-at t) read-script.Post
 read-script-sub-if3 t c = search needs
 
--- src/script.rt:190:17
 read-script-returns-4 : (t : ℕ) → read-script-lts.Need-returns-4 (
   read-name-reads.Asked,
   read-name-reads.Learnt,
@@ -208,7 +195,6 @@ read-script-returns-4 : (t : ℕ) → read-script-lts.Need-returns-4 (
 ) (read-script-at t) read-script.Post
 read-script-returns-4 t c = block-short _ _ _ _ (script-is _ _ _ _ (omega arith) 0x73 (c .before .match .keys3)) (omega arith)
 
--- src/script.rt:192:27
 read-script-add-if4 : (t : ℕ) → read-script-lts.Need-add-if4 (
   read-name-reads.Asked,
   read-name-reads.Learnt,
@@ -221,7 +207,6 @@ read-script-add-if4 : (t : ℕ) → read-script-lts.Need-add-if4 (
 ) (read-script-at t) read-script.Post
 read-script-add-if4 t c = search needs
 
--- src/script.rt:192:20
 read-script-shared-slice-read-if4 : (t : ℕ) → read-script-lts.Need-shared-slice-read-if4 (
   read-name-reads.Asked,
   read-name-reads.Learnt,
@@ -234,7 +219,6 @@ read-script-shared-slice-read-if4 : (t : ℕ) → read-script-lts.Need-shared-sl
 ) (read-script-at t) read-script.Post
 read-script-shared-slice-read-if4 t c = search needs
 
--- src/script.rt:193:17
 read-script-returns-5 : (t : ℕ) → read-script-lts.Need-returns-5 (
   read-name-reads.Asked,
   read-name-reads.Learnt,
@@ -247,7 +231,6 @@ read-script-returns-5 : (t : ℕ) → read-script-lts.Need-returns-5 (
 ) (read-script-at t) read-script.Post
 read-script-returns-5 t c = block-mode _ _ _ _ (script-is _ _ _ _ (omega arith) 0x73 (c .before .before .before .match .keys3)) (omega arith) (omega arith)
 
--- src/script.rt:195:32
 read-script-add-count : (t : ℕ) → read-script-lts.Need-add-count (
   read-name-reads.Asked,
   read-name-reads.Learnt,
@@ -260,7 +243,6 @@ read-script-add-count : (t : ℕ) → read-script-lts.Need-add-count (
 ) (read-script-at t) read-script.Post
 read-script-add-count t c = search needs
 
--- src/script.rt:195:25
 read-script-shared-slice-read-count : (t : ℕ) → read-script-lts.Need-shared-slice-read-count (
   read-name-reads.Asked,
   read-name-reads.Learnt,
@@ -273,7 +255,6 @@ read-script-shared-slice-read-count : (t : ℕ) → read-script-lts.Need-shared-
 ) (read-script-at t) read-script.Post
 read-script-shared-slice-read-count t c = search needs
 
--- src/script.rt:196:34
 read-script-add-pairs-ok : (t : ℕ) → read-script-lts.Need-add-pairs-ok (
   read-name-reads.Asked,
   read-name-reads.Learnt,
@@ -286,7 +267,6 @@ read-script-add-pairs-ok : (t : ℕ) → read-script-lts.Need-add-pairs-ok (
 ) (read-script-at t) read-script.Post
 read-script-add-pairs-ok t c = search needs
 
--- src/script.rt:196:17
 read-script-pairs-ok-requires : (t : ℕ) → read-script-lts.Need-pairs-ok-requires (
   read-name-reads.Asked,
   read-name-reads.Learnt,
@@ -299,7 +279,6 @@ read-script-pairs-ok-requires : (t : ℕ) → read-script-lts.Need-pairs-ok-requ
 ) (read-script-at t) read-script.Post
 read-script-pairs-ok-requires t c κs = omega arith
 
--- src/script.rt:197:17
 read-script-returns-6 : (t : ℕ) → read-script-lts.Need-returns-6 (
   read-name-reads.Asked,
   read-name-reads.Learnt,
@@ -312,7 +291,6 @@ read-script-returns-6 : (t : ℕ) → read-script-lts.Need-returns-6 (
 ) (read-script-at t) read-script.Post
 read-script-returns-6 t c = block-fails _ _ _ _ (script-is _ _ _ _ (omega arith) 0x73 (c .before .before .before .before .before .before .match .keys3)) (omega arith) (omega arith) (c .before .pairs-ok .ensures) (not-true (c .before .pairs-ok .result) (c .if5 .taken))
 
--- src/script.rt:199:64
 read-script-add-read-query : (t : ℕ) → read-script-lts.Need-add-read-query (
   read-name-reads.Asked,
   read-name-reads.Learnt,
@@ -325,7 +303,6 @@ read-script-add-read-query : (t : ℕ) → read-script-lts.Need-add-read-query (
 ) (read-script-at t) read-script.Post
 read-script-add-read-query t c = search needs
 
--- src/script.rt:199:73
 read-script-sub-read-query : (t : ℕ) → read-script-lts.Need-sub-read-query (
   read-name-reads.Asked,
   read-name-reads.Learnt,
@@ -338,7 +315,6 @@ read-script-sub-read-query : (t : ℕ) → read-script-lts.Need-sub-read-query (
 ) (read-script-at t) read-script.Post
 read-script-sub-read-query t c = search needs
 
--- src/script.rt:199:38
 read-script-read-query-requires : (t : ℕ) → read-script-lts.Need-read-query-requires (
   read-name-reads.Asked,
   read-name-reads.Learnt,
@@ -351,7 +327,6 @@ read-script-read-query-requires : (t : ℕ) → read-script-lts.Need-read-query-
 ) (read-script-at t) read-script.Post
 read-script-read-query-requires t c κs = search needs
 
--- src/script.rt:199:28
 read-script-enum-known-second-2 : (t : ℕ) → read-script-lts.Need-enum-known-second-2 (
   read-name-reads.Asked,
   read-name-reads.Learnt,
@@ -364,7 +339,6 @@ read-script-enum-known-second-2 : (t : ℕ) → read-script-lts.Need-enum-known-
 ) (read-script-at t) read-script.Post
 read-script-enum-known-second-2 t c = search needs
 
--- src/script.rt:200:17
 read-script-enum-told-2 : (t : ℕ) → read-script-lts.Need-enum-told-2 (
   read-name-reads.Asked,
   read-name-reads.Learnt,
@@ -377,7 +351,6 @@ read-script-enum-told-2 : (t : ℕ) → read-script-lts.Need-enum-told-2 (
 ) (read-script-at t) read-script.Post
 read-script-enum-told-2 t c = search needs
 
--- src/script.rt:200:17
 read-script-returns-7 : (t : ℕ) → read-script-lts.Need-returns-7 (
   read-name-reads.Asked,
   read-name-reads.Learnt,
@@ -390,7 +363,6 @@ read-script-returns-7 : (t : ℕ) → read-script-lts.Need-returns-7 (
 ) (read-script-at t) read-script.Post
 read-script-returns-7 t c = query-fails _ _ _ _ (script-is _ _ _ _ (omega arith) 0x73 (c .before .before .before .before .before .before .before .before .before .match .keys3)) (omega arith) (omega arith) (c .before .before .before .before .pairs-ok .ensures) (not-false (c .before .before .before .before .pairs-ok .result) (c .before .before .before .if5 .left)) (c .before .before .read-query .ensures) (c .enum-told2 .given .1)
 
--- src/script.rt:202:48
 read-script-sub-read-script-2 : (t : ℕ) → read-script-lts.Need-sub-read-script-2 (
   read-name-reads.Asked,
   read-name-reads.Learnt,
@@ -403,7 +375,6 @@ read-script-sub-read-script-2 : (t : ℕ) → read-script-lts.Need-sub-read-scri
 ) (read-script-at t) read-script.Post
 read-script-sub-read-script-2 t c = search needs
 
--- src/script.rt:202:13
 read-script-read-script-requires-2 : (t : ℕ) → read-script-lts.Need-read-script-requires-2 (
   read-name-reads.Asked,
   read-name-reads.Learnt,
@@ -416,7 +387,6 @@ read-script-read-script-requires-2 : (t : ℕ) → read-script-lts.Need-read-scr
 ) (read-script-at t) read-script.Post
 read-script-read-script-requires-2 t c κs = omega arith
 
--- src/script.rt:205:65
 read-script-add-read-script : (t : ℕ) → read-script-lts.Need-add-read-script (
   read-name-reads.Asked,
   read-name-reads.Learnt,
@@ -429,7 +399,6 @@ read-script-add-read-script : (t : ℕ) → read-script-lts.Need-add-read-script
 ) (read-script-at t) read-script.Post
 read-script-add-read-script t c = search needs
 
--- src/script.rt:205:73
 read-script-sub-read-script-3 : (t : ℕ) → read-script-lts.Need-sub-read-script-3 (
   read-name-reads.Asked,
   read-name-reads.Learnt,
@@ -442,7 +411,6 @@ read-script-sub-read-script-3 : (t : ℕ) → read-script-lts.Need-sub-read-scri
 ) (read-script-at t) read-script.Post
 read-script-sub-read-script-3 t c = search needs
 
--- src/script.rt:205:38
 read-script-read-script-requires-3 : (t : ℕ) → read-script-lts.Need-read-script-requires-3 (
   read-name-reads.Asked,
   read-name-reads.Learnt,
@@ -455,7 +423,6 @@ read-script-read-script-requires-3 : (t : ℕ) → read-script-lts.Need-read-scr
 ) (read-script-at t) read-script.Post
 read-script-read-script-requires-3 t c κs = omega arith
 
--- src/script.rt:205:28
 read-script-enum-known-second-3 : (t : ℕ) → read-script-lts.Need-enum-known-second-3 (
   read-name-reads.Asked,
   read-name-reads.Learnt,
@@ -468,7 +435,6 @@ read-script-enum-known-second-3 : (t : ℕ) → read-script-lts.Need-enum-known-
 ) (read-script-at t) read-script.Post
 read-script-enum-known-second-3 t c = search needs
 
--- src/script.rt:206:17
 read-script-enum-told-3 : (t : ℕ) → read-script-lts.Need-enum-told-3 (
   read-name-reads.Asked,
   read-name-reads.Learnt,
@@ -481,7 +447,6 @@ read-script-enum-told-3 : (t : ℕ) → read-script-lts.Need-enum-told-3 (
 ) (read-script-at t) read-script.Post
 read-script-enum-told-3 t c = search needs
 
--- src/script.rt:206:17
 read-script-returns-8 : (t : ℕ) → read-script-lts.Need-returns-8 (
   read-name-reads.Asked,
   read-name-reads.Learnt,
@@ -494,7 +459,6 @@ read-script-returns-8 : (t : ℕ) → read-script-lts.Need-returns-8 (
 ) (read-script-at t) read-script.Post
 read-script-returns-8 t c = two-fails _ _ _ _ (script-is _ _ _ _ (omega arith) 0x74 (c .before .before .before .match .keys4)) (c .before .before .read-script3 .ensures) (c .enum-told3 .given .1)
 
--- src/script.rt:208:48
 read-script-sub-read-script-4 : (t : ℕ) → read-script-lts.Need-sub-read-script-4 (
   read-name-reads.Asked,
   read-name-reads.Learnt,
@@ -507,7 +471,6 @@ read-script-sub-read-script-4 : (t : ℕ) → read-script-lts.Need-sub-read-scri
 ) (read-script-at t) read-script.Post
 read-script-sub-read-script-4 t c = search needs
 
--- src/script.rt:208:13
 read-script-read-script-requires-4 : (t : ℕ) → read-script-lts.Need-read-script-requires-4 (
   read-name-reads.Asked,
   read-name-reads.Learnt,
@@ -520,7 +483,6 @@ read-script-read-script-requires-4 : (t : ℕ) → read-script-lts.Need-read-scr
 ) (read-script-at t) read-script.Post
 read-script-read-script-requires-4 t c κs = omega arith
 
--- src/script.rt:170:1
 read-script-returns-9 : (t : ℕ) → read-script-lts.Need-returns-9 (
   read-name-reads.Asked,
   read-name-reads.Learnt,
@@ -533,7 +495,6 @@ read-script-returns-9 : (t : ℕ) → read-script-lts.Need-returns-9 (
 ) (read-script-at t) read-script.Post
 read-script-returns-9 t c = leaf-ends (script-is _ _ _ _ (omega arith) 0x71 (c .match .keys1))
 
--- src/script.rt:170:1
 read-script-returns-10 : (t : ℕ) → read-script-lts.Need-returns-10 (
   read-name-reads.Asked,
   read-name-reads.Learnt,
@@ -546,7 +507,6 @@ read-script-returns-10 : (t : ℕ) → read-script-lts.Need-returns-10 (
 ) (read-script-at t) read-script.Post
 read-script-returns-10 t c = two-ends _ _ _ _ (script-is _ _ _ _ (omega arith) 0x72 (c .before .before .before .before .before .match .keys2)) (c .before .before .before .before .read-name .ensures) (c .before .before .second .given .1) (c .read-script .ensures)
 
--- src/script.rt:170:1
 read-script-returns-11 : (t : ℕ) → read-script-lts.Need-returns-11 (
   read-name-reads.Asked,
   read-name-reads.Learnt,
@@ -559,7 +519,6 @@ read-script-returns-11 : (t : ℕ) → read-script-lts.Need-returns-11 (
 ) (read-script-at t) read-script.Post
 read-script-returns-11 t c = block-ends _ _ _ _ (script-is _ _ _ _ (omega arith) 0x73 (c .before .before .before .before .before .before .before .before .before .before .before .match .keys3)) (omega arith) (omega arith) (c .before .before .before .before .before .before .pairs-ok .ensures) (not-false (c .before .before .before .before .before .before .pairs-ok .result) (c .before .before .before .before .before .if5 .left)) (c .before .before .before .before .read-query .ensures) (c .before .before .second2 .given .1) (c .read-script2 .ensures)
 
--- src/script.rt:170:1
 read-script-returns-12 : (t : ℕ) → read-script-lts.Need-returns-12 (
   read-name-reads.Asked,
   read-name-reads.Learnt,
@@ -572,7 +531,6 @@ read-script-returns-12 : (t : ℕ) → read-script-lts.Need-returns-12 (
 ) (read-script-at t) read-script.Post
 read-script-returns-12 t c = two-ends _ _ _ _ (script-is _ _ _ _ (omega arith) 0x74 (c .before .before .before .before .before .match .keys4)) (c .before .before .before .before .read-script3 .ensures) (c .before .before .second3 .given .1) (c .read-script4 .ensures)
 
--- src/script.rt:170:1
 read-script-returns-13 : (t : ℕ) → read-script-lts.Need-returns-13 (
   read-name-reads.Asked,
   read-name-reads.Learnt,

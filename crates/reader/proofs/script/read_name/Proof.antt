@@ -1,3 +1,4 @@
+-- `reader::script::read_name` meets its contract.
 use native.Mathlib.Omega.{arith}
 use mathlib.Core.Path.{_∙_}
 use Rattle.laws.proofs.Reading.{name-none, name-out, name-is, name-others, variable-is, variable-bad, variable-cut, constant-is, constant-bad, constant-cut}
@@ -5,75 +6,55 @@ use Rattle.reader.proofs.Ends.{none-ends, leaf-ends}
 use borrow.Author.Needs.{needs}
 use Rattle.reader.proofs.script.read_name.Statement.{statement}
 use Rattle.reader.proofs.script.read_name.Tie as tie
-use Rattle.reader.proofs.script.read_name.Reads as reads
-use Rattle.reader.proofs.script.read_name.Lts as lts
-use Rattle.reader.proofs.script.word_at.Reads as word-at-reads
 
--- src/script.rt:27:9
 returns : tie.Need-returns
 returns c = none-ends (rw (c .if1 .taken) (name-none _ _ _))
 
--- src/script.rt:30:9
 returns-2 : tie.Need-returns-2
 returns-2 c = none-ends (name-out _ _ _ _ (omega arith) (c .if2 .taken))
 
--- src/script.rt:32:16
 shared-slice-read-kind : tie.Need-shared-slice-read-kind
 shared-slice-read-kind c = search needs
 
--- src/script.rt:33:16
 sub-room : tie.Need-sub-room
 sub-room c = search needs
 
--- src/script.rt:37:17
 returns-3 : tie.Need-returns-3
 returns-3 c = none-ends (name-is _ _ _ _ (omega arith) 0x31 (c .before .match .keys1) ∙ variable-cut (c .before .before .before .before .before .before .args .script .now) (c .before .before .before .before .before .before .args .terms) (c .before .before .before .before .before .before .args .at) (omega arith))
 
--- src/script.rt:39:23
 add-if4 : tie.Need-add-if4
 add-if4 c = search needs
 
--- src/script.rt:39:16
 shared-slice-read-if4 : tie.Need-shared-slice-read-if4
 shared-slice-read-if4 c = search needs
 
--- src/script.rt:40:28
 add-t18 : tie.Need-add-t18
 add-t18 c = search needs
 
--- src/script.rt:47:17
 returns-4 : tie.Need-returns-4
 returns-4 c = none-ends (name-is _ _ _ _ (omega arith) 0x32 (c .before .match .keys2) ∙ constant-cut (c .before .before .before .before .before .before .args .script .now) (c .before .before .before .before .before .before .args .terms) (c .before .before .before .before .before .before .args .at) (omega arith))
 
--- src/script.rt:49:42
 add-word-at : tie.Need-add-word-at
 add-word-at c = search needs
 
--- src/script.rt:49:17
 word-at-requires : tie.Need-word-at-requires
 word-at-requires c κs = search needs
 
--- src/script.rt:51:28
 add-t22 : tie.Need-add-t22
 add-t22 c = search needs
 
--- src/script.rt:23:1
 returns-5 : tie.Need-returns-5
 returns-5 c = leaf-ends (name-is _ _ _ _ (omega arith) 0x31 (c .before .before .before .match .keys1) ∙ variable-is (c .before .before .before .before .before .before .before .before .args .script .now) (c .before .before .before .before .before .before .before .before .args .terms) (c .before .before .before .before .before .before .before .before .args .at) (omega arith) (omega arith))
 
--- src/script.rt:23:1
 returns-6 : tie.Need-returns-6
 returns-6 c = none-ends (name-is _ _ _ _ (omega arith) 0x31 (c .before .before .before .match .keys1) ∙ variable-bad (c .before .before .before .before .before .before .before .before .args .script .now) (c .before .before .before .before .before .before .before .before .args .terms) (c .before .before .before .before .before .before .before .before .args .at) (omega arith) (omega arith))
 
--- src/script.rt:23:1
 returns-7 : tie.Need-returns-7
 returns-7 c = leaf-ends (name-is _ _ _ _ (omega arith) 0x32 (c .before .before .before .match .keys2) ∙ constant-is (c .before .before .before .before .before .before .before .before .args .script .now) (c .before .before .before .before .before .before .before .before .args .terms) (c .before .before .before .before .before .before .before .before .args .at) (omega arith) (omega arith))
 
--- src/script.rt:23:1
 returns-8 : tie.Need-returns-8
 returns-8 c = none-ends (name-is _ _ _ _ (omega arith) 0x32 (c .before .before .before .match .keys2) ∙ constant-bad (c .before .before .before .before .before .before .before .before .args .script .now) (c .before .before .before .before .before .before .before .before .args .terms) (c .before .before .before .before .before .before .before .before .args .at) (omega arith) (omega arith))
 
--- src/script.rt:23:1
 returns-9 : tie.Need-returns-9
 returns-9 c = none-ends (name-others _ _ _ _ (omega arith) (c .match .rest))
 

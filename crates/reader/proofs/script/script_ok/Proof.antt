@@ -1,29 +1,22 @@
+-- `reader::script::script_ok` meets its contract.
 use mathlib.Core.Path.{sym, _∙_}
 use Rattle.reader.proofs.Ends.{whole-fails, whole-ends}
 use borrow.Author.Needs.{needs}
 use Rattle.reader.proofs.script.script_ok.Statement.{statement}
 use Rattle.reader.proofs.script.script_ok.Tie as tie
-use Rattle.reader.proofs.script.script_ok.Reads as reads
-use Rattle.reader.proofs.script.script_ok.Lts as lts
-use Rattle.reader.proofs.script.read_script.Reads as read-script-reads
 
--- src/script.rt:218:27
 read-script-requires : tie.Need-read-script-requires
 read-script-requires c κs = search needs
 
--- src/script.rt:218:20
 enum-known-end : tie.Need-enum-known-end
 enum-known-end c = search needs
 
--- src/script.rt:219:9
 enum-told : tie.Need-enum-told
 enum-told c = search needs
 
--- src/script.rt:219:9
 returns : tie.Need-returns
 returns c = whole-fails _ _ (sym (c .before .before .read-script .ensures) ∙ c .enum-told .given .1)
 
--- src/script.rt:215:1
 returns-2 : tie.Need-returns-2
 returns-2 c = whole-ends _ _ (sym (c .before .before .before .read-script .ensures) ∙ c .before .end .given .1)
 

@@ -1,40 +1,31 @@
+-- `reader::script::word_at` meets its contract.
 use native.Mathlib.Omega.{arith}
 use Prim.Native.Nat.{_+_}
 use borrow.Author.Needs.{needs}
 use Rattle.reader.proofs.script.word_at.Statement.{statement}
 use Rattle.reader.proofs.script.word_at.Tie as tie
-use Rattle.reader.proofs.script.word_at.Reads as reads
-use Rattle.reader.proofs.script.word_at.Lts as lts
 
--- src/script.rt:19:5
 shared-slice-read-result : tie.Need-shared-slice-read-result
 shared-slice-read-result c = search needs
 
--- src/script.rt:19:5
 cast-result : tie.Need-cast-result
 cast-result c = omega (arith, c .shared-slice-known .given (c .before .args .at))
 
--- src/script.rt:19:31
 add-result : tie.Need-add-result
 add-result c = search needs
 
--- src/script.rt:19:29
 shared-slice-read-result-2 : tie.Need-shared-slice-read-result-2
 shared-slice-read-result-2 c = search needs
 
--- src/script.rt:19:29
 cast-result-2 : tie.Need-cast-result-2
 cast-result-2 c = omega (arith, c .shared-slice-known2 .given (c .before .before .args .at + 1))
 
--- src/script.rt:19:22
 mul-result : tie.Need-mul-result
 mul-result c = omega (arith, c .shared-slice-known2 .given (c .before .before .args .at + 1))
 
--- src/script.rt:19:5
 add-result-2 : tie.Need-add-result-2
 add-result-2 c = omega (arith, c .shared-slice-known2 .given (c .before .before .args .at + 1), c .shared-slice-known2 .given (c .before .before .args .at))
 
--- src/script.rt:15:1
 returns : tie.Need-returns
 returns c = search needs
 

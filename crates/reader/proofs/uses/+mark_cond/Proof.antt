@@ -1,6 +1,7 @@
+-- `reader::uses::mark_cond` meets its contract.
 use borrow.Author.Needs.{needs}
 use native.Mathlib.Omega.{arith}
-use mathlib.Core.Path.{_≡_, refl}
+use mathlib.Core.Path.{_≡_}
 use lib.ListN.{length}
 use Rattle.definitions.specs.Scope.{inExpr, inCond}
 use Rattle.laws.proofs.Reading.{cond-is}
@@ -28,7 +29,6 @@ abbrev mark-cond-below : ℕ → In 1 mark-cond-kinds.ps
 mark-cond-below t =
     and 1 mark-cond-kinds.ps (falls 1 mark-cond-kinds.ps _<_ μ-mark-cond t) mark-cond.Pre
 
--- src/uses.rt:66:16
 mark-cond-shared-slice-read-kind : (t : ℕ) → mark-cond-lts.Need-shared-slice-read-kind (
   mark-cond-below t,
   mark-cond.Post,
@@ -37,7 +37,6 @@ mark-cond-shared-slice-read-kind : (t : ℕ) → mark-cond-lts.Need-shared-slice
 ) (mark-cond-at t) mark-cond.Post
 mark-cond-shared-slice-read-kind t c = cond-inside _ _ _ _ (c .before .before .pre .1)
 
--- src/uses.rt:67:17
 mark-cond-add-first : (t : ℕ) → mark-cond-lts.Need-add-first (
   mark-cond-below t,
   mark-cond.Post,
@@ -46,7 +45,6 @@ mark-cond-add-first : (t : ℕ) → mark-cond-lts.Need-add-first (
 ) (mark-cond-at t) mark-cond.Post
 mark-cond-add-first t c = omega (arith, cond-inside _ _ _ _ (c .before .before .pre .1))
 
--- src/uses.rt:68:17
 mark-cond-sub-below : (t : ℕ) → mark-cond-lts.Need-sub-below (
   mark-cond-below t,
   mark-cond.Post,
@@ -55,7 +53,6 @@ mark-cond-sub-below : (t : ℕ) → mark-cond-lts.Need-sub-below (
 ) (mark-cond-at t) mark-cond.Post
 mark-cond-sub-below t c = cond-pos _ _ _ _ (c .before .before .pre .1)
 
--- src/uses.rt:73:17
 mark-cond-mark-cond-requires : (t : ℕ) → mark-cond-lts.Need-mark-cond-requires (
   mark-cond-below t,
   mark-cond.Post,
@@ -64,7 +61,6 @@ mark-cond-mark-cond-requires : (t : ℕ) → mark-cond-lts.Need-mark-cond-requir
 ) (mark-cond-at t) mark-cond.Post
 mark-cond-mark-cond-requires t c κs = (omega (arith, (cond-pos _ _ _ _ (c .before .before .before .pre .1))), first-loads _ _ _ _ (cond-is _ _ _ _ (cond-pos _ _ _ _ (c .before .before .before .pre .1)) 0x52 (c .match .keys3)) (c .before .before .before .pre .1))
 
--- src/uses.rt:75:13
 mark-cond-mark-cond-requires-2 : (t : ℕ) → mark-cond-lts.Need-mark-cond-requires-2 (
   mark-cond-below t,
   mark-cond.Post,
@@ -73,7 +69,6 @@ mark-cond-mark-cond-requires-2 : (t : ℕ) → mark-cond-lts.Need-mark-cond-requ
 ) (mark-cond-at t) mark-cond.Post
 mark-cond-mark-cond-requires-2 t c κs = (omega (arith, (cond-pos _ _ _ _ (c .before .before .before .before .before .pre .1))), second-walks _ _ _ _ (cond-is _ _ _ _ (cond-pos _ _ _ _ (c .before .before .before .before .before .pre .1)) 0x52 (c .before .before .match .keys3)) (c .before .mark-cond .ensures) (c .before .before .before .before .before .pre .1))
 
--- src/uses.rt:78:17
 mark-cond-mark-cond-requires-3 : (t : ℕ) → mark-cond-lts.Need-mark-cond-requires-3 (
   mark-cond-below t,
   mark-cond.Post,
@@ -82,7 +77,6 @@ mark-cond-mark-cond-requires-3 : (t : ℕ) → mark-cond-lts.Need-mark-cond-requ
 ) (mark-cond-at t) mark-cond.Post
 mark-cond-mark-cond-requires-3 t c κs = (omega (arith, (cond-pos _ _ _ _ (c .before .before .before .pre .1))), first-loads _ _ _ _ (cond-is _ _ _ _ (cond-pos _ _ _ _ (c .before .before .before .pre .1)) 0x53 (c .match .keys4)) (c .before .before .before .pre .1))
 
--- src/uses.rt:80:13
 mark-cond-mark-cond-requires-4 : (t : ℕ) → mark-cond-lts.Need-mark-cond-requires-4 (
   mark-cond-below t,
   mark-cond.Post,
@@ -91,7 +85,6 @@ mark-cond-mark-cond-requires-4 : (t : ℕ) → mark-cond-lts.Need-mark-cond-requ
 ) (mark-cond-at t) mark-cond.Post
 mark-cond-mark-cond-requires-4 t c κs = (omega (arith, (cond-pos _ _ _ _ (c .before .before .before .before .before .pre .1))), second-walks _ _ _ _ (cond-is _ _ _ _ (cond-pos _ _ _ _ (c .before .before .before .before .before .pre .1)) 0x53 (c .before .before .match .keys4)) (c .before .mark-cond3 .ensures) (c .before .before .before .before .before .pre .1))
 
--- src/uses.rt:82:17
 mark-cond-mark-cond-requires-5 : (t : ℕ) → mark-cond-lts.Need-mark-cond-requires-5 (
   mark-cond-below t,
   mark-cond.Post,
@@ -100,7 +93,6 @@ mark-cond-mark-cond-requires-5 : (t : ℕ) → mark-cond-lts.Need-mark-cond-requ
 ) (mark-cond-at t) mark-cond.Post
 mark-cond-mark-cond-requires-5 t c κs = (omega (arith, (cond-pos _ _ _ _ (c .before .before .before .pre .1))), only-loads _ _ (cond-is _ _ _ _ (cond-pos _ _ _ _ (c .before .before .before .pre .1)) 0x54 (c .match .keys5)) (c .before .before .before .pre .1))
 
--- src/uses.rt:83:42
 mark-cond-add-mark-expr : (t : ℕ) → mark-cond-lts.Need-add-mark-expr (
   mark-cond-below t,
   mark-cond.Post,
@@ -109,7 +101,6 @@ mark-cond-add-mark-expr : (t : ℕ) → mark-cond-lts.Need-add-mark-expr (
 ) (mark-cond-at t) mark-cond.Post
 mark-cond-add-mark-expr t c = omega (arith, (pattern-of _ _ _ _ (c .before .before .before .pre .1) (c .match .keys6)))
 
--- src/uses.rt:83:17
 mark-cond-mark-expr-requires : (t : ℕ) → mark-cond-lts.Need-mark-expr-requires (
   mark-cond-below t,
   mark-cond.Post,
@@ -118,7 +109,6 @@ mark-cond-mark-expr-requires : (t : ℕ) → mark-cond-lts.Need-mark-expr-requir
 ) (mark-cond-at t) mark-cond.Post
 mark-cond-mark-expr-requires t c κs = only-loads _ _ ((pattern-of _ _ _ _ (c .before .before .before .pre .1) (c .match .keys6)) .3) (c .before .before .before .pre .1)
 
--- src/uses.rt:84:42
 mark-cond-add-mark-expr-2 : (t : ℕ) → mark-cond-lts.Need-add-mark-expr-2 (
   mark-cond-below t,
   mark-cond.Post,
@@ -127,7 +117,6 @@ mark-cond-add-mark-expr-2 : (t : ℕ) → mark-cond-lts.Need-add-mark-expr-2 (
 ) (mark-cond-at t) mark-cond.Post
 mark-cond-add-mark-expr-2 t c = omega (arith, (range-of _ _ _ _ (c .before .before .before .pre .1) (c .match .keys7)))
 
--- src/uses.rt:84:17
 mark-cond-mark-expr-requires-2 : (t : ℕ) → mark-cond-lts.Need-mark-expr-requires-2 (
   mark-cond-below t,
   mark-cond.Post,
@@ -136,7 +125,6 @@ mark-cond-mark-expr-requires-2 : (t : ℕ) → mark-cond-lts.Need-mark-expr-requ
 ) (mark-cond-at t) mark-cond.Post
 mark-cond-mark-expr-requires-2 t c κs = only-loads _ _ ((range-of _ _ _ _ (c .before .before .before .pre .1) (c .match .keys7)) .3) (c .before .before .before .pre .1)
 
--- src/uses.rt:86:17
 mark-cond-mark-expr-requires-3 : (t : ℕ) → mark-cond-lts.Need-mark-expr-requires-3 (
   mark-cond-below t,
   mark-cond.Post,
@@ -145,7 +133,6 @@ mark-cond-mark-expr-requires-3 : (t : ℕ) → mark-cond-lts.Need-mark-expr-requ
 ) (mark-cond-at t) mark-cond.Post
 mark-cond-mark-expr-requires-3 t c κs = first-loads _ _ _ _ (cond-is _ _ _ _ (cond-pos _ _ _ _ (c .before .before .before .pre .1)) 0x57 (c .match .keys8)) (c .before .before .before .pre .1)
 
--- src/uses.rt:88:13
 mark-cond-mark-expr-requires-4 : (t : ℕ) → mark-cond-lts.Need-mark-expr-requires-4 (
   mark-cond-below t,
   mark-cond.Post,
@@ -154,7 +141,6 @@ mark-cond-mark-expr-requires-4 : (t : ℕ) → mark-cond-lts.Need-mark-expr-requ
 ) (mark-cond-at t) mark-cond.Post
 mark-cond-mark-expr-requires-4 t c κs = second-walks _ _ _ _ (cond-is _ _ _ _ (cond-pos _ _ _ _ (c .before .before .before .before .before .pre .1)) 0x57 (c .before .before .match .keys8)) (c .before .mark-expr3 .ensures) (c .before .before .before .before .before .pre .1)
 
--- src/uses.rt:91:17
 mark-cond-mark-expr-requires-5 : (t : ℕ) → mark-cond-lts.Need-mark-expr-requires-5 (
   mark-cond-below t,
   mark-cond.Post,
@@ -163,7 +149,6 @@ mark-cond-mark-expr-requires-5 : (t : ℕ) → mark-cond-lts.Need-mark-expr-requ
 ) (mark-cond-at t) mark-cond.Post
 mark-cond-mark-expr-requires-5 t c κs = first-loads _ _ _ _ (cond-is _ _ _ _ (cond-pos _ _ _ _ (c .before .before .before .pre .1)) 0x58 (cond-last _ _ _ _ (c .before .before .before .pre .1) (c .match .rest))) (c .before .before .before .pre .1)
 
--- src/uses.rt:93:13
 mark-cond-mark-expr-requires-6 : (t : ℕ) → mark-cond-lts.Need-mark-expr-requires-6 (
   mark-cond-below t,
   mark-cond.Post,
@@ -172,7 +157,6 @@ mark-cond-mark-expr-requires-6 : (t : ℕ) → mark-cond-lts.Need-mark-expr-requ
 ) (mark-cond-at t) mark-cond.Post
 mark-cond-mark-expr-requires-6 t c κs = second-walks _ _ _ _ (cond-is _ _ _ _ (cond-pos _ _ _ _ (c .before .before .before .before .before .pre .1)) 0x58 (cond-last _ _ _ _ (c .before .before .before .before .before .pre .1) (c .before .before .match .rest))) (c .before .mark-expr5 .ensures) (c .before .before .before .before .before .pre .1)
 
--- src/uses.rt:62:1
 mark-cond-returns : (t : ℕ) → mark-cond-lts.Need-returns (
   mark-cond-below t,
   mark-cond.Post,
@@ -182,7 +166,6 @@ mark-cond-returns : (t : ℕ) → mark-cond-lts.Need-returns (
 unfolding inCond
 mark-cond-returns t c = let n : length (c .before .before .before .args .free) ≡ 16 = search needs in leaf-walked (cond-is _ _ _ _ (cond-pos _ _ _ _ (c .before .before .before .pre .1)) 0x50 (c .match .keys1)) (marks-none (c .before .before .before .args .hidden) (c .before .before .before .args .free) n)
 
--- src/uses.rt:62:1
 mark-cond-returns-2 : (t : ℕ) → mark-cond-lts.Need-returns-2 (
   mark-cond-below t,
   mark-cond.Post,
@@ -192,7 +175,6 @@ mark-cond-returns-2 : (t : ℕ) → mark-cond-lts.Need-returns-2 (
 unfolding inCond
 mark-cond-returns-2 t c = let n : length (c .before .before .before .args .free) ≡ 16 = search needs in leaf-walked (cond-is _ _ _ _ (cond-pos _ _ _ _ (c .before .before .before .pre .1)) 0x51 (c .match .keys2)) (marks-none (c .before .before .before .args .hidden) (c .before .before .before .args .free) n)
 
--- src/uses.rt:62:1
 mark-cond-returns-3 : (t : ℕ) → mark-cond-lts.Need-returns-3 (
   mark-cond-below t,
   mark-cond.Post,
@@ -202,7 +184,6 @@ mark-cond-returns-3 : (t : ℕ) → mark-cond-lts.Need-returns-3 (
 unfolding inCond
 mark-cond-returns-3 t c = two-walked _ _ _ _ (cond-is _ _ _ _ (cond-pos _ _ _ _ (c .before .before .before .before .before .before .pre .1)) 0x52 (c .before .before .before .match .keys3)) (c .before .before .mark-cond .ensures) (c .mark-cond2 .ensures) (λ a b. marks-two (c .before .before .before .before .before .before .args .hidden) (c .before .before .before .before .before .before .args .free) (λ v. inCond v a) (λ v. inCond v b))
 
--- src/uses.rt:62:1
 mark-cond-returns-4 : (t : ℕ) → mark-cond-lts.Need-returns-4 (
   mark-cond-below t,
   mark-cond.Post,
@@ -212,7 +193,6 @@ mark-cond-returns-4 : (t : ℕ) → mark-cond-lts.Need-returns-4 (
 unfolding inCond
 mark-cond-returns-4 t c = two-walked _ _ _ _ (cond-is _ _ _ _ (cond-pos _ _ _ _ (c .before .before .before .before .before .before .pre .1)) 0x53 (c .before .before .before .match .keys4)) (c .before .before .mark-cond3 .ensures) (c .mark-cond4 .ensures) (λ a b. marks-two (c .before .before .before .before .before .before .args .hidden) (c .before .before .before .before .before .before .args .free) (λ v. inCond v a) (λ v. inCond v b))
 
--- src/uses.rt:62:1
 mark-cond-returns-5 : (t : ℕ) → mark-cond-lts.Need-returns-5 (
   mark-cond-below t,
   mark-cond.Post,
@@ -222,7 +202,6 @@ mark-cond-returns-5 : (t : ℕ) → mark-cond-lts.Need-returns-5 (
 unfolding inCond
 mark-cond-returns-5 t c = one-walked _ _ (cond-is _ _ _ _ (cond-pos _ _ _ _ (c .before .before .before .before .pre .1)) 0x54 (c .before .match .keys5)) (c .mark-cond5 .ensures) (λ e h. h)
 
--- src/uses.rt:62:1
 mark-cond-returns-6 : (t : ℕ) → mark-cond-lts.Need-returns-6 (
   mark-cond-below t,
   mark-cond.Post,
@@ -232,7 +211,6 @@ mark-cond-returns-6 : (t : ℕ) → mark-cond-lts.Need-returns-6 (
 unfolding inCond
 mark-cond-returns-6 t c = one-walked _ _ ((pattern-of _ _ _ _ (c .before .before .before .before .pre .1) (c .before .match .keys6)) .3) (c .mark-expr .ensures) (λ e h. h)
 
--- src/uses.rt:62:1
 mark-cond-returns-7 : (t : ℕ) → mark-cond-lts.Need-returns-7 (
   mark-cond-below t,
   mark-cond.Post,
@@ -242,7 +220,6 @@ mark-cond-returns-7 : (t : ℕ) → mark-cond-lts.Need-returns-7 (
 unfolding inCond
 mark-cond-returns-7 t c = one-walked _ _ ((range-of _ _ _ _ (c .before .before .before .before .pre .1) (c .before .match .keys7)) .3) (c .mark-expr2 .ensures) (λ e h. h)
 
--- src/uses.rt:62:1
 mark-cond-returns-8 : (t : ℕ) → mark-cond-lts.Need-returns-8 (
   mark-cond-below t,
   mark-cond.Post,
@@ -252,7 +229,6 @@ mark-cond-returns-8 : (t : ℕ) → mark-cond-lts.Need-returns-8 (
 unfolding inCond
 mark-cond-returns-8 t c = two-walked _ _ _ _ (cond-is _ _ _ _ (cond-pos _ _ _ _ (c .before .before .before .before .before .before .pre .1)) 0x57 (c .before .before .before .match .keys8)) (c .before .before .mark-expr3 .ensures) (c .mark-expr4 .ensures) (λ a b. marks-two (c .before .before .before .before .before .before .args .hidden) (c .before .before .before .before .before .before .args .free) (λ v. inExpr v a) (λ v. inExpr v b))
 
--- src/uses.rt:62:1
 mark-cond-returns-9 : (t : ℕ) → mark-cond-lts.Need-returns-9 (
   mark-cond-below t,
   mark-cond.Post,

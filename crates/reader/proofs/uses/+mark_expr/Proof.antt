@@ -1,3 +1,4 @@
+-- `reader::uses::mark_expr` meets its contract.
 use borrow.Author.Needs.{needs}
 use native.Mathlib.Omega.{arith}
 use mathlib.Core.Path.{_≡_, refl}
@@ -28,7 +29,6 @@ abbrev mark-expr-below : ℕ → In 1 mark-expr-kinds.ps
 mark-expr-below t =
     and 1 mark-expr-kinds.ps (falls 1 mark-expr-kinds.ps _<_ μ-mark-expr t) mark-expr.Pre
 
--- src/uses.rt:40:16
 mark-expr-shared-slice-read-kind : (t : ℕ) → mark-expr-lts.Need-shared-slice-read-kind (
   mark-name-reads.Asked,
   mark-name-reads.Learnt,
@@ -37,7 +37,6 @@ mark-expr-shared-slice-read-kind : (t : ℕ) → mark-expr-lts.Need-shared-slice
 ) (mark-expr-at t) mark-expr.Post
 mark-expr-shared-slice-read-kind t c = expr-inside _ _ _ _ (c .before .before .pre .1)
 
--- src/uses.rt:41:17
 mark-expr-add-first : (t : ℕ) → mark-expr-lts.Need-add-first (
   mark-name-reads.Asked,
   mark-name-reads.Learnt,
@@ -46,7 +45,6 @@ mark-expr-add-first : (t : ℕ) → mark-expr-lts.Need-add-first (
 ) (mark-expr-at t) mark-expr.Post
 mark-expr-add-first t c = omega (arith, expr-inside _ _ _ _ (c .before .before .pre .1))
 
--- src/uses.rt:42:17
 mark-expr-sub-below : (t : ℕ) → mark-expr-lts.Need-sub-below (
   mark-name-reads.Asked,
   mark-name-reads.Learnt,
@@ -55,7 +53,6 @@ mark-expr-sub-below : (t : ℕ) → mark-expr-lts.Need-sub-below (
 ) (mark-expr-at t) mark-expr.Post
 mark-expr-sub-below t c = expr-pos _ _ _ _ (c .before .before .pre .1)
 
--- src/uses.rt:44:17
 mark-expr-mark-name-requires : (t : ℕ) → mark-expr-lts.Need-mark-name-requires (
   mark-name-reads.Asked,
   mark-name-reads.Learnt,
@@ -64,7 +61,6 @@ mark-expr-mark-name-requires : (t : ℕ) → mark-expr-lts.Need-mark-name-requir
 ) (mark-expr-at t) mark-expr.Post
 mark-expr-mark-name-requires t c κs = name-in-expr _ _ _ _ (c .before .before .before .pre .1) 0x31 (c .match .keys1) refl .0
 
--- src/uses.rt:45:17
 mark-expr-mark-name-requires-2 : (t : ℕ) → mark-expr-lts.Need-mark-name-requires-2 (
   mark-name-reads.Asked,
   mark-name-reads.Learnt,
@@ -73,7 +69,6 @@ mark-expr-mark-name-requires-2 : (t : ℕ) → mark-expr-lts.Need-mark-name-requ
 ) (mark-expr-at t) mark-expr.Post
 mark-expr-mark-name-requires-2 t c κs = name-in-expr _ _ _ _ (c .before .before .before .pre .1) 0x32 (c .match .keys2) refl .0
 
--- src/uses.rt:47:17
 mark-expr-mark-expr-requires : (t : ℕ) → mark-expr-lts.Need-mark-expr-requires (
   mark-name-reads.Asked,
   mark-name-reads.Learnt,
@@ -82,7 +77,6 @@ mark-expr-mark-expr-requires : (t : ℕ) → mark-expr-lts.Need-mark-expr-requir
 ) (mark-expr-at t) mark-expr.Post
 mark-expr-mark-expr-requires t c κs = (omega (arith, (expr-pos _ _ _ _ (c .before .before .before .pre .1))), only-loads _ _ (expr-is _ _ _ _ (expr-pos _ _ _ _ (c .before .before .before .pre .1)) 0x42 (c .match .keys4)) (c .before .before .before .pre .1))
 
--- src/uses.rt:48:17
 mark-expr-mark-expr-requires-2 : (t : ℕ) → mark-expr-lts.Need-mark-expr-requires-2 (
   mark-name-reads.Asked,
   mark-name-reads.Learnt,
@@ -91,7 +85,6 @@ mark-expr-mark-expr-requires-2 : (t : ℕ) → mark-expr-lts.Need-mark-expr-requ
 ) (mark-expr-at t) mark-expr.Post
 mark-expr-mark-expr-requires-2 t c κs = (omega (arith, (expr-pos _ _ _ _ (c .before .before .before .pre .1))), only-loads _ _ (expr-is _ _ _ _ (expr-pos _ _ _ _ (c .before .before .before .pre .1)) 0x43 (c .match .keys5)) (c .before .before .before .pre .1))
 
--- src/uses.rt:50:17
 mark-expr-mark-expr-requires-3 : (t : ℕ) → mark-expr-lts.Need-mark-expr-requires-3 (
   mark-name-reads.Asked,
   mark-name-reads.Learnt,
@@ -100,7 +93,6 @@ mark-expr-mark-expr-requires-3 : (t : ℕ) → mark-expr-lts.Need-mark-expr-requ
 ) (mark-expr-at t) mark-expr.Post
 mark-expr-mark-expr-requires-3 t c κs = (omega (arith, (expr-pos _ _ _ _ (c .before .before .before .pre .1))), first-loads _ _ _ _ (expr-is _ _ _ _ (expr-pos _ _ _ _ (c .before .before .before .pre .1)) 0x44 (c .match .keys6)) (c .before .before .before .pre .1))
 
--- src/uses.rt:52:13
 mark-expr-mark-expr-requires-4 : (t : ℕ) → mark-expr-lts.Need-mark-expr-requires-4 (
   mark-name-reads.Asked,
   mark-name-reads.Learnt,
@@ -109,7 +101,6 @@ mark-expr-mark-expr-requires-4 : (t : ℕ) → mark-expr-lts.Need-mark-expr-requ
 ) (mark-expr-at t) mark-expr.Post
 mark-expr-mark-expr-requires-4 t c κs = (omega (arith, (expr-pos _ _ _ _ (c .before .before .before .before .before .pre .1))), second-walks _ _ _ _ (expr-is _ _ _ _ (expr-pos _ _ _ _ (c .before .before .before .before .before .pre .1)) 0x44 (c .before .before .match .keys6)) (c .before .mark-expr3 .ensures) (c .before .before .before .before .before .pre .1))
 
--- src/uses.rt:55:17
 mark-expr-mark-expr-requires-5 : (t : ℕ) → mark-expr-lts.Need-mark-expr-requires-5 (
   mark-name-reads.Asked,
   mark-name-reads.Learnt,
@@ -118,7 +109,6 @@ mark-expr-mark-expr-requires-5 : (t : ℕ) → mark-expr-lts.Need-mark-expr-requ
 ) (mark-expr-at t) mark-expr.Post
 mark-expr-mark-expr-requires-5 t c κs = (omega (arith, (expr-pos _ _ _ _ (c .before .before .before .pre .1))), first-loads _ _ _ _ (expr-is _ _ _ _ (expr-pos _ _ _ _ (c .before .before .before .pre .1)) 0x45 (expr-last _ _ _ _ (c .before .before .before .pre .1) (c .match .rest))) (c .before .before .before .pre .1))
 
--- src/uses.rt:57:13
 mark-expr-mark-expr-requires-6 : (t : ℕ) → mark-expr-lts.Need-mark-expr-requires-6 (
   mark-name-reads.Asked,
   mark-name-reads.Learnt,
@@ -127,7 +117,6 @@ mark-expr-mark-expr-requires-6 : (t : ℕ) → mark-expr-lts.Need-mark-expr-requ
 ) (mark-expr-at t) mark-expr.Post
 mark-expr-mark-expr-requires-6 t c κs = (omega (arith, (expr-pos _ _ _ _ (c .before .before .before .before .before .pre .1))), second-walks _ _ _ _ (expr-is _ _ _ _ (expr-pos _ _ _ _ (c .before .before .before .before .before .pre .1)) 0x45 (expr-last _ _ _ _ (c .before .before .before .before .before .pre .1) (c .before .before .match .rest))) (c .before .mark-expr5 .ensures) (c .before .before .before .before .before .pre .1))
 
--- src/uses.rt:36:1
 mark-expr-returns : (t : ℕ) → mark-expr-lts.Need-returns (
   mark-name-reads.Asked,
   mark-name-reads.Learnt,
@@ -137,7 +126,6 @@ mark-expr-returns : (t : ℕ) → mark-expr-lts.Need-returns (
 unfolding inExpr
 mark-expr-returns t c = one-walked _ _ (name-in-expr _ _ _ _ (c .before .before .before .before .pre .1) 0x31 (c .before .match .keys1) refl .1) (c .mark-name .ensures) (λ n h. h)
 
--- src/uses.rt:36:1
 mark-expr-returns-2 : (t : ℕ) → mark-expr-lts.Need-returns-2 (
   mark-name-reads.Asked,
   mark-name-reads.Learnt,
@@ -147,7 +135,6 @@ mark-expr-returns-2 : (t : ℕ) → mark-expr-lts.Need-returns-2 (
 unfolding inExpr
 mark-expr-returns-2 t c = one-walked _ _ (name-in-expr _ _ _ _ (c .before .before .before .before .pre .1) 0x32 (c .before .match .keys2) refl .1) (c .mark-name2 .ensures) (λ n h. h)
 
--- src/uses.rt:36:1
 mark-expr-returns-3 : (t : ℕ) → mark-expr-lts.Need-returns-3 (
   mark-name-reads.Asked,
   mark-name-reads.Learnt,
@@ -157,7 +144,6 @@ mark-expr-returns-3 : (t : ℕ) → mark-expr-lts.Need-returns-3 (
 unfolding inExpr
 mark-expr-returns-3 t c = let n : length (c .before .before .before .args .free) ≡ 16 = search needs in leaf-walked (expr-is _ _ _ _ (expr-pos _ _ _ _ (c .before .before .before .pre .1)) 0x41 (c .match .keys3)) (marks-none (c .before .before .before .args .hidden) (c .before .before .before .args .free) n)
 
--- src/uses.rt:36:1
 mark-expr-returns-4 : (t : ℕ) → mark-expr-lts.Need-returns-4 (
   mark-name-reads.Asked,
   mark-name-reads.Learnt,
@@ -167,7 +153,6 @@ mark-expr-returns-4 : (t : ℕ) → mark-expr-lts.Need-returns-4 (
 unfolding inExpr
 mark-expr-returns-4 t c = one-walked _ _ (expr-is _ _ _ _ (expr-pos _ _ _ _ (c .before .before .before .before .pre .1)) 0x42 (c .before .match .keys4)) (c .mark-expr .ensures) (λ e h. h)
 
--- src/uses.rt:36:1
 mark-expr-returns-5 : (t : ℕ) → mark-expr-lts.Need-returns-5 (
   mark-name-reads.Asked,
   mark-name-reads.Learnt,
@@ -177,7 +162,6 @@ mark-expr-returns-5 : (t : ℕ) → mark-expr-lts.Need-returns-5 (
 unfolding inExpr
 mark-expr-returns-5 t c = one-walked _ _ (expr-is _ _ _ _ (expr-pos _ _ _ _ (c .before .before .before .before .pre .1)) 0x43 (c .before .match .keys5)) (c .mark-expr2 .ensures) (λ e h. h)
 
--- src/uses.rt:36:1
 mark-expr-returns-6 : (t : ℕ) → mark-expr-lts.Need-returns-6 (
   mark-name-reads.Asked,
   mark-name-reads.Learnt,
@@ -187,7 +171,6 @@ mark-expr-returns-6 : (t : ℕ) → mark-expr-lts.Need-returns-6 (
 unfolding inExpr
 mark-expr-returns-6 t c = two-walked _ _ _ _ (expr-is _ _ _ _ (expr-pos _ _ _ _ (c .before .before .before .before .before .before .pre .1)) 0x44 (c .before .before .before .match .keys6)) (c .before .before .mark-expr3 .ensures) (c .mark-expr4 .ensures) (λ a b. marks-two (c .before .before .before .before .before .before .args .hidden) (c .before .before .before .before .before .before .args .free) (λ v. inExpr v a) (λ v. inExpr v b))
 
--- src/uses.rt:36:1
 mark-expr-returns-7 : (t : ℕ) → mark-expr-lts.Need-returns-7 (
   mark-name-reads.Asked,
   mark-name-reads.Learnt,

@@ -1,6 +1,7 @@
+-- `reader::uses::mark_query` meets its contract.
 use borrow.Author.Needs.{needs}
 use native.Mathlib.Omega.{arith}
-use mathlib.Core.Path.{_≡_, refl}
+use mathlib.Core.Path.{_≡_}
 use lib.ListN.{length}
 use Rattle.definitions.specs.Scope.{inName, inQuery}
 use Rattle.laws.proofs.Reading.{query-is}
@@ -30,7 +31,6 @@ abbrev mark-query-below : ℕ → In 1 mark-query-kinds.ps
 mark-query-below t =
     and 1 mark-query-kinds.ps (falls 1 mark-query-kinds.ps _<_ μ-mark-query t) mark-query.Pre
 
--- src/uses.rt:102:16
 mark-query-shared-slice-read-kind : (t : ℕ) → mark-query-lts.Need-shared-slice-read-kind (
   mark-name-reads.Asked,
   mark-name-reads.Learnt,
@@ -41,7 +41,6 @@ mark-query-shared-slice-read-kind : (t : ℕ) → mark-query-lts.Need-shared-sli
 ) (mark-query-at t) mark-query.Post
 mark-query-shared-slice-read-kind t c = query-inside _ _ _ _ (c .before .before .pre .1)
 
--- src/uses.rt:103:17
 mark-query-add-first : (t : ℕ) → mark-query-lts.Need-add-first (
   mark-name-reads.Asked,
   mark-name-reads.Learnt,
@@ -52,7 +51,6 @@ mark-query-add-first : (t : ℕ) → mark-query-lts.Need-add-first (
 ) (mark-query-at t) mark-query.Post
 mark-query-add-first t c = omega (arith, query-inside _ _ _ _ (c .before .before .pre .1))
 
--- src/uses.rt:104:17
 mark-query-sub-below : (t : ℕ) → mark-query-lts.Need-sub-below (
   mark-name-reads.Asked,
   mark-name-reads.Learnt,
@@ -63,7 +61,6 @@ mark-query-sub-below : (t : ℕ) → mark-query-lts.Need-sub-below (
 ) (mark-query-at t) mark-query.Post
 mark-query-sub-below t c = query-pos _ _ _ _ (c .before .before .pre .1)
 
--- src/uses.rt:107:17
 mark-query-mark-name-requires : (t : ℕ) → mark-query-lts.Need-mark-name-requires (
   mark-name-reads.Asked,
   mark-name-reads.Learnt,
@@ -74,7 +71,6 @@ mark-query-mark-name-requires : (t : ℕ) → mark-query-lts.Need-mark-name-requ
 ) (mark-query-at t) mark-query.Post
 mark-query-mark-name-requires t c κs = four-first _ _ _ (query-is _ _ _ _ (query-pos _ _ _ _ (c .before .before .before .pre .1)) 0x61 (c .match .keys1)) (c .before .before .before .pre .1)
 
--- src/uses.rt:109:17
 mark-query-mark-name-requires-2 : (t : ℕ) → mark-query-lts.Need-mark-name-requires-2 (
   mark-name-reads.Asked,
   mark-name-reads.Learnt,
@@ -85,7 +81,6 @@ mark-query-mark-name-requires-2 : (t : ℕ) → mark-query-lts.Need-mark-name-re
 ) (mark-query-at t) mark-query.Post
 mark-query-mark-name-requires-2 t c κs = four-second _ _ _ (query-is _ _ _ _ (query-pos _ _ _ _ (c .before .before .before .before .before .pre .1)) 0x61 (c .before .before .match .keys1)) (c .before .mark-name .ensures) (c .before .before .before .before .before .pre .1)
 
--- src/uses.rt:111:17
 mark-query-mark-name-requires-3 : (t : ℕ) → mark-query-lts.Need-mark-name-requires-3 (
   mark-name-reads.Asked,
   mark-name-reads.Learnt,
@@ -96,7 +91,6 @@ mark-query-mark-name-requires-3 : (t : ℕ) → mark-query-lts.Need-mark-name-re
 ) (mark-query-at t) mark-query.Post
 mark-query-mark-name-requires-3 t c κs = first-loads _ _ _ _ (four-two _ _ _ (query-is _ _ _ _ (query-pos _ _ _ _ (c .before .before .before .before .before .before .before .pre .1)) 0x61 (c .before .before .before .before .match .keys1)) (c .before .before .before .mark-name .ensures) (c .before .mark-name2 .ensures)) (c .before .before .before .before .before .before .before .pre .1)
 
--- src/uses.rt:113:13
 mark-query-mark-name-requires-4 : (t : ℕ) → mark-query-lts.Need-mark-name-requires-4 (
   mark-name-reads.Asked,
   mark-name-reads.Learnt,
@@ -107,7 +101,6 @@ mark-query-mark-name-requires-4 : (t : ℕ) → mark-query-lts.Need-mark-name-re
 ) (mark-query-at t) mark-query.Post
 mark-query-mark-name-requires-4 t c κs = second-walks _ _ _ _ (four-two _ _ _ (query-is _ _ _ _ (query-pos _ _ _ _ (c .before .before .before .before .before .before .before .before .before .pre .1)) 0x61 (c .before .before .before .before .before .before .match .keys1)) (c .before .before .before .before .before .mark-name .ensures) (c .before .before .before .mark-name2 .ensures)) (c .before .mark-name3 .ensures) (c .before .before .before .before .before .before .before .before .before .pre .1)
 
--- src/uses.rt:116:17
 mark-query-mark-query-requires : (t : ℕ) → mark-query-lts.Need-mark-query-requires (
   mark-name-reads.Asked,
   mark-name-reads.Learnt,
@@ -118,7 +111,6 @@ mark-query-mark-query-requires : (t : ℕ) → mark-query-lts.Need-mark-query-re
 ) (mark-query-at t) mark-query.Post
 mark-query-mark-query-requires t c κs = (omega (arith, (query-pos _ _ _ _ (c .before .before .before .pre .1))), first-loads _ _ _ _ (query-is _ _ _ _ (query-pos _ _ _ _ (c .before .before .before .pre .1)) 0x62 (c .match .keys2)) (c .before .before .before .pre .1))
 
--- src/uses.rt:118:13
 mark-query-mark-query-requires-2 : (t : ℕ) → mark-query-lts.Need-mark-query-requires-2 (
   mark-name-reads.Asked,
   mark-name-reads.Learnt,
@@ -129,7 +121,6 @@ mark-query-mark-query-requires-2 : (t : ℕ) → mark-query-lts.Need-mark-query-
 ) (mark-query-at t) mark-query.Post
 mark-query-mark-query-requires-2 t c κs = (omega (arith, (query-pos _ _ _ _ (c .before .before .before .before .before .pre .1))), second-walks _ _ _ _ (query-is _ _ _ _ (query-pos _ _ _ _ (c .before .before .before .before .before .pre .1)) 0x62 (c .before .before .match .keys2)) (c .before .mark-query .ensures) (c .before .before .before .before .before .pre .1))
 
--- src/uses.rt:121:17
 mark-query-mark-query-requires-3 : (t : ℕ) → mark-query-lts.Need-mark-query-requires-3 (
   mark-name-reads.Asked,
   mark-name-reads.Learnt,
@@ -140,7 +131,6 @@ mark-query-mark-query-requires-3 : (t : ℕ) → mark-query-lts.Need-mark-query-
 ) (mark-query-at t) mark-query.Post
 mark-query-mark-query-requires-3 t c κs = (omega (arith, (query-pos _ _ _ _ (c .before .before .before .pre .1))), first-loads _ _ _ _ (query-is _ _ _ _ (query-pos _ _ _ _ (c .before .before .before .pre .1)) 0x63 (c .match .keys3)) (c .before .before .before .pre .1))
 
--- src/uses.rt:123:13
 mark-query-mark-query-requires-4 : (t : ℕ) → mark-query-lts.Need-mark-query-requires-4 (
   mark-name-reads.Asked,
   mark-name-reads.Learnt,
@@ -151,7 +141,6 @@ mark-query-mark-query-requires-4 : (t : ℕ) → mark-query-lts.Need-mark-query-
 ) (mark-query-at t) mark-query.Post
 mark-query-mark-query-requires-4 t c κs = (omega (arith, (query-pos _ _ _ _ (c .before .before .before .before .before .pre .1))), second-walks _ _ _ _ (query-is _ _ _ _ (query-pos _ _ _ _ (c .before .before .before .before .before .pre .1)) 0x63 (c .before .before .match .keys3)) (c .before .mark-query3 .ensures) (c .before .before .before .before .before .pre .1))
 
--- src/uses.rt:125:17
 mark-query-mark-cond-requires : (t : ℕ) → mark-query-lts.Need-mark-cond-requires (
   mark-name-reads.Asked,
   mark-name-reads.Learnt,
@@ -162,7 +151,6 @@ mark-query-mark-cond-requires : (t : ℕ) → mark-query-lts.Need-mark-cond-requ
 ) (mark-query-at t) mark-query.Post
 mark-query-mark-cond-requires t c κs = only-loads _ _ (query-is _ _ _ _ (query-pos _ _ _ _ (c .before .before .before .pre .1)) 0x64 (c .match .keys4)) (c .before .before .before .pre .1)
 
--- src/uses.rt:98:1
 mark-query-returns : (t : ℕ) → mark-query-lts.Need-returns (
   mark-name-reads.Asked,
   mark-name-reads.Learnt,
@@ -174,7 +162,6 @@ mark-query-returns : (t : ℕ) → mark-query-lts.Need-returns (
 unfolding inQuery
 mark-query-returns t c = four-walked _ _ _ (query-is _ _ _ _ (query-pos _ _ _ _ (c .before .before .before .before .before .before .before .before .before .before .pre .1)) 0x61 (c .before .before .before .before .before .before .before .match .keys1)) (c .before .before .before .before .before .before .mark-name .ensures) (c .before .before .before .before .mark-name2 .ensures) (c .before .before .mark-name3 .ensures) (c .mark-name4 .ensures) (λ g s p o h i j k. marks-two (c .before .before .before .before .before .before .before .before .before .before .args .hidden) (c .before .before .before .before .before .before .before .before .before .before .args .free) (λ v. inName v g) _ h (marks-two (c .before .before .before .before .before .before .before .before .before .before .args .hidden) _ (λ v. inName v s) _ i (marks-two (c .before .before .before .before .before .before .before .before .before .before .args .hidden) _ (λ v. inName v p) (λ v. inName v o) j k)))
 
--- src/uses.rt:98:1
 mark-query-returns-2 : (t : ℕ) → mark-query-lts.Need-returns-2 (
   mark-name-reads.Asked,
   mark-name-reads.Learnt,
@@ -186,7 +173,6 @@ mark-query-returns-2 : (t : ℕ) → mark-query-lts.Need-returns-2 (
 unfolding inQuery
 mark-query-returns-2 t c = two-walked _ _ _ _ (query-is _ _ _ _ (query-pos _ _ _ _ (c .before .before .before .before .before .before .pre .1)) 0x62 (c .before .before .before .match .keys2)) (c .before .before .mark-query .ensures) (c .mark-query2 .ensures) (λ a b. marks-two (c .before .before .before .before .before .before .args .hidden) (c .before .before .before .before .before .before .args .free) (λ v. inQuery v a) (λ v. inQuery v b))
 
--- src/uses.rt:98:1
 mark-query-returns-3 : (t : ℕ) → mark-query-lts.Need-returns-3 (
   mark-name-reads.Asked,
   mark-name-reads.Learnt,
@@ -198,7 +184,6 @@ mark-query-returns-3 : (t : ℕ) → mark-query-lts.Need-returns-3 (
 unfolding inQuery
 mark-query-returns-3 t c = two-walked _ _ _ _ (query-is _ _ _ _ (query-pos _ _ _ _ (c .before .before .before .before .before .before .pre .1)) 0x63 (c .before .before .before .match .keys3)) (c .before .before .mark-query3 .ensures) (c .mark-query4 .ensures) (λ a b. marks-two (c .before .before .before .before .before .before .args .hidden) (c .before .before .before .before .before .before .args .free) (λ v. inQuery v a) (λ v. inQuery v b))
 
--- src/uses.rt:98:1
 mark-query-returns-4 : (t : ℕ) → mark-query-lts.Need-returns-4 (
   mark-name-reads.Asked,
   mark-name-reads.Learnt,
@@ -210,7 +195,6 @@ mark-query-returns-4 : (t : ℕ) → mark-query-lts.Need-returns-4 (
 unfolding inQuery
 mark-query-returns-4 t c = one-walked _ _ (query-is _ _ _ _ (query-pos _ _ _ _ (c .before .before .before .before .pre .1)) 0x64 (c .before .match .keys4)) (c .mark-cond .ensures) (λ e h. h)
 
--- src/uses.rt:98:1
 mark-query-returns-5 : (t : ℕ) → mark-query-lts.Need-returns-5 (
   mark-name-reads.Asked,
   mark-name-reads.Learnt,

@@ -1,3 +1,4 @@
+-- `reader::uses::mark_name` meets its contract.
 use borrow.Author.Needs.{needs}
 use native.Mathlib.Omega.{arith}
 use mathlib.Core.Path.{_≡_}
@@ -8,51 +9,38 @@ use Rattle.laws.proofs.Walked.{leaf-walked}
 use Rattle.reader.proofs.MarkLaws.{marks-none, marks-one}
 use Rattle.reader.proofs.uses.mark_name.Statement.{statement}
 use Rattle.reader.proofs.uses.mark_name.Tie as tie
-use Rattle.reader.proofs.uses.mark_name.Reads as reads
-use Rattle.reader.proofs.uses.mark_name.Lts as lts
 
--- src/uses.rt:20:16
 shared-slice-read-kind : tie.Need-shared-slice-read-kind
 shared-slice-read-kind c = name-inside _ _ _ _ (c .before .pre)
 
--- src/uses.rt:23:28
 add-v : tie.Need-add-v
 add-v c = omega (arith, variable-of _ _ _ _ (c .before .before .pre) (c .match .keys1))
 
--- src/uses.rt:23:21
 shared-slice-read-v : tie.Need-shared-slice-read-v
 shared-slice-read-v c = omega (arith, variable-of _ _ _ _ (c .before .before .before .pre) (c .before .match .keys1))
 
--- src/uses.rt:23:21
 cast-v : tie.Need-cast-v
 cast-v c = omega (arith, variable-of _ _ _ _ (c .before .before .before .pre) (c .before .match .keys1))
 
--- src/uses.rt:25:24
 array-read-after : tie.Need-array-read-after
 array-read-after c = omega (arith, variable-of _ _ _ _ (c .before .before .before .pre) (c .before .match .keys1))
 
--- src/uses.rt:25:35
 array-read-after-2 : tie.Need-array-read-after-2
 array-read-after-2 c = omega (arith, variable-of _ _ _ _ (c .before .before .before .pre) (c .before .match .keys1))
 
--- src/uses.rt:25:13
 array-write-after : tie.Need-array-write-after
 array-write-after c = omega (arith, variable-of _ _ _ _ (c .before .before .before .pre) (c .before .match .keys1))
 
--- src/uses.rt:26:24
 add-next : tie.Need-add-next
 add-next c = omega (arith, variable-of _ _ _ _ (c .before .before .before .pre) (c .before .match .keys1))
 
--- src/uses.rt:30:24
 add-next-2 : tie.Need-add-next-2
 add-next-2 c = omega (arith, constant-of _ _ _ _ (c .before .before .pre) (name-last _ _ _ _ (c .before .before .pre) (c .match .rest)))
 
--- src/uses.rt:16:1
 returns : tie.Need-returns
 unfolding inName
 returns c = let n : length (c .before .before .before .args .t6) ≡ 16 = search needs in leaf-walked (variable-of _ _ _ _ (c .before .before .before .pre) (c .before .match .keys1) .2) (marks-one (c .before .before .before .args .t5) (c .before .before .before .args .t6) _ n (omega (arith, variable-of _ _ _ _ (c .before .before .before .pre) (c .before .match .keys1))))
 
--- src/uses.rt:16:1
 returns-2 : tie.Need-returns-2
 unfolding inName
 returns-2 c = let n : length (c .before .before .args .t6) ≡ 16 = search needs in leaf-walked (constant-of _ _ _ _ (c .before .before .pre) (name-last _ _ _ _ (c .before .before .pre) (c .match .rest)) .2) (marks-none (c .before .before .args .t5) (c .before .before .args .t6) n)

@@ -9,7 +9,7 @@ shared-slice-read-if1 : tie.Need-shared-slice-read-if1
 shared-slice-read-if1 c = search needs
 
 search-requires : tie.Need-search-requires
-search-requires c κs = (c .before .before .before .before .pre .0, caret-there (c .before .before .before .before .args .pattern .now) (c .if1 .taken))
+search-requires c κs = (c .before .before .before .before .pre, caret-there (c .before .before .before .before .args .pattern .now) (c .if1 .taken))
 
 returns : tie.Need-returns
 returns c = with-caret (c .before .before .before .before .before .args .pattern .now) (c .before .before .before .before .before .args .field .now) _ (c .search .result .anywhere) (c .before .if1 .taken) (c .search .ensures)

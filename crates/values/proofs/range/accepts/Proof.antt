@@ -1,5 +1,5 @@
 -- `values::range::accepts` meets its contract, by the laws of LanguageRanges.
-use Rattle.values.proofs.LanguageRanges.{accepts-all, range-fine, accepts-beginning}
+use Rattle.values.proofs.LanguageRanges.{accepts-all, accepts-beginning}
 use borrow.Author.Needs.{needs}
 use Rattle.values.proofs.range.accepts.Statement.{statement}
 use Rattle.values.proofs.range.accepts.Tie as tie
@@ -11,7 +11,7 @@ returns : tie.Need-returns
 returns c = accepts-all (c .before .before .before .before .args .range .now) _ (c .if1 .taken)
 
 goes-on-requires : tie.Need-goes-on-requires
-goes-on-requires c κs = (c .before .before .before .before .pre .0, (c .before .before .before .before .pre .1 .0, range-fine (c .before .before .before .before .args .range .now) (c .if1 .left) (c .before .before .before .before .pre .1 .1)))
+goes-on-requires c κs = (c .before .before .before .before .pre .0, c .before .before .before .before .pre .1)
 
 returns-2 : tie.Need-returns-2
 returns-2 c = accepts-beginning (c .before .before .before .before .before .args .range .now) (c .before .if1 .left) _ (c .goes-on .result) (c .goes-on .ensures)

@@ -1,0 +1,172 @@
+// One step of the machine: what its top item does.
+use crate::Stepped;
+use crate::canonical::first_numbers;
+use crate::quads::number_at;
+use crate::stack::bind_tuple;
+use crate::stack::fresh_item;
+use crate::stack::index;
+use crate::stack::is_fetched;
+use crate::stack::pop;
+use crate::stack::push;
+use crate::stack::replace;
+use definitions::RunState;
+use definitions::SavedItem;
+use definitions::SavedRun;
+use reader::Read;
+use reader::script::read_name;
+use reader::script::read_query;
+use reader::script::read_script;
+ghost use mathlib.Core.Path.{_≡_};
+ghost use Prim.Native.Nat.{_+_};
+ghost use Rattle.definitions.specs.Bytes.{byte};
+ghost use Rattle.machine.specs.Steps.{movedTo, standsAt, OnTop, Acts, NameReads, NumberOf, BlockReads, BodyAt, answerOf, EntersOnce, EntersEach};
+
+fn moved(saved: SavedRun) -> Stepped
+    ensures { λ r. ⌜ r ≡ movedTo saved ⌝ }
+{
+    Stepped {
+        moved: true,
+        ending: RunState::Spent,
+        saved,
+    }
+}
+
+fn stands(saved: SavedRun, ending: RunState) -> Stepped
+    ensures { λ r. ⌜ r ≡ standsAt saved ending ⌝ }
+{
+    Stepped {
+        moved: false,
+        ending,
+        saved,
+    }
+}
+
+// Success is dropped.
+fn drop_success(run: SavedRun, script: &[u8], known: usize, at: usize) -> Stepped
+    requires { ⌜ OnTop (now script) known run at ⌝ }
+    requires { ⌜ byte (now script) at ≡ 0x71 ⌝ }
+    ensures { λ r. ⌜ ((x : OnTop (now (script .entry)) known run at) → Acts x r) ⌝ }
+{
+    moved(pop(run))
+}
+
+// A sequence becomes its first script on top of its second.
+fn enter_sequence(run: SavedRun, script: &[u8], known: usize, at: usize) -> Stepped
+    requires { ⌜ OnTop (now script) known run at ⌝ }
+    requires { ⌜ byte (now script) at ≡ 0x74 ⌝ }
+    ensures { λ r. ⌜ ((x : OnTop (now (script .entry)) known run at) → Acts x r) ⌝ }
+{
+    let first = at + 1;
+    let Read::Next(second) = read_script(script, known, first, 24) else {
+        return stands(run, RunState::Ended);
+    };
+    let below = fresh_item(second as u16);
+    let above = fresh_item(first as u16);
+    let rest = replace(run, below);
+    moved(push(rest, above))
+}
+
+// The term number that a name stands for: a variable's, or a constant's own.
+fn number_of(run: SavedRun, script: &[u8], at: usize) -> u16
+    requires { ⌜ NameReads (now script) at ⌝ }
+    ensures { λ r. ⌜ NumberOf run (now (script .entry)) at r ⌝ }
+{
+    let first = at + 1;
+    let kind = script[at];
+    if kind == 0x31 {
+        let v = index(script[first]);
+        return run.bindings[v];
+    }
+    number_at(script, first)
+}
+
+// From named a fetched graph becomes its script; another graph is wanted.
+fn enter_named(run: SavedRun, script: &[u8], known: usize, at: usize) -> Stepped
+    requires { ⌜ OnTop (now script) known run at ⌝ }
+    requires { ⌜ byte (now script) at ≡ 0x72 ⌝ }
+    ensures { λ r. ⌜ ((x : OnTop (now (script .entry)) known run at) → Acts x r) ⌝ }
+{
+    let name = at + 1;
+    let Read::Next(body) = read_name(script, known, name, 24) else {
+        return stands(run, RunState::Ended);
+    };
+    let graph = number_of(run, script, name);
+    if is_fetched(run, graph) {
+        let item = fresh_item(body as u16);
+        return moved(replace(run, item));
+    }
+    stands(run, RunState::Wanted(graph))
+}
+
+// The offset of a block's script, after its query.
+fn block_body(script: &[u8], known: usize, at: usize) -> usize
+    requires { ⌜ BlockReads (now script) known at ⌝ }
+    ensures { λ r. ⌜ BodyAt (now (script .entry)) known at r ⌝ }
+{
+    let query = at + 11;
+    let Read::Next(body) = read_query(script, known, query, 24) else {
+        return at;
+    };
+    body
+}
+
+// A once block binds its answer and becomes its script; with none it waits.
+fn enter_once(
+    run: SavedRun,
+    script: &[u8],
+    known: usize,
+    at: usize,
+    body: usize,
+    found: bool,
+    tuple: [u16; 4],
+) -> Stepped
+    requires { ⌜ OnTop (now script) known run at ⌝ }
+    requires { ⌜ byte (now script) at ≡ 0x73 ⌝ }
+    requires { ⌜ BodyAt (now script) known at body ⌝ }
+    ensures { λ r. ⌜ ((x : OnTop (now (script .entry)) known run at) → EntersOnce x (answerOf found (byte (now (script .entry)) (at + 2)) tuple) r) ⌝ }
+{
+    if !found {
+        return stands(run, RunState::Waiting);
+    }
+    let second = at + 2;
+    let pairs = at + 3;
+    let count = index(script[second]);
+    let bound = bind_tuple(run, script, pairs, count, tuple);
+    let item = fresh_item(body as u16);
+    moved(replace(bound, item))
+}
+
+// An each block binds its answer and puts its script on top of itself; with none it is dropped.
+fn enter_each(
+    run: SavedRun,
+    script: &[u8],
+    known: usize,
+    at: usize,
+    body: usize,
+    found: bool,
+    tuple: [u16; 4],
+) -> Stepped
+    requires { ⌜ OnTop (now script) known run at ⌝ }
+    requires { ⌜ byte (now script) at ≡ 0x73 ⌝ }
+    requires { ⌜ BodyAt (now script) known at body ⌝ }
+    ensures { λ r. ⌜ ((x : OnTop (now (script .entry)) known run at) → EntersEach x (answerOf found (byte (now (script .entry)) (at + 2)) tuple) r) ⌝ }
+{
+    if !found {
+        return moved(pop(run));
+    }
+    let second = at + 2;
+    let pairs = at + 3;
+    let variables = script[second];
+    let count = index(variables);
+    let bound = bind_tuple(run, script, pairs, count, tuple);
+    let last = first_numbers(variables, tuple);
+    let place = at as u16;
+    let used = SavedItem {
+        at: place,
+        started: true,
+        last,
+    };
+    let below = replace(bound, used);
+    let item = fresh_item(body as u16);
+    moved(push(below, item))
+}

@@ -1,0 +1,222 @@
+-- One kind of expression, boolean or query: what the code makes of the parts' values is the machine's, wherever the machine meets no fault.
+use Prim.Native.Nat.{ℕ, _≤_, _<_}
+use native.Mathlib.Omega.{arith}
+use mir.Syntax.{w64}
+use mir.Val.{SFits, toZ, ofZ}
+use mir.Facts.{toZ-ofZ}
+use mathlib.Core.Path.{_≡_, refl, sym, _∙_, ap, ap₂, subst, subst⁻¹}
+use mathlib.Core.List.{List, []}
+use mathlib.Core.Bool.{Bool, true, false, cond, _&&_, _||_}
+use mathlib.Core.Bool as Bools
+use mathlib.Core.Option.{Option, none, some}
+use lib.Dec.{T, eqb, ltb}
+use lib.IntN.{ℤ}
+use lib.ListN.{length, getElem?}
+use Rattle.definitions.specs.Bytes.{Got, signed}
+use Rattle.definitions.specs.Limits.{variableLimit}
+use Rattle.definitions.specs.Terms.{Term, Schema, isDateTime}
+use Rattle.definitions.specs.Text.{Pattern, LanguageRange, accepts, matches}
+use Rattle.definitions.specs.Tree.{Name, Expr, Cond, Query}
+use Rattle.definitions.specs.Outcome.{Outcome, ok, _>>=_}
+use Rattle.definitions.specs.Values.{Value as Meant, valueOf, sum, difference, absolute, textOf, Pair, paired, equalPair, lessPair, stringIn, holdsOf}
+use Rattle.definitions.specs.Evaluate.{Quad, stored, named, numberOf, expression, condition, query}
+use Rattle.definitions.specs.Saved.{termsIn}
+use Rattle.laws.proofs.Options.{some-is, same-some}
+use Rattle.laws.proofs.Sound.{NameBounded}
+use Rattle.laws.proofs.Walked.{Walked}
+use Rattle.values.specs.Meaning.{meaning, Good, Gives, Tells, compared, textTest}
+use Rattle.values.specs.Whole.{Holds}
+use Rattle.values.specs.declared.Value.{Value}
+use Rattle.query.specs.Seek.{Place, fixed, Places, scan}
+use Rattle.query.specs.Codes.{soughtCode, placeAt, placesAt, numberAt, bindingsOf, codeOf, Coded}
+use Rattle.query.specs.declared.Four.{Four}
+use borrow.Author.Tests.{ltb-true}
+use Rattle.query.specs.Eval.{Lent, ValueOf, TruthOf, HoldsOf, NumberGives}
+use Rattle.query.proofs.Outcomes.{ok-is, then-ok}
+use Rattle.query.proofs.Patterns.{named-ok, PatternOk, pattern-ok}
+use Rattle.query.proofs.CodeLaws.{at-fixed, code-number}
+use Rattle.query.proofs.Exact.{scan-exact}
+
+-- ── a part, and what is made of it ──────────────────────────────────────────────────────────
+
+pub holds-gives : {r : Value} {v : Meant} → Holds r v → Gives r (ok v)
+holds-gives h = record { good = h .good; is = λ x e. h .is ∙ ok-is e }
+
+-- the clock's number as the code has it
+module _ (clock : ℕ) (n : ℤ) (fits : SFits w64 n) (e : n ≡ signed clock) where
+  pub clock-within : T (isDateTime (signed clock)) → T (isDateTime (toZ w64 (ofZ w64 n)))
+  clock-within = subst⁻¹ (λ z. T (isDateTime z)) (toZ-ofZ fits ∙ e)
+
+  pub clock-gives : {r : Value} → Holds r (Meant.dateTime (toZ w64 (ofZ w64 n))) → Gives r (ok (Meant.dateTime (signed clock)))
+  clock-gives {r} h = subst (λ z. Gives r (ok (Meant.dateTime z))) (toZ-ofZ fits ∙ e) (holds-gives h)
+
+gives-then : {a r : Value} {m : Outcome Meant} (f : Meant → Outcome Meant) → Gives a m → Gives r (f (meaning a)) → Gives r (m >>= f)
+gives-then {a} {r} {m} f h k = record {
+  good = k .good;
+  is = λ v e. let (x, ex, ef) = then-ok e in k .is v (ap f (h .is x ex) ∙ ef);
+}
+
+gives-tells : {a : Value} {r : Bool} {m : Outcome Meant} (f : Meant → Outcome Bool) → Gives a m → Tells r (f (meaning a)) → Tells r (m >>= f)
+gives-tells f h k b e = let (x, ex, ef) = then-ok e in k b (ap f (h .is x ex) ∙ ef)
+
+-- a Boolean of the parts' Booleans
+tells-one : {a : Bool} {m : Outcome Bool} (f : Bool → Bool) → Tells a m → Tells (f a) (m >>= λ x. ok (f x))
+tells-one f h b e = let (x, ex, ef) = then-ok e in ap f (h x ex) ∙ ok-is ef
+
+tells-two : {a b : Bool} {m n : Outcome Bool} (f : Bool → Bool → Bool) → Tells a m → Tells b n → Tells (f a b) (m >>= λ x. n >>= λ y. ok (f x y))
+tells-two f h k b e =
+    let (x, ex, e₁) = then-ok e in
+    let (y, ey, e₂) = then-ok e₁ in
+    ap₂ f (h x ex) (k y ey) ∙ ok-is e₂
+
+-- ── expressions ─────────────────────────────────────────────────────────────────────────────
+
+module _ (table known : List ℕ) (clock : ℕ) where
+  pub good-value : (count : ℕ) {v : Value} {o : Got Expr} {n : ℕ} → Lent table known count clock → Walked (ValueOf table known clock v) o n → Good v
+  good-value count l w = w .holds [] (l .terms) [] (l .tabled) .good
+
+  pub name-value : (n : Name) (code : ℕ) (v : Value) → (code ≡ codeOf known variableLimit n) × NameBounded soughtCode n → NumberGives table v code
+      → ValueOf table known clock v (Expr.name n)
+  unfolding expression
+  name-value n code v c h S terms quads t = record {
+    good = h terms t .0;
+    is = λ x e.
+      let (y, ey, ex) = then-ok e in
+      let k = named-ok terms (bindingsOf known) n y ey in
+      h terms t .1 (y .term) (rw (number (y .number) (ap numberAt (c .0) ∙ (code-number known n (c .1) ∙ k .number))) (k .term)) ∙ ok-is ex;
+  }
+    where
+      number : (i : ℕ) → numberAt code ≡ some i → code ≡ i
+      number i e = go (ltb code soughtCode) e
+        where
+          go : (b : Bool) → cond b (some code) none ≡ some i → code ≡ i
+          go true e = some-is e
+          go false e = cc
+
+  pub now-value : {r : Value} → Gives r (ok (Meant.dateTime (signed clock))) → ValueOf table known clock r Expr.now
+  unfolding expression
+  now-value g S terms quads t = g
+
+  module _ {a r : Value} (e : Expr) (h : ValueOf table known clock a e) where
+    pub str-value : Gives r (ok (Meant.string (textOf (meaning a)))) → ValueOf table known clock r (Expr.str e)
+    unfolding expression
+    str-value g S terms quads t = gives-then (λ x. ok (Meant.string (textOf x))) (h S terms quads t) g
+
+    pub abs-value : Gives r (absolute (meaning a)) → ValueOf table known clock r (Expr.abs e)
+    unfolding expression
+    abs-value g S terms quads t = gives-then absolute (h S terms quads t) g
+
+    module _ {b : Value} (f : Expr) (k : ValueOf table known clock b f) where
+      pub plus-value : Gives r (sum (meaning a) (meaning b)) → ValueOf table known clock r (Expr.plus e f)
+      unfolding expression
+      plus-value g S terms quads t =
+          gives-then (λ x. expression S (signed clock) terms quads (bindingsOf known) f >>= λ y. sum x y) (h S terms quads t)
+          (gives-then (sum (meaning a)) (k S terms quads t) g)
+
+      pub minus-value : Gives r (difference (meaning a) (meaning b)) → ValueOf table known clock r (Expr.minus e f)
+      unfolding expression
+      minus-value g S terms quads t =
+          gives-then (λ x. expression S (signed clock) terms quads (bindingsOf known) f >>= λ y. difference x y) (h S terms quads t)
+          (gives-then (difference (meaning a)) (k S terms quads t) g)
+
+  -- ── booleans ──────────────────────────────────────────────────────────────────────────────
+
+  pub no-truth : TruthOf table known clock false Cond.no
+  unfolding condition
+  no-truth S terms quads t b e = ok-is e
+
+  pub yes-truth : TruthOf table known clock true Cond.yes
+  unfolding condition
+  yes-truth S terms quads t b e = ok-is e
+
+  module _ {a : Bool} (c : Cond) (h : TruthOf table known clock a c) where
+    pub not-truth : TruthOf table known clock (Bools.not a) (Cond.not c)
+    unfolding condition
+    not-truth S terms quads t = tells-one Bools.not (h S terms quads t)
+
+    module _ {b : Bool} (d : Cond) (k : TruthOf table known clock b d) where
+      pub or-truth : TruthOf table known clock (a || b) (Cond.or c d)
+      unfolding condition
+      or-truth S terms quads t = tells-two _||_ (h S terms quads t) (k S terms quads t)
+
+      pub and-truth : TruthOf table known clock (a && b) (Cond.and c d)
+      unfolding condition
+      and-truth S terms quads t = tells-two _&&_ (h S terms quads t) (k S terms quads t)
+
+  module _ {a : Value} {r : Bool} (e : Expr) (h : ValueOf table known clock a e) where
+    pub regex-truth : (p : Pattern) → Tells r (textTest (λ s. accepts p (s .text)) (meaning a)) → TruthOf table known clock r (Cond.regex p e)
+    unfolding condition textTest
+    regex-truth p g S terms quads t = gives-tells (textTest (λ s. accepts p (s .text))) (h S terms quads t) g
+
+    pub language-truth : (p : LanguageRange) → Tells r (textTest (λ s. matches p (s .tag)) (meaning a)) → TruthOf table known clock r (Cond.langMatches p e)
+    unfolding condition textTest
+    language-truth p g S terms quads t = gives-tells (textTest (λ s. matches p (s .tag))) (h S terms quads t) g
+
+    module _ {b : Value} (f : Expr) (k : ValueOf table known clock b f) where
+      compared-tells : (test : Pair → Bool) (S : Schema) (terms : List Term) (quads : List Quad) → termsIn table ≡ some terms
+          → Tells r (compared test (meaning a) (meaning b))
+          → Tells r (expression S (signed clock) terms quads (bindingsOf known) e >>= λ x. expression S (signed clock) terms quads (bindingsOf known) f >>= λ y. compared test x y)
+      compared-tells test S terms quads t g =
+          gives-tells (λ x. expression S (signed clock) terms quads (bindingsOf known) f >>= λ y. compared test x y) (h S terms quads t)
+          (gives-tells (compared test (meaning a)) (k S terms quads t) g)
+
+      pub equal-truth : Tells r (compared equalPair (meaning a) (meaning b)) → TruthOf table known clock r (Cond.equal e f)
+      unfolding condition compared
+      equal-truth g S terms quads t = compared-tells equalPair S terms quads t g
+
+      pub less-truth : Tells r (compared lessPair (meaning a) (meaning b)) → TruthOf table known clock r (Cond.less e f)
+      unfolding condition compared
+      less-truth g S terms quads t = compared-tells lessPair S terms quads t g
+
+  -- ── queries ───────────────────────────────────────────────────────────────────────────────
+
+  module _ (rows : List Quad) where
+    pub filter-holds : {a : Bool} (c : Cond) → TruthOf table known clock a c → HoldsOf table known clock rows a (Query.filter c)
+    unfolding query
+    filter-holds c h S terms t = h S terms rows t
+
+    pub empty-holds : HoldsOf table known clock rows true Query.empty
+    unfolding query
+    empty-holds S terms t b e = ok-is e
+
+    module _ {a b : Bool} (q r : Query) (h : HoldsOf table known clock rows a q) (k : HoldsOf table known clock rows b r) where
+      pub both-holds : HoldsOf table known clock rows (a && b) (Query.both q r)
+      unfolding query
+      both-holds S terms t = tells-two _&&_ (h S terms t) (k S terms t)
+
+      pub union-holds : HoldsOf table known clock rows (a || b) (Query.union q r)
+      unfolding query
+      union-holds S terms t = tells-two _||_ (h S terms t) (k S terms t)
+
+    -- the place of a name that has a number
+    fixed-place : (n : Name) (i : ℕ) → NameBounded soughtCode n → numberOf (bindingsOf known) n ≡ some i → placeAt (codeOf known variableLimit n) ≡ fixed i
+    fixed-place n i b e = go (codeOf known variableLimit n) (code-number known n b ∙ e)
+      where
+        go : (c : ℕ) → numberAt c ≡ some i → placeAt c ≡ fixed i
+        go c e = inner (ltb c soughtCode) refl e
+          where
+            inner : (t : Bool) → ltb c soughtCode ≡ t → cond t (some c) none ≡ some i → placeAt c ≡ fixed i
+            inner true m e = at-fixed c (ltb-true c soughtCode m) ∙ ap fixed (some-is e)
+            inner false m e = cc
+
+    pub pattern-holds : (q : Query) (codes : Four) (least : ℕ) → Coded known variableLimit codes q → least ≡ scan (placesAt codes) 0 1 rows
+        → HoldsOf table known clock rows (eqb least 0) q
+    pattern-holds (Query.both q r) codes least c = absurd c
+    pattern-holds (Query.union q r) codes least c = absurd c
+    pattern-holds (Query.filter c) codes least d = absurd d
+    pattern-holds Query.empty codes least c = absurd c
+    pattern-holds (Query.pattern g s p o) codes least c = λ l S terms t b e.
+        let k = pattern-ok S (signed clock) terms rows (bindingsOf known) g s p o b e in
+        let q = k .quad in
+        let bounded = c .1 in
+        let g′ = fixed-place g (q .graph) (bounded .0) (k .graph) in
+        let s′ = fixed-place s (q .subject) (bounded .1) (k .subject) in
+        let p′ = fixed-place p (q .property) (bounded .2) (k .property) in
+        let o′ = fixed-place o (q .object) (bounded .3) (k .object) in
+        let same : placesAt codes ≡ record { graph = fixed (q .graph); subject = fixed (q .subject); property = fixed (q .property); object = fixed (q .object) } =
+        ap placesAt (c .0) ∙ (λ i. record { graph = g′ i; subject = s′ i; property = p′ i; object = o′ i }) in
+        ap (λ x. eqb x 0) (l ∙ (ap (λ P. scan P 0 1 rows) same ∙ scan-exact q 0 1 (omega arith) rows)) ∙ (tested (stored q rows) ∙ k .isStored)
+      where
+        tested : (b : Bool) → eqb (cond b 0 1) 0 ≡ b
+        tested true = refl
+        tested false = refl

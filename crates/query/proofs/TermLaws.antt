@@ -1,0 +1,47 @@
+-- A term's value by its number: the slot that the code takes from the table is the term's.
+use Prim.Native.Nat.{ℕ, _+_, _*_, _≤_, _<_}
+use native.Mathlib.Omega.{arith}
+use mathlib.Core.Path.{_≡_, ap}
+use mathlib.Core.List.{List}
+use mathlib.Core.Option.{some}
+use lib.ListN.{length, getElem?}
+use Rattle.definitions.specs.Limits.{slotWidth, termLimit, termTableWidth}
+use Rattle.definitions.specs.Bytes.{part}
+use Rattle.definitions.specs.Terms.{Term}
+use Rattle.definitions.specs.Outcome.{Outcome}
+use Rattle.definitions.specs.Values.{Value as Meant, valueOf}
+use Rattle.definitions.specs.Saved.{slotTerm, termsIn}
+use Rattle.laws.proofs.Options.{same-some}
+use Rattle.laws.proofs.Bindings.{there-is, is-below}
+use Rattle.laws.proofs.SlotAt.{terms-few, slot-at}
+use Rattle.values.specs.Meaning.{Gives}
+use Rattle.values.specs.Whole.{Holds}
+use Rattle.values.specs.declared.Value.{Value}
+use Rattle.query.specs.Eval.{Lent, NumberGives}
+
+module _ (table known : List ℕ) (count clock : ℕ) (l : Lent table known count clock) where
+  pub few : count ≤ termLimit
+  few = omega (arith, terms-few table (l .terms) (l .tabled), l .counted)
+
+  module _ (code : ℕ) where
+    -- a number past the table has no term
+    pub past-value : {v : Value} {o : Outcome Meant} → count ≤ code → Gives v o → NumberGives table v code
+    past-value h g terms t =
+        (g .good, λ x e. absurd (omega (arith, is-below terms code x e, ap length (same-some t (l .tabled)), l .counted)))
+
+    module _ (h : code < count) where
+      pub fits : code * slotWidth + slotWidth ≤ length table
+      fits = omega (arith, few, l .size)
+
+      abbrev slot : List ℕ
+      slot = part table (code * slotWidth) slotWidth
+
+      pub slot-there : (t : Term) × (slotTerm slot ≡ some t)
+      slot-there =
+          let t = there-is (l .terms) code (omega (arith, l .counted)) in
+          (t .0, slot-at table (l .terms) (l .tabled) code (t .0) (t .1))
+
+      pub slot-value : {v : Value} → ((t : Term) → slotTerm slot ≡ some t → Holds v (valueOf t)) → NumberGives table v code
+      slot-value g terms t =
+          let s = slot-there in
+          (g (s .0) (s .1) .good, λ x e. g x (slot-at table terms t code x e) .is)

@@ -1,0 +1,4 @@
+pub mod StepSound
+pub mod RunSound
+pub mod RunSteps
+pub mod PageSound

@@ -1,0 +1,71 @@
+-- A run, without its definition by recursion: the states that it passes are steps one after the other, and it goes on until the machine stands
+-- or the budget is spent.
+use Prim.Native.Nat.{ℕ, zero, suc, _≤_}
+use native.Mathlib.Omega.{arith}
+use mathlib.Core.Path.{_≡_, refl, sym, ap, _∙_}
+use mathlib.Core.Logic.{_⊎_, inl, inr}
+use mathlib.Core.List.{List, [], _∷_}
+use lib.ListN.{length}
+use lib.IntN.{ℤ}
+use Rattle.definitions.specs.Terms.{Schema}
+use Rattle.definitions.specs.Typing.{typeAt}
+use Rattle.definitions.specs.Outcome.{Outcome, ok, _>>=_}
+use Rattle.definitions.specs.Search.{Typing}
+use Rattle.definitions.specs.Machine.{State, Next, step, stand, next, Run, still, preceded, endingOf, goOn, run, lastOf}
+use Rattle.definitions.specs.Calls.{Checked}
+use Rattle.definitions.specs.declared.RunState.{RunState}
+use Rattle.definitions.specs.declared.RunState.the-variants.{Spent}
+use Rattle.laws.proofs.Fine.{Fine, fine, fine-then, fine-ok}
+use Rattle.laws.proofs.Sound.{Accepted, Sound}
+use Rattle.safety.proofs.StepSound.{NextSound, next-sound, look-sound}
+
+module _ (S : Schema) (Γ : Typing) (clock : ℤ) where
+  -- each state is one step of the machine after the one before
+  abbrev pub Steps : State → List State → Type 0
+  Steps s [] = Unit {0}
+  Steps s (x ∷ xs) = (next S Γ clock s ≡ ok (step x)) × Steps x xs
+
+  -- ended, wanted or waiting: the machine stands; spent: as many steps as the budget, and there is one more to take
+  abbrev pub Ends : (budget steps : ℕ) → State → RunState → Type 0
+  Ends budget steps s r = (next S Γ clock s ≡ ok (stand r)) ⊎ ((r ≡ Spent) × (steps ≡ budget) × (x : State) × (next S Γ clock s ≡ ok (step x)))
+
+  pub record Took (budget : ℕ) (s : State) (r : Run) : Type 0 where
+    pub steps : Steps s (r .passed)
+    pub few : length (r .passed) ≤ budget
+    pub ends : Ends budget (length (r .passed)) (lastOf s (r .passed)) (r .ending)
+
+module _ (c : Checked) (accepted : Accepted c) (clock : ℤ) where
+  abbrev Γ : Typing
+  Γ = typeAt (c .types)
+
+  -- one more step, and one more of budget
+  longer : (budget steps : ℕ) (s : State) (r : RunState) → Ends (c .schema) Γ clock budget steps s r
+      → Ends (c .schema) Γ clock (suc budget) (suc steps) s r
+  longer budget steps s r (inl e) = inl e
+  longer budget steps s r (inr h) = inr (h .0, ap suc (h .1), h .2, h .3)
+
+  -- with no budget left
+  told : (s : State) (r : RunState) (n : Next) → next (c .schema) Γ clock s ≡ ok n → endingOf n ≡ r → Ends (c .schema) Γ clock 0 0 s r
+  told s r (step x) e f = inr (sym f, refl, x, e)
+  told s r (stand q) e f = inl (e ∙ ap (λ (q : RunState). ok (stand q)) f)
+
+  -- after a step, or where there is none
+  go-on-takes : (budget : ℕ) (more : State → Outcome Run) → ((x : State) → Sound c x → Fine (Took (c .schema) Γ clock budget x) (more x))
+      → (s : State) (n : Next) → next (c .schema) Γ clock s ≡ ok n → NextSound c n → Fine (Took (c .schema) Γ clock (suc budget) s) (goOn more n)
+  unfolding goOn
+  go-on-takes budget more takes s (step x) e k =
+      fine-then (takes x k) λ r t. fine {a = preceded x r} (record {
+        steps = (e, t .steps);
+        few = omega (arith, t .few);
+        ends = longer budget (length (r .passed)) (lastOf x (r .passed)) (r .ending) (t .ends);
+      })
+  go-on-takes budget more takes s (stand q) e k = fine {a = still q} (record { steps = tt; few = omega arith; ends = inl e })
+
+  pub run-takes : (budget : ℕ) (s : State) → Sound c s → Fine (Took (c .schema) Γ clock budget s) (run (c .schema) Γ clock budget s)
+  unfolding run _>>=_
+  run-takes zero s h =
+      fine-then (look-sound c accepted clock s h) λ r p.
+      let n = fine-ok p in fine {a = still r} (record { steps = tt; few = omega arith; ends = told s r (n .0) (n .1) (n .2) })
+  run-takes (suc budget) s h =
+      let n = fine-ok (next-sound c accepted clock s h) in
+      rw (n .1) (go-on-takes budget (run (c .schema) Γ clock budget) (run-takes budget) s (n .0) (n .1) (n .2))

@@ -1,0 +1,1 @@
+// Type safety of the machine, step by step: what run and page calls and the demands rest on. No code.

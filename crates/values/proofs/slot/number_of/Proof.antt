@@ -1,0 +1,20 @@
+-- `values::slot::number_of` meets its contract, by the laws of SlotValues.
+use Rattle.values.proofs.SlotValues.{number-held}
+use borrow.Author.Needs.{needs}
+use Rattle.values.proofs.slot.number_of.Statement.{statement}
+use Rattle.values.proofs.slot.number_of.Tie as tie
+
+long-at-requires : tie.Need-long-at-requires
+long-at-requires c κs = search needs
+
+to-signed-requires : tie.Need-to-signed-requires
+to-signed-requires c κs = search needs
+
+numeric-requires : tie.Need-numeric-requires
+numeric-requires c κs = search needs
+
+returns : tie.Need-returns
+returns c = number-held (c .before .before .before .before .args .kind) (c .numeric .result) (c .before .to-signed .result) (c .before .before .long-at .result) _ (record { sfits = c .before .to-signed .ok }) (c .before .to-signed .ensures) (c .before .before .long-at .ensures) (c .numeric .ensures)
+
+pub number-of-spec : {M : Type 1} → statement M
+number-of-spec = tie.close (tie.spec long-at-requires to-signed-requires numeric-requires returns)

@@ -1,0 +1,40 @@
+-- `values::slot::text_at` meets its contract, by the laws of SlotValues.
+use mathlib.Core.Path.{refl}
+use lib.ListN.{replicate}
+use Rattle.values.proofs.SlotValues.{copied}
+use borrow.Author.Needs.{needs}
+use Rattle.values.proofs.slot.text_at.Statement.{statement}
+use Rattle.values.proofs.slot.text_at.Tie as tie
+
+add-end : tie.Need-add-end
+add-end c = search needs
+
+sub-copy : tie.Need-sub-copy
+sub-copy c = search needs
+
+part-copy-start : tie.Need-part-copy-start
+part-copy-start c = search needs
+
+part-copy-end : tie.Need-part-copy-end
+part-copy-end c = search needs
+
+slice-aggregate-copy : tie.Need-slice-aggregate-copy
+slice-aggregate-copy c = search needs
+
+copy-requires : tie.Need-copy-requires
+copy-requires c κs = search needs
+
+returns : tie.Need-returns
+returns c = copied (c .before .before .before .before .before .args .slot .now) (replicate 40 0) (c .before .before .before .before .before .args .at) 40 (c .before .before .before .before .before .pre) refl (c .before .copy .last .1 .0) (c .before .copy .ensures .1)
+
+pub text-at-spec : {M : Type 1} → statement M
+text-at-spec =
+    tie.close
+    (tie.spec
+    add-end
+    sub-copy
+    part-copy-start
+    part-copy-end
+    slice-aggregate-copy
+    copy-requires
+    returns)

@@ -1,0 +1,30 @@
+-- `values::slot::value_at` meets its contract, by the laws of TextTests.
+use mathlib.Core.Path.{ap, _∙_}
+use Rattle.definitions.specs.Saved.{slotTerm}
+use Rattle.values.proofs.TextTests.{part-is, part-length}
+use borrow.Author.Needs.{needs}
+use Rattle.values.proofs.slot.value_at.Statement.{statement}
+use Rattle.values.proofs.slot.value_at.Tie as tie
+
+add-end : tie.Need-add-end
+add-end c = search needs
+
+sub-in-slot : tie.Need-sub-in-slot
+sub-in-slot c = search needs
+
+part-in-slot-start : tie.Need-part-in-slot-start
+part-in-slot-start c = search needs
+
+part-in-slot-end : tie.Need-part-in-slot-end
+part-in-slot-end c = search needs
+
+in-slot-requires : tie.Need-in-slot-requires
+in-slot-requires c κs = part-length (c .before .before .args .table .now) (c .before .before .args .at) 49 (c .before .before .pre)
+
+returns : tie.Need-returns
+returns c = λ t e. c .in-slot .ensures t (ap slotTerm (part-is (c .before .before .before .args .table .now) (c .before .before .before .args .at) 49) ∙ e)
+
+pub value-at-spec : {M : Type 1} → statement M
+value-at-spec =
+    tie.close
+    (tie.spec add-end sub-in-slot part-in-slot-start part-in-slot-end in-slot-requires returns)
