@@ -1,8 +1,12 @@
-// The C interface: the saved run as bytes and back, and the reports.
+// The C interface: the three calls as other programs link them, over the saved run as bytes and back, and the reports.
+pub mod handing; // handing.rt: what the three calls have in common
 pub mod reading;
 pub mod reports;
 pub mod writing;
 
+ghost use mathlib.Core.Path.{_≡_};
+ghost use Rattle.definitions.specs.Outcome.{ok};
+ghost use Rattle.definitions.specs.Exports.{loadExport, runExport, pageExport};
 use definitions::SavedRun;
 
 // Where the parts of a saved run's bytes begin, the width of an item, and the whole width.
@@ -20,8 +24,145 @@ pub const ITEM_WIDTH: usize = 12;
 
 pub const SAVED_WIDTH: usize = 486;
 
+// The lengths of the lent tables and of the reports.
+pub const TERM_TABLE_WIDTH: usize = 25088;
+
+pub const QUAD_TABLE_WIDTH: usize = 4096;
+
+pub const RUN_REPORT_WIDTH: usize = 8;
+
+pub const PAGE_REPORT_WIDTH: usize = 4;
+
 // What reading a saved run's bytes gives; an enum holds no array.
 pub struct SavedRead {
     pub ok: bool,
     pub saved: SavedRun,
+}
+
+// Load: 1 to 9.
+// Ruled out: a load that ignores the saved buffer's length; a refused load that writes the saved run of zeros.
+#[no_mangle]
+pub extern "C" fn willetcoffer_load(
+    terms: &[u8],
+    schema: &[u8],
+    script: &[u8],
+    term_table: &mut [u8],
+    quad_table: &mut [u8],
+    saved: &mut [u8],
+) -> u32
+    ensures { λ r. ⌜ loadExport
+        (record {
+          terms = now (terms .entry);
+          schema = now (schema .entry);
+          script = now (script .entry);
+          termTable = now («term_table» .entry);
+          quadTable = now («quad_table» .entry);
+        })
+        (now (saved .entry))
+        ≡ record {
+          number = r;
+          termTable = now («term_table» .exit);
+          quadTable = now («quad_table» .exit);
+          saved = now (saved .exit);
+        } ⌝ }
+{
+    if saved.len() != SAVED_WIDTH {
+        return 1;
+    }
+    let loaded = engine::load::load(terms, schema, script, term_table, quad_table);
+    let answer = loaded.answer;
+    let first = loaded.saved;
+    let number = reports::load_number(answer);
+    handing::hand_back(number, first, saved);
+    number
+}
+
+// Run: 1, 10, 11.
+// Ruled out: a run that writes the report on a refusal; one that runs on from bytes that no saved run has.
+#[no_mangle]
+pub extern "C" fn willetcoffer_run(
+    terms: &[u8],
+    schema: &[u8],
+    script: &[u8],
+    term_table: &[u8],
+    quad_table: &[u8],
+    saved: &mut [u8],
+    budget: u64,
+    clock: i64,
+    report: &mut [u8],
+) -> u32
+    ensures { λ r. ⌜ runExport
+        (record {
+          terms = now (terms .entry);
+          schema = now (schema .entry);
+          script = now (script .entry);
+          termTable = now («term_table» .entry);
+          quadTable = now («quad_table» .entry);
+        })
+        (now (saved .entry)) budget clock (now (report .entry))
+        ≡ ok (record { number = r; saved = now (saved .exit); report = now (report .exit) }) ⌝ }
+{
+    if !handing::buffers_fit(term_table.len(), quad_table.len(), saved.len(), report.len(), RUN_REPORT_WIDTH) {
+        return 1;
+    }
+    let read = reading::read_saved(saved);
+    if !read.ok {
+        return 10;
+    }
+    let before = read.saved;
+    let ran = engine::run::run(terms, schema, script, term_table, quad_table, before, budget, clock);
+    let answer = ran.answer;
+    let after = ran.saved;
+    let number = reports::run_number(answer);
+    handing::hand_back(number, after, saved);
+    reports::write_run_report(answer, report);
+    number
+}
+
+// Page: 1, 10, 12, 13, 14.
+// Ruled out: a page that writes the saved run on a refusal; one that counts the skipped records of a refused page.
+#[no_mangle]
+pub extern "C" fn willetcoffer_page(
+    terms: &[u8],
+    schema: &[u8],
+    script: &[u8],
+    term_table: &mut [u8],
+    quad_table: &mut [u8],
+    saved: &mut [u8],
+    graph: u64,
+    page: &[u8],
+    report: &mut [u8],
+) -> u32
+    ensures { λ r. ⌜ pageExport
+        (record {
+          terms = now (terms .entry);
+          schema = now (schema .entry);
+          script = now (script .entry);
+          termTable = now («term_table» .entry);
+          quadTable = now («quad_table» .entry);
+        })
+        (now (saved .entry)) graph (now (page .entry)) (now (report .entry))
+        ≡ record {
+          number = r;
+          termTable = now («term_table» .exit);
+          quadTable = now («quad_table» .exit);
+          saved = now (saved .exit);
+          report = now (report .exit);
+        } ⌝ }
+{
+    if !handing::buffers_fit(term_table.len(), quad_table.len(), saved.len(), report.len(), PAGE_REPORT_WIDTH) {
+        return 1;
+    }
+    let read = reading::read_saved(saved);
+    if !read.ok {
+        return 10;
+    }
+    let before = read.saved;
+    let paged = engine::page::page(terms, schema, script, term_table, quad_table, before, graph, page);
+    let answer = paged.answer;
+    let kept = paged.saved;
+    let number = reports::page_number(answer);
+    handing::hand_back(number, kept, saved);
+    reports::write_page_report(answer, report);
+    number
 }

@@ -7,3 +7,6 @@ pub mod TermLaws
 pub mod TakeLaws
 pub mod DoneLaws
 pub mod StepLaws
+pub mod AnswerLaws
+pub mod RunLaws
+pub mod StartLaws

@@ -74,7 +74,7 @@ module _ {A : Type 0} (o : Got A) (a : A) (n : ℕ) (e : o ≡ some (a, n)) (r :
 
 -- ── outcomes ────────────────────────────────────────────────────────────────────────────────
 
-bind-inv : {A B : Type 0} (m : Outcome A) (f : A → Outcome B) {b : B} → (m >>= f) ≡ ok b → (a : A) × (m ≡ ok a) × (f a ≡ ok b)
+pub bind-inv : {A B : Type 0} (m : Outcome A) (f : A → Outcome B) {b : B} → (m >>= f) ≡ ok b → (a : A) × (m ≡ ok a) × (f a ≡ ok b)
 unfolding _>>=_
 bind-inv (ok a) f e = (a, refl, e)
 bind-inv (fault y) f e = absurd (let z : _≡_ {A = ℕ} 0 1 = cc in omega arith)
@@ -84,7 +84,7 @@ unfolding _>>_
 after-inv (ok a) n e = e
 after-inv (fault y) n e = absurd (let z : _≡_ {A = ℕ} 0 1 = cc in omega arith)
 
-ok-is : {A : Type 0} {a b : A} → ok a ≡ ok b → a ≡ b
+pub ok-is : {A : Type 0} {a b : A} → ok a ≡ ok b → a ≡ b
 ok-is e = cc
 
 -- ── pairs ───────────────────────────────────────────────────────────────────────────────────
@@ -206,7 +206,7 @@ module _ (script : List ℕ) (known : ℕ) (run : SavedRun) (at : ℕ) (x : OnTo
       let low = stack-low (x .here .checked) (x .here .accepted) s (x .here .sound) in
       omega (arith, low, ap length (x .stack))
 
-  item-facts : ItemFacts (x .here .checked .root) (length (s .store .terms)) (s .control .bindings) (suc (length (x .rest))) (x .item)
+  pub item-facts : ItemFacts (x .here .checked .root) (length (s .store .terms)) (s .control .bindings) (suc (length (x .rest))) (x .item)
   item-facts =
       subst (StackFacts (x .here .checked .root) (length (s .store .terms)) (s .control .bindings)) (x .stack)
       (facts (x .here .checked) (x .here .accepted) s (x .here .sound) .stack) .0

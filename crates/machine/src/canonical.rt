@@ -11,6 +11,7 @@ use definitions::SavedItem;
 use definitions::SavedRun;
 
 // The byte at an offset of the script, 0 past its end.
+// Ruled out: a read past the script's end; the byte before the offset.
 pub fn byte_at(script: &[u8], at: usize) -> u8
     ensures { λ r. ⌜ r ≡ byte (now (script .entry)) at ⌝ }
 {
@@ -21,6 +22,7 @@ pub fn byte_at(script: &[u8], at: usize) -> u8
 }
 
 // A tuple's first numbers, zeros after them.
+// Ruled out: the fourth number of a pair of variables kept; the numbers in another order.
 pub fn first_numbers(count: u8, numbers: [u16; 4]) -> [u16; 4]
     ensures { λ r. ⌜ r ≡ filled 4 (take count numbers) ⌝ }
 {
@@ -118,6 +120,7 @@ fn clean_fetched(graphs: u16, fetched: [u16; 64]) -> [u16; 64]
 }
 
 // The whole saved run.
+// Ruled out: the last tuple of an item that has none kept; the number of an unbound variable kept.
 pub fn canonical(run: SavedRun, script: &[u8]) -> SavedRun
     requires { ⌜ run .height ≤ 24 ⌝ }
     requires { ⌜ run .graphs ≤ 64 ⌝ }

@@ -207,6 +207,7 @@ fn record_end(page: &[u8], at: usize) -> usize
 }
 
 // Takes in the records of a page, one by one, as long as there is room.
+// Ruled out: a page of which only the first record is taken; skipped records that add terms.
 pub fn take_page(
     page: &[u8],
     schema: &[u8],

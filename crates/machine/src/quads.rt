@@ -43,6 +43,7 @@ fn quad_bytes(graph: u16, subject: u16, property: u16, object: u16) -> [u8; 8]
 }
 
 // Writes a quad at its place.
+// Ruled out: a quad written over the one before; subject and object exchanged.
 pub fn put_quad(table: &mut [u8], n: usize, graph: u16, subject: u16, property: u16, object: u16)
     requires { ⌜ length (now table) ≡ quadTableWidth ⌝ }
     requires { ⌜ n < quadLimit ⌝ }
@@ -55,6 +56,7 @@ pub fn put_quad(table: &mut [u8], n: usize, graph: u16, subject: u16, property: 
 }
 
 // The 2-byte number at an offset.
+// Ruled out: the high byte first; the low byte alone.
 pub fn number_at(table: &[u8], at: usize) -> u16
     requires { ⌜ at + 1 < length (now table) ⌝ }
     ensures { λ r. ⌜ r ≡ word (now (table .entry)) at ⌝ }
@@ -75,6 +77,7 @@ fn is_quad_at(table: &[u8], at: usize, graph: u16, subject: u16, property: u16, 
 }
 
 // Whether a quad is among the first of a table.
+// Ruled out: a look that leaves out the last quad; one that compares no graph.
 pub fn has_quad(
     table: &[u8],
     count: usize,
@@ -119,6 +122,7 @@ fn keep_one(quads: &[u8], i: usize, graph: u16, work: &mut [u8], kept: usize) ->
 }
 
 // The quads of other graphs, in their order, in an empty table.
+// Ruled out: the graph's own quads kept; the others in another order.
 pub fn keep_others(quads: &[u8], count: usize, graph: u16, work: &mut [u8]) -> usize
     requires { ⌜ length (now quads) ≡ quadTableWidth ⌝ }
     requires { ⌜ count ≤ quadLimit ⌝ }

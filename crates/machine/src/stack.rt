@@ -10,6 +10,8 @@ ghost use Rattle.machine.specs.Stack.{pushed, popped, replaced, boundTo,
 use definitions::SavedItem;
 use definitions::SavedRun;
 
+// A byte as an index.
+// Ruled out: a byte that becomes another number; an index above 255.
 pub fn index(x: u8) -> usize
     ensures { λ r. ⌜ r ≡ x ⌝ }
 {
@@ -17,6 +19,7 @@ pub fn index(x: u8) -> usize
 }
 
 // An item that has used no tuple.
+// Ruled out: an item that starts after a tuple; one at another offset.
 pub fn fresh_item(at: u16) -> SavedItem
     ensures { λ r. ⌜ r ≡ freshItem at ⌝ }
 {
@@ -28,6 +31,7 @@ pub fn fresh_item(at: u16) -> SavedItem
 }
 
 // The item on top.
+// Ruled out: the item at the bottom; the place above the top.
 pub fn top(run: SavedRun) -> SavedItem
     requires { ⌜ 0 < run .height ⌝ }
     requires { ⌜ run .height ≤ 24 ⌝ }
@@ -38,6 +42,8 @@ pub fn top(run: SavedRun) -> SavedItem
     run.items[place]
 }
 
+// One item more.
+// Ruled out: an item that replaces the top; a height that stays.
 pub fn push(run: SavedRun, item: SavedItem) -> SavedRun
     requires { ⌜ run .height < 24 ⌝ }
     ensures { λ r. ⌜ r ≡ pushed run item ⌝ }
@@ -50,6 +56,8 @@ pub fn push(run: SavedRun, item: SavedItem) -> SavedRun
     next
 }
 
+// One item less; its place is zero again.
+// Ruled out: an item left above the height; the bottom one dropped.
 pub fn pop(run: SavedRun) -> SavedRun
     requires { ⌜ 0 < run .height ⌝ }
     requires { ⌜ run .height ≤ 24 ⌝ }
@@ -68,6 +76,8 @@ pub fn pop(run: SavedRun) -> SavedRun
     next
 }
 
+// Another item on top.
+// Ruled out: an item added; the one below replaced.
 pub fn replace(run: SavedRun, item: SavedItem) -> SavedRun
     requires { ⌜ 0 < run .height ⌝ }
     requires { ⌜ run .height ≤ 24 ⌝ }
@@ -80,6 +90,8 @@ pub fn replace(run: SavedRun, item: SavedItem) -> SavedRun
     next
 }
 
+// A variable bound to a term.
+// Ruled out: a variable that is bound to nothing; another variable's term changed.
 pub fn bind(run: SavedRun, v: usize, term: u16) -> SavedRun
     requires { ⌜ v < 16 ⌝ }
     ensures { λ r. ⌜ r ≡ boundTo run v term ⌝ }
@@ -91,6 +103,7 @@ pub fn bind(run: SavedRun, v: usize, term: u16) -> SavedRun
 }
 
 // A tuple's terms for the variables of a block's pairs, which begin at an offset.
+// Ruled out: the first variable left out; a variable bound twice keeping its later term.
 pub fn bind_tuple(
     run: SavedRun,
     script: &[u8],
@@ -116,6 +129,7 @@ pub fn bind_tuple(
 }
 
 // Whether a graph is in the fetched list.
+// Ruled out: a graph found past the count; a look at the first graph alone.
 pub fn is_fetched(run: SavedRun, graph: u16) -> bool
     requires { ⌜ run .graphs ≤ 64 ⌝ }
     ensures { λ r. ⌜ r ≡ isIn graph (take (run .graphs) (run .fetched)) ⌝ }
@@ -133,6 +147,7 @@ pub fn is_fetched(run: SavedRun, graph: u16) -> bool
 }
 
 // Whether a graph is in the fetched list or has room there.
+// Ruled out: a 65th graph let in; a fetched graph refused where the list is full.
 pub fn graph_fits(run: SavedRun, graph: u16) -> bool
     requires { ⌜ run .graphs ≤ 64 ⌝ }
     ensures { λ r. ⌜ r ≡ graphFits run graph ⌝ }
@@ -142,6 +157,7 @@ pub fn graph_fits(run: SavedRun, graph: u16) -> bool
 }
 
 // After a page: its graph is fetched, and there are so many quads.
+// Ruled out: a fetched graph listed twice; a quad count that stays.
 pub fn with_page(run: SavedRun, graph: u16, quads: u16) -> SavedRun
     requires { ⌜ run .graphs ≤ 64 ⌝ }
     requires { ⌜ graphFits run graph ≡ true ⌝ }

@@ -31,7 +31,9 @@ fn moved(saved: SavedRun) -> Stepped
     }
 }
 
-fn stands(saved: SavedRun, ending: RunState) -> Stepped
+// No step: the saved run as it was, and why it stands.
+// Ruled out: a stand that says it moved; one that changes the saved run.
+pub fn stands(saved: SavedRun, ending: RunState) -> Stepped
     ensures { λ r. ⌜ r ≡ standsAt saved ending ⌝ }
 {
     Stepped {
@@ -42,7 +44,8 @@ fn stands(saved: SavedRun, ending: RunState) -> Stepped
 }
 
 // Success is dropped.
-fn drop_success(run: SavedRun, script: &[u8], known: usize, at: usize) -> Stepped
+// Ruled out: success that stays on top; two items dropped.
+pub fn drop_success(run: SavedRun, script: &[u8], known: usize, at: usize) -> Stepped
     requires { ⌜ OnTop (now script) known run at ⌝ }
     requires { ⌜ byte (now script) at ≡ 0x71 ⌝ }
     ensures { λ r. ⌜ ((x : OnTop (now (script .entry)) known run at) → Acts x r) ⌝ }
@@ -51,7 +54,8 @@ fn drop_success(run: SavedRun, script: &[u8], known: usize, at: usize) -> Steppe
 }
 
 // A sequence becomes its first script on top of its second.
-fn enter_sequence(run: SavedRun, script: &[u8], known: usize, at: usize) -> Stepped
+// Ruled out: the second script on top; the sequence left below its scripts.
+pub fn enter_sequence(run: SavedRun, script: &[u8], known: usize, at: usize) -> Stepped
     requires { ⌜ OnTop (now script) known run at ⌝ }
     requires { ⌜ byte (now script) at ≡ 0x74 ⌝ }
     ensures { λ r. ⌜ ((x : OnTop (now (script .entry)) known run at) → Acts x r) ⌝ }
@@ -81,7 +85,8 @@ fn number_of(run: SavedRun, script: &[u8], at: usize) -> u16
 }
 
 // From named a fetched graph becomes its script; another graph is wanted.
-fn enter_named(run: SavedRun, script: &[u8], known: usize, at: usize) -> Stepped
+// Ruled out: a graph wanted that is fetched; a script entered whose graph is not.
+pub fn enter_named(run: SavedRun, script: &[u8], known: usize, at: usize) -> Stepped
     requires { ⌜ OnTop (now script) known run at ⌝ }
     requires { ⌜ byte (now script) at ≡ 0x72 ⌝ }
     ensures { λ r. ⌜ ((x : OnTop (now (script .entry)) known run at) → Acts x r) ⌝ }
@@ -99,7 +104,8 @@ fn enter_named(run: SavedRun, script: &[u8], known: usize, at: usize) -> Stepped
 }
 
 // The offset of a block's script, after its query.
-fn block_body(script: &[u8], known: usize, at: usize) -> usize
+// Ruled out: the query's own offset; the end of the block.
+pub fn block_body(script: &[u8], known: usize, at: usize) -> usize
     requires { ⌜ BlockReads (now script) known at ⌝ }
     ensures { λ r. ⌜ BodyAt (now (script .entry)) known at r ⌝ }
 {
@@ -111,7 +117,8 @@ fn block_body(script: &[u8], known: usize, at: usize) -> usize
 }
 
 // A once block binds its answer and becomes its script; with none it waits.
-fn enter_once(
+// Ruled out: a once block that stays below its script; one that is dropped where it has no answer.
+pub fn enter_once(
     run: SavedRun,
     script: &[u8],
     known: usize,
@@ -137,7 +144,8 @@ fn enter_once(
 }
 
 // An each block binds its answer and puts its script on top of itself; with none it is dropped.
-fn enter_each(
+// Ruled out: an each block that forgets the tuple it used; one that waits where it has no answer.
+pub fn enter_each(
     run: SavedRun,
     script: &[u8],
     known: usize,

@@ -62,6 +62,7 @@ fn take_copies(
 }
 
 // Takes a page in: the skipped count, the saved run and both tables after it, or refusal 14.
+// Ruled out: tables changed by a page that is refused; a page that passes a limit taken in.
 pub fn take_in(
     run: SavedRun,
     graph: u16,

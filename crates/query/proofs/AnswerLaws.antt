@@ -32,6 +32,7 @@ clear-one known v vs h = fun-ext at
     other : (x : ℕ) (b : Bool) → (T b → x ≡ v) → (x ≡ v → T b) → cond b none (numberAt (getD known x freeCode)) ≡ numberAt (getD (set known v freeCode) x freeCode)
     other x true e f = rw (e tt, getD-set-same known v freeCode freeCode h) refl
     other x false e f = rw (getD-set-other known v x freeCode freeCode (λ e. f e)) refl
+
     at : (x : ℕ) → cond (eqb x v || isIn x vs) none (numberAt (getD known x freeCode)) ≡ cond (isIn x vs) none (numberAt (getD (set known v freeCode) x freeCode))
     at x = go (eqb x v) (isIn x vs) (other x (eqb x v) (eqb→eq x v) (λ (e : x ≡ v). subst⁻¹ (λ y. T (eqb y v)) e (eqb-refl v)))
       where

@@ -81,9 +81,9 @@ module _ (table known : List ℕ) (clock : ℕ) where
   name-value n code v c h S terms quads t = record {
     good = h terms t .0;
     is = λ x e.
-      let (y, ey, ex) = then-ok e in
-      let k = named-ok terms (bindingsOf known) n y ey in
-      h terms t .1 (y .term) (rw (number (y .number) (ap numberAt (c .0) ∙ (code-number known n (c .1) ∙ k .number))) (k .term)) ∙ ok-is ex;
+        let (y, ey, ex) = then-ok e in
+        let k = named-ok terms (bindingsOf known) n y ey in
+        h terms t .1 (y .term) (rw (number (y .number) (ap numberAt (c .0) ∙ (code-number known n (c .1) ∙ k .number))) (k .term)) ∙ ok-is ex;
   }
     where
       number : (i : ℕ) → numberAt code ≡ some i → code ≡ i

@@ -10,9 +10,6 @@ use Rattle.definitions.specs.Evaluate.{Quad, sameQuad, stored}
 use Rattle.laws.proofs.Tests.{isTrue}
 use Rattle.query.specs.Seek.{fixed, Places, agrees, pick, candidate, fits, better, scan}
 
-
-
-
 module _ (q : Quad) (lo end : ℕ) (low : lo ≤ end) where
   abbrev four : Places
   four = record { graph = fixed (q .graph); subject = fixed (q .subject); property = fixed (q .property); object = fixed (q .object) }
@@ -28,8 +25,13 @@ module _ (q : Quad) (lo end : ℕ) (low : lo ≤ end) where
   row-same : (r : Quad) → fits four lo r ≡ sameQuad q r
   unfolding fits candidate
   row-same r =
-      rw (le-leb lo lo (omega arith), eqb-swap (r .graph) (q .graph), eqb-swap (r .subject) (q .subject), eqb-swap (r .property) (q .property),
-      eqb-swap (r .object) (q .object)) refl
+      rw (
+        le-leb lo lo (omega arith),
+        eqb-swap (r .graph) (q .graph),
+        eqb-swap (r .subject) (q .subject),
+        eqb-swap (r .property) (q .property),
+        eqb-swap (r .object) (q .object),
+      ) refl
 
   at-floor : (rs : List Quad) → scan four lo lo rs ≡ lo
   unfolding scan better candidate

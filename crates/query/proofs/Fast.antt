@@ -19,7 +19,7 @@ use Rattle.definitions.specs.Search.{Typing, Tuple, earlier, bind, answer}
 use Rattle.laws.proofs.Tests.{andLeft, andRight, andMake, orLeft, orRight, orCases, by-test, isTrue, isFalse}
 use Rattle.laws.proofs.Options.{some-not-none}
 use Rattle.laws.proofs.Bindings.{Holds, test-holds, holds-test, is-below, Fits}
-use Rattle.query.specs.Seek.{passes, seek, skip, set, clear, startAt, restOf, tries, but, next, hopeful, find, fastAnswer}
+use Rattle.query.specs.Seek.{passes, seek, skip, set, clear, startAt, restOf, tries, ahead, next, hopeful, find, fastAnswer}
 use Rattle.query.specs.Ready.{Ready}
 use Rattle.query.proofs.Sorted.{isAfter}
 use Rattle.query.proofs.First.{First, first-map, Good as GoodAnswer, answer-first}
@@ -134,9 +134,10 @@ module _ (S : Schema) (Γ : Typing) (clock : ℤ) (terms : List Term) (quads : L
         andMake (ltb (least γ w (least γ w zero)) (length terms)) (hopeful S Γ clock terms quads q γ ws)
         (seek-has w (h w (orLeft (eqb w w) (isIn w ws) (eqb-refl w)))) (hopeful-true ws (λ x m. h x (orRight (eqb x w) (isIn x ws) m)))
 
-  but-in : (w : ℕ) (vs : List ℕ) → T (isIn w (but vs)) → T (isIn w vs)
-  but-in w [] m = m
-  but-in w (v ∷ vs) m = orRight (eqb w v) (isIn w vs) m
+  ahead-in : (w : ℕ) (last : Option Tuple) (vs : List ℕ) → T (isIn w (ahead last vs)) → T (isIn w vs)
+  ahead-in w none [] m = m
+  ahead-in w none (v ∷ vs) m = orRight (eqb w v) (isIn w vs) m
+  ahead-in w (some l) vs m = absurd m
 
   module _ (γ : Bindings) (v : ℕ) where
     abbrev step : ℕ → ℕ
@@ -176,12 +177,15 @@ module _ (S : Schema) (Γ : Typing) (clock : ℤ) (terms : List Term) (quads : L
         (seek-reaches S clock terms quads γ v (bind (v ∷ vs) (j ∷ t) γ) (under-bind (v ∷ vs) (j ∷ t) γ c) j (bound-here j t) q lo l (g .2))
         (holds-test S terms (Γ v) j (g .0 .0))
 
-    no-hope : (i : ℕ) → T (not (hopeful S Γ clock terms quads q (set v i γ) (but vs))) → (t : Tuple) → Good (v ∷ vs) γ last (i ∷ t) → ⊥
+    abbrev asked : ℕ → List ℕ
+    asked i = ahead (restOf last i) vs
+
+    no-hope : (i : ℕ) → T (not (hopeful S Γ clock terms quads q (set v i γ) (asked i))) → (t : Tuple) → Good (v ∷ vs) γ last (i ∷ t) → ⊥
     no-hope i n t g =
         let k = narrow i t g in
-        T-not (hopeful S Γ clock terms quads q (set v i γ) (but vs)) n
-        (hopeful-true (set v i γ) (bind vs t (set v i γ)) (under-bind vs t (set v i γ) (cleared-set v i vs γ d c)) (k .2) (but vs)
-        (λ w m. tuple-has S Γ terms vs t (set v i γ) (k .0) w (but-in w vs m)))
+        T-not (hopeful S Γ clock terms quads q (set v i γ) (asked i)) n
+        (hopeful-true (set v i γ) (bind vs t (set v i γ)) (under-bind vs t (set v i γ) (cleared-set v i vs γ d c)) (k .2) (asked i)
+        (λ w m. tuple-has S Γ terms vs t (set v i γ) (k .0) w (ahead-in w (restOf last i) vs m)))
 
   -- ── the levels ────────────────────────────────────────────────────────────────────────────
 
@@ -220,7 +224,7 @@ module _ (S : Schema) (Γ : Typing) (clock : ℤ) (terms : List Term) (quads : L
       (length terms) (omega arith) (λ j t g. after-start last j t (g .1))
     where
       hope : ℕ → Bool
-      hope i = hopeful S Γ clock terms quads q (set v i γ) (but vs)
+      hope i = hopeful S Γ clock terms quads q (set v i γ) (ahead (restOf last i) vs)
 
       rest : ℕ → Option Tuple
       rest i = find S Γ clock terms quads q vs (set v i γ) (restOf last i)

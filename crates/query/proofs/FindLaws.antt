@@ -22,7 +22,7 @@ use Rattle.laws.proofs.Reading.{same-read}
 use Rattle.laws.proofs.Walked.{Walked}
 use Rattle.laws.proofs.Fine.{fine-ok}
 use Rattle.laws.proofs.Bindings.{Holds}
-use Rattle.query.specs.Seek.{passes, seek, skip, set as bindTo, startAt, restOf, tries, but, next, hopeAt, hopeful, find}
+use Rattle.query.specs.Seek.{passes, seek, skip, set as bindTo, startAt, restOf, tries, ahead, next, hopeAt, hopeful, find}
 use Rattle.query.specs.Codes.{soughtCode, freeCode, numberAt, bindingsOf}
 use Rattle.query.specs.Eval.{Lent, HoldsOf}
 use Rattle.query.specs.Sought.{SeekOf}
@@ -35,7 +35,7 @@ use Rattle.query.proofs.TermLaws.{few}
 use Rattle.query.proofs.TypeLaws.{skip-is, skip-low}
 use Rattle.query.proofs.ReadyLaws.{ready-sure, ready-fine, ready-set}
 use Rattle.query.proofs.Fast.{next-floor, next-holds}
-use Rattle.query.proofs.Level.{level-past, level-none, level-found, level-on, numbers-none, numbers-more, numbers-but, start-of, rest-of, tuple-set}
+use Rattle.query.proofs.Level.{level-past, level-none, level-found, level-on, numbers-none, numbers-more, start-of, rest-of, ahead-of, tuple-set}
 
 -- ── one more variable known ─────────────────────────────────────────────────────────────────
 
@@ -125,7 +125,7 @@ module _ (script : List ℕ) (loaded : ℕ) (block : Block) (table leasts known 
     body w i =
         let rest = numbersFrom (size - (k + 1)) vars (k + 1) in
         let δ = bindTo (getD vars k 0) i γ in
-        cond (hopeful (w .schema) (w .typing) (signed clock) (w .terms) rows (w .tree) δ (but rest)) (findAt w rest δ (restOf lastHere i)) none
+        cond (hopeful (w .schema) (w .typing) (signed clock) (w .terms) rows (w .tree) δ (ahead (restOf lastHere i) rest)) (findAt w rest δ (restOf lastHere i)) none
 
     abbrev pub level : Told → ℕ → Option Tuple
     level w lo = tries (body w) (nextAt w (getD vars k 0)) (length (w .terms)) (length (w .terms)) lo
@@ -164,10 +164,12 @@ module _ (script : List ℕ) (loaded : ℕ) (block : Block) (table leasts known 
       pub next-is : (lo : ℕ) {a n r : ℕ} → Walked (SeekOf table known count clock rows v lo a) (readQuery script loaded (block .left) (block .«at»)) n
           → r ≡ skipTypes leasts (getD (block .types) k 0) (count - a) a → NextOf script loaded block table leasts known clock rows count k lo r
       unfolding next
-      next-is lo {a} s e =
-          (omega (arith, s .holds .0, skip-low leasts (getD (block .types) k 0) (count - a) a), λ w r.
-          let i = seek-is v lo s w (later script loaded block table leasts known clock rows k) r in
-          e ∙ (skipped w a ∙ ap (λ j. skip (w .schema) (w .typing v) (w .terms) (length (w .terms) - j) j) i))
+      next-is lo {a} s e = (
+        omega (arith, s .holds .0, skip-low leasts (getD (block .types) k 0) (count - a) a),
+        λ w r.
+            let i = seek-is v lo s w (later script loaded block table leasts known clock rows k) r in
+            e ∙ (skipped w a ∙ ap (λ j. skip (w .schema) (w .typing v) (w .terms) (length (w .terms) - j) j) i),
+      )
 
       pub hope-is : {a b m n : ℕ} → Walked (SeekOf table known count clock rows v 0 a) (readQuery script loaded (block .left) (block .«at»)) m
           → Walked (SeekOf table known count clock rows v a b) (readQuery script loaded (block .left) (block .«at»)) n
@@ -262,24 +264,25 @@ module _ (script : List ℕ) (loaded : ℕ) (block : Block) (table leasts known 
               turn f w r b =
                   level-on (body k tight w) (nextAt w (getD vars k 0)) (length (w .terms)) (floor w) lo (whole k tight w) (f w r) i (ei .1 w r) (omega (arith, counted w)) b
 
-              module _ (f : Bool) (ef : HopeOf script loaded block table leasts with clock rows (k + 2) f) where
+              -- where the numbers so far are the last tuple's, no variable is asked
+              module _ (still : Bool) (es : still ≡ tight && eqb i (getD (block .last) k 0)) (from : ℕ) (ea : from ≡ cond still size (k + 2))
+                  (f : Bool) (ef : HopeOf script loaded block table leasts with clock rows from f) where
                 body-is : (w : Told) → ReadyFor w (numbersFrom (size - k) vars k) → body k tight w i ≡ cond f (findAt w rest (bindingsOf with) (restOf (lastHere k tight) i)) none
                 body-is w r =
                     let h = ef w rest (ready-rest w r) in
                     ap₂ (λ (c : Bool) (δ : Bindings). cond c (findAt w rest δ (restOf (lastHere k tight) i)) none)
                     (ap₂ (λ (δ : Bindings) (vs : List ℕ). hopeful (w .schema) (w .typing) (signed clock) (w .terms) rows (w .tree) δ vs)
-                    (sym with-is) (numbers-but vars size k) ∙ sym h) (sym with-is)
+                    (sym with-is) (ahead-of tight (block .last) size k below vars i from (ea ∙ ap (λ t. cond t size (k + 2)) es)) ∙ sym h) (sym with-is)
 
                 pub find-skip : f ≡ false → SoFar k tight (i + 1)
                 find-skip e w r = turn so-far w r (body-is w r ∙ rw e refl)
 
-                module _ (e : f ≡ true) (x : Found) (tight′ : Bool) (et : tight′ ≡ tight && eqb i (getD (block .last) k 0))
-                    (ex : FindOf script loaded block table leasts with clock rows (k + 1) tight′ x) where
+                module _ (e : f ≡ true) (x : Found) (ex : FindOf script loaded block table leasts with clock rows (k + 1) still x) where
                   rest-is : (w : Told) → ReadyFor w (numbersFrom (size - k) vars k) → body k tight w i ≡ tupleOf x (k + 1) (size - (k + 1))
                   rest-is w r =
                       body-is w r ∙ (ap (λ c. cond c (findAt w rest (bindingsOf with) (restOf (lastHere k tight) i)) none) e
                       ∙ (ap (findAt w rest (bindingsOf with)) (rest-of tight (block .last) size k below i
-                      ∙ ap (λ t. lastOf t (block .last) (k + 1) (size - (k + 1))) (sym et)) ∙ sym (ex w (ready-rest w r))))
+                      ∙ ap (λ t. lastOf t (block .last) (k + 1) (size - (k + 1))) (sym es)) ∙ sym (ex w (ready-rest w r))))
 
                   pub find-on : x .found ≡ false → SoFar k tight (i + 1)
                   find-on g w r = turn so-far w r (rest-is w r ∙ rw g refl)

@@ -11,7 +11,7 @@ use lib.ListN.{length, getD, set}
 use lib.Seq.{getD-set-same, getD-set-other}
 use borrow.Author.Tests.{lt-ltb, le-ltb}
 use Rattle.definitions.specs.Search.{Tuple}
-use Rattle.query.specs.Seek.{startAt, restOf, found, tries, but}
+use Rattle.query.specs.Seek.{startAt, restOf, found, tries, but, ahead}
 use Rattle.query.specs.Found.{numbersFrom, tupleOf, lastOf}
 use Rattle.query.specs.declared.Found.{Found}
 
@@ -38,6 +38,7 @@ module _ (body : ℕ → Option Tuple) (next : ℕ → ℕ) (end : ℕ) (floor :
     where
       more : ℕ → Option Tuple
       more n = tries body next end n (suc (next lo))
+
       go : (t : Bool) → (T t → next lo < end) → (end ≤ suc (next lo) + n → end ≤ suc (next lo) + m → more n ≡ more m)
           → cond t (found (next lo) (body (next lo)) (more n)) none ≡ cond t (found (next lo) (body (next lo)) (more m)) none
       go false f r = refl
@@ -113,6 +114,16 @@ module _ (tight : Bool) (last : List ℕ) (size k : ℕ) (h : k < size) where
       go : (t : Bool) → restOf (lastOf t last k (size - k)) i ≡ lastOf (t && eqb i (getD last k 0)) last (k + 1) (size - (k + 1))
       go true = rw (numbers-more last size k h) refl
       go false = refl
+
+  -- the variables that are asked, with number i here, are those from a place on
+  pub ahead-of : (vars : List ℕ) (i from : ℕ) → from ≡ cond (tight && eqb i (getD last k 0)) size (k + 2)
+      → ahead (restOf (lastOf tight last k (size - k)) i) (numbersFrom (size - (k + 1)) vars (k + 1)) ≡ numbersFrom (size - from) vars from
+  ahead-of vars i from e = ap (λ o. ahead o (numbersFrom (size - (k + 1)) vars (k + 1))) (rest-of i) ∙ go (tight && eqb i (getD last k 0)) e
+    where
+      go : (t : Bool) → from ≡ cond t size (k + 2)
+          → ahead (lastOf t last (k + 1) (size - (k + 1))) (numbersFrom (size - (k + 1)) vars (k + 1)) ≡ numbersFrom (size - from) vars from
+      go true e = sym (numbers-none vars size from (omega arith))
+      go false e = numbers-but vars size k ∙ ap (λ m. numbersFrom (size - m) vars m) (sym e)
 
 -- a tuple found at the next level, with its number here
 pub tuple-set : (r : Found) (size k i : ℕ) → k < size → k < length (r .tuple)

@@ -19,3 +19,4 @@ pub mod ReadyLaws
 pub mod Level
 pub mod FindLaws
 pub mod AnswerLaws
+pub mod AtBlock

@@ -31,6 +31,7 @@ named-ok terms β n x e = go (numberOf β n) refl e
         let a = ap (λ (y : Named). y .number) h in
         let b = ap (λ (y : Named). y .term) h in
         record { number = m ∙ ap some a; term = ap (getElem? terms) (sym a) ∙ (f ∙ ap some b) }
+
     go : (o : Option ℕ) → numberOf β n ≡ o → termOfNumber terms o ≡ ok x → NamedOk terms β n x
     go none m e = absurd (no-fault e)
     go (some i) m e = inner i m (getElem? terms i) refl e

@@ -63,6 +63,7 @@ module _ (S : Schema) (Γ : Typing) (clock : ℤ) (terms : List Term) (quads : L
         typed : (x j : ℕ) (b : Bool) → (T b → x ≡ v) → cond b (some i) (γ x) ≡ some j → Holds S terms j (Γ x)
         typed x j true same e = subst⁻¹ (λ y. Holds S terms j (Γ y)) (same tt) (subst (λ y. Holds S terms y (Γ v)) (some-is e) h)
         typed x j false same e = r .wellBound x j e
+
         found : (x : ℕ) (b : Bool) → eqb x v ≡ b → (T (not (b || isIn x vs) && inQuery x q) → Bound γ x) → T (not (isIn x vs) && inQuery x q) → Bound (set v i γ) x
         found x true e f m = record { number = i; is = rw e refl }
         found x false e f m = let g = f m in record { number = g .number; is = rw e (g .is) }
@@ -81,6 +82,7 @@ module _ (S : Schema) (Γ : Typing) (clock : ℤ) (terms : List Term) (quads : L
         known : (x j : ℕ) (b : Bool) → cond b none (γ x) ≡ some j → γ x ≡ some j
         known x j true e = absurd (some-not-none e refl)
         known x j false e = e
+
         kept : (x : ℕ) (b : Bool) → isIn x vs ≡ b → (T (not b && inQuery x q) → Bound γ x) → T (not b && inQuery x q) → Bound (clear vs γ) x
         kept x true e f m = absurd m
         kept x false e f m = let g = f m in record { number = g .number; is = rw e (g .is) }

@@ -36,22 +36,27 @@ module _ (table known : List ℕ) (count clock : ℕ) (l : Lent table known coun
   pattern-seeks (Query.union q r) codes lo least c = absurd c
   pattern-seeks (Query.filter c) codes lo least d = absurd d
   pattern-seeks Query.empty codes lo least c = absurd c
-  pattern-seeks (Query.pattern g s p o) codes lo least c = λ e. (rw e (scan-floor (placesAt codes) lo (min lo count) count rows (omega arith) (omega arith)), λ S terms t sure.
-      let b = c .1 in
-      let g′ = code-place known v g (b .0) in
-      let s′ = code-place known v s (b .1) in
-      let p′ = code-place known v p (b .2) in
-      let o′ = code-place known v o (b .3) in
-      let same : placesAt codes ≡ placesOf (bindingsOf known) v g s p o =
-      ap placesAt (c .0) ∙ (λ i. record { graph = g′ i; subject = s′ i; property = p′ i; object = o′ i }) in
-      e ∙ ap₂ (λ P n. scan P lo n rows) same (counted terms t))
+  pattern-seeks (Query.pattern g s p o) codes lo least c = λ e. (
+    rw e (scan-floor (placesAt codes) lo (min lo count) count rows (omega arith) (omega arith)),
+    λ S terms t sure.
+        let b = c .1 in
+        let g′ = code-place known v g (b .0) in
+        let s′ = code-place known v s (b .1) in
+        let p′ = code-place known v p (b .2) in
+        let o′ = code-place known v o (b .3) in
+        let same : placesAt codes ≡ placesOf (bindingsOf known) v g s p o =
+        ap placesAt (c .0) ∙ (λ i. record { graph = g′ i; subject = s′ i; property = p′ i; object = o′ i }) in
+        e ∙ ap₂ (λ P n. scan P lo n rows) same (counted terms t),
+  )
 
   pub both-seeks : (q r : Query) (lo a b : ℕ) → SeekOf table known count clock rows v lo a q → SeekOf table known count clock rows v a b r
       → SeekOf table known count clock rows v lo b (Query.both q r)
   unfolding seek
-  both-seeks q r lo a b h k =
-      (omega (arith, h .0, k .0), λ S terms t sure.
-      k .1 S terms t (sure .1) ∙ ap (seek S (signed clock) terms rows (bindingsOf known) v r) (h .1 S terms t (sure .0)))
+  both-seeks q r lo a b h k = (
+    omega (arith, h .0, k .0),
+    λ S terms t sure.
+        k .1 S terms t (sure .1) ∙ ap (seek S (signed clock) terms rows (bindingsOf known) v r) (h .1 S terms t (sure .0)),
+  )
 
   pub union-seeks : (q r : Query) (lo a b least : ℕ) → least ≡ min a b → SeekOf table known count clock rows v lo a q → SeekOf table known count clock rows v lo b r
       → SeekOf table known count clock rows v lo least (Query.union q r)

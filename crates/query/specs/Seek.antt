@@ -157,6 +157,12 @@ abbrev pub but : List ℕ → List ℕ
 but [] = []
 but (v ∷ vs) = vs
 
+-- Of which variables a number is asked before it is tried: not of the next one, which the next level asks; of none where the numbers so far are
+-- those of the last tuple, which has had an answer.
+abbrev pub ahead : (last : Option Tuple) → List ℕ → List ℕ
+ahead none vs = but vs
+ahead (some l) vs = []
+
 module _ (S : Schema) (Γ : Typing) (clock : ℤ) (terms : List Term) (quads : List Quad) (q : Query) where
   abbrev pub least : Bindings → (v lo : ℕ) → ℕ
   least γ v lo = seek S clock terms quads γ v q lo
@@ -172,12 +178,12 @@ module _ (S : Schema) (Γ : Typing) (clock : ℤ) (terms : List Term) (quads : L
   hopeful γ [] = true
   hopeful γ (w ∷ ws) = hopeAt γ w && hopeful γ ws
 
-  -- The first answer after a tuple: vs are the variables still to choose. The look-ahead leaves out the next one, which the next level asks.
+  -- the first answer after a tuple: vs are the variables still to choose
   unfoldable pub find : (variables : List ℕ) → Bindings → (last : Option Tuple) → Option Tuple
   find [] γ none = cond (passes (query S clock terms quads γ q)) (some []) none
   find [] γ (some l) = none
   find (v ∷ vs) γ last =
-      tries (λ i. cond (hopeful (set v i γ) (but vs)) (find vs (set v i γ) (restOf last i)) none) (next γ v) (length terms) (length terms) (startAt last)
+      tries (λ i. cond (hopeful (set v i γ) (ahead (restOf last i) vs)) (find vs (set v i γ) (restOf last i)) none) (next γ v) (length terms) (length terms) (startAt last)
 
   unfoldable pub fastAnswer : Bindings → (variables : List ℕ) → (last : Option Tuple) → Option Tuple
   fastAnswer β vs last = find vs (clear vs β) last

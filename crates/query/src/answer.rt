@@ -5,9 +5,10 @@ ghost use Prim.Native.Nat.{ℕ, _≤_, _<_};
 ghost use Rattle.query.specs.Seek.{clear};
 ghost use Rattle.query.specs.Codes.{bindingsOf, rowsFrom};
 ghost use Rattle.query.specs.Found.{numbersFrom, Level, AnswerOf};
-
+use crate::Block;
+use crate::FREE;
+use crate::Found;
 use crate::find::find;
-use crate::{Block, FREE, Found};
 
 // What is known as a block's search begins: nothing of the block's own variables.
 fn cleared(known: [usize; 16], block: Block) -> [usize; 16]
@@ -30,10 +31,36 @@ fn cleared(known: [usize; 16], block: Block) -> [usize; 16]
 
 // The first answer of a block; after the last tuple, where the block has started. Quads are four numbers each, n of them; leasts has the code of each term's
 // least type; known has the number of each bound variable's term.
-pub fn answer(script: &[u8], loaded: usize, block: Block, table: &[u8], count: usize, clock: u64, quads: &[u16], n: usize, leasts: &[u8], known: [usize; 16], started: bool) -> Found
+// Ruled out: the last tuple found again; the block's own variables kept as they were bound before.
+pub fn answer(
+    script: &[u8],
+    loaded: usize,
+    block: Block,
+    table: &[u8],
+    count: usize,
+    clock: u64,
+    quads: &[u16],
+    n: usize,
+    leasts: &[u8],
+    known: [usize; 16],
+    started: bool,
+) -> Found
     requires { ⌜ Level (now script) loaded block (now table) (now leasts) known count clock (now quads) n 0 ⌝ }
     ensures { λ r. ⌜ AnswerOf (now (script .entry)) loaded block (now (table .entry)) (now (leasts .entry)) known clock (rowsFrom n (now (quads .entry)) 0) started r ⌝ }
 {
     let opened = cleared(known, block);
-    find(script, loaded, block, table, count, clock, quads, n, leasts, opened, 0, started)
+    find(
+        script,
+        loaded,
+        block,
+        table,
+        count,
+        clock,
+        quads,
+        n,
+        leasts,
+        opened,
+        0,
+        started,
+    )
 }

@@ -13,14 +13,15 @@ ghost use Rattle.laws.proofs.Walking.{Loads};
 ghost use Rattle.laws.proofs.Walked.{Walked};
 ghost use Rattle.query.specs.Codes.{rowsFrom};
 ghost use Rattle.query.specs.Eval.{Lent, NumberGives, ValueOf, TruthOf, HoldsOf};
-
-use crate::names::{name_at, names_at};
+use crate::Test;
+use crate::Valued;
+use crate::names::name_at;
+use crate::names::names_at;
 use crate::scan::scan;
-
-use crate::{Test, Valued};
 use definitions::SLOT_WIDTH;
 use records::numbers;
-use values::{Value, slot};
+use values::Value;
+use values::slot;
 
 // The value of now.
 fn clock_value(clock: u64) -> Value
@@ -43,8 +44,17 @@ fn term_value(table: &[u8], count: usize, known: &[usize], clock: u64, code: usi
     slot::value_at(table, from)
 }
 
-// The value of the expression at an offset.
-pub fn eval_expr(script: &[u8], terms: usize, at: usize, left: u8, table: &[u8], count: usize, known: &[usize], clock: u64) -> Valued
+// The value of the expression at an offset. Ruled out: the second summand left out; now as a number that is not the clock's.
+pub fn eval_expr(
+    script: &[u8],
+    terms: usize,
+    at: usize,
+    left: u8,
+    table: &[u8],
+    count: usize,
+    known: &[usize],
+    clock: u64,
+) -> Valued
     requires { ⌜ Loads (readExpr (now script) terms left at) ⌝ }
     requires { ⌜ Lent (now table) (now known) count clock ⌝ }
     ensures { λ r. ⌜ Walked (ValueOf (now (table .entry)) (now (known .entry)) clock (r .value)) (readExpr (now (script .entry)) terms left at) (r .next) ⌝ }
@@ -55,7 +65,10 @@ pub fn eval_expr(script: &[u8], terms: usize, at: usize, left: u8, table: &[u8],
     if kind < 0x41 {
         let n = name_at(script, terms, at, left, known, 16);
         let value = term_value(table, count, known, clock, n.code);
-        return Valued { next: n.next, value };
+        return Valued {
+            next: n.next,
+            value,
+        };
     }
     match kind {
         0x41 => {
@@ -65,30 +78,51 @@ pub fn eval_expr(script: &[u8], terms: usize, at: usize, left: u8, table: &[u8],
         0x42 => {
             let a = eval_expr(script, terms, first, below, table, count, known, clock);
             let value = values::text_of(a.value);
-            Valued { next: a.next, value }
+            Valued {
+                next: a.next,
+                value,
+            }
         }
         0x43 => {
             let a = eval_expr(script, terms, first, below, table, count, known, clock);
             let value = values::abs(a.value);
-            Valued { next: a.next, value }
+            Valued {
+                next: a.next,
+                value,
+            }
         }
         0x44 => {
             let a = eval_expr(script, terms, first, below, table, count, known, clock);
             let b = eval_expr(script, terms, a.next, below, table, count, known, clock);
             let value = values::plus(a.value, b.value);
-            Valued { next: b.next, value }
+            Valued {
+                next: b.next,
+                value,
+            }
         }
         _ => {
             let a = eval_expr(script, terms, first, below, table, count, known, clock);
             let b = eval_expr(script, terms, a.next, below, table, count, known, clock);
             let value = values::minus(a.value, b.value);
-            Valued { next: b.next, value }
+            Valued {
+                next: b.next,
+                value,
+            }
         }
     }
 }
 
-// Whether the boolean at an offset holds.
-pub fn eval_cond(script: &[u8], terms: usize, at: usize, left: u8, table: &[u8], count: usize, known: &[usize], clock: u64) -> Test
+// Whether the boolean at an offset holds. Ruled out: or where and stands; the pattern one byte off.
+pub fn eval_cond(
+    script: &[u8],
+    terms: usize,
+    at: usize,
+    left: u8,
+    table: &[u8],
+    count: usize,
+    known: &[usize],
+    clock: u64,
+) -> Test
     requires { ⌜ Loads (readCond (now script) terms left at) ⌝ }
     requires { ⌜ Lent (now table) (now known) count clock ⌝ }
     ensures { λ r. ⌜ Walked (TruthOf (now (table .entry)) (now (known .entry)) clock (r .holds)) (readCond (now (script .entry)) terms left at) (r .next) ⌝ }
@@ -97,51 +131,89 @@ pub fn eval_cond(script: &[u8], terms: usize, at: usize, left: u8, table: &[u8],
     let first = at + 1;
     let below = left - 1;
     match kind {
-        0x50 => Test { next: first, holds: false },
-        0x51 => Test { next: first, holds: true },
+        0x50 => Test {
+            next: first,
+            holds: false,
+        },
+        0x51 => Test {
+            next: first,
+            holds: true,
+        },
         0x52 => {
             let a = eval_cond(script, terms, first, below, table, count, known, clock);
             let b = eval_cond(script, terms, a.next, below, table, count, known, clock);
-            Test { next: b.next, holds: a.holds | b.holds }
+            Test {
+                next: b.next,
+                holds: a.holds | b.holds,
+            }
         }
         0x53 => {
             let a = eval_cond(script, terms, first, below, table, count, known, clock);
             let b = eval_cond(script, terms, a.next, below, table, count, known, clock);
-            Test { next: b.next, holds: a.holds & b.holds }
+            Test {
+                next: b.next,
+                holds: a.holds & b.holds,
+            }
         }
         0x54 => {
             let a = eval_cond(script, terms, first, below, table, count, known, clock);
-            Test { next: a.next, holds: !a.holds }
+            Test {
+                next: a.next,
+                holds: !a.holds,
+            }
         }
         0x55 => {
             let text = at + 17;
             let a = eval_expr(script, terms, text, below, table, count, known, clock);
             let holds = values::regex(a.value, script, first);
-            Test { next: a.next, holds }
+            Test {
+                next: a.next,
+                holds,
+            }
         }
         0x56 => {
             let text = at + 9;
             let a = eval_expr(script, terms, text, below, table, count, known, clock);
             let holds = values::lang_matches(a.value, script, first);
-            Test { next: a.next, holds }
+            Test {
+                next: a.next,
+                holds,
+            }
         }
         0x57 => {
             let a = eval_expr(script, terms, first, below, table, count, known, clock);
             let b = eval_expr(script, terms, a.next, below, table, count, known, clock);
             let holds = values::equal(a.value, b.value);
-            Test { next: b.next, holds }
+            Test {
+                next: b.next,
+                holds,
+            }
         }
         _ => {
             let a = eval_expr(script, terms, first, below, table, count, known, clock);
             let b = eval_expr(script, terms, a.next, below, table, count, known, clock);
             let holds = values::less(a.value, b.value);
-            Test { next: b.next, holds }
+            Test {
+                next: b.next,
+                holds,
+            }
         }
     }
 }
 
-// Whether the query at an offset holds, where all its variables are known.
-pub fn eval_query(script: &[u8], terms: usize, at: usize, left: u8, table: &[u8], count: usize, known: &[usize], clock: u64, quads: &[u16], n: usize) -> Test
+// Whether the query at an offset holds, where all its variables are known. Ruled out: the last quad left out; a union of its first part only.
+pub fn eval_query(
+    script: &[u8],
+    terms: usize,
+    at: usize,
+    left: u8,
+    table: &[u8],
+    count: usize,
+    known: &[usize],
+    clock: u64,
+    quads: &[u16],
+    n: usize,
+) -> Test
     requires { ⌜ Loads (readQuery (now script) terms left at) ⌝ }
     requires { ⌜ Lent (now table) (now known) count clock ⌝ }
     requires { ⌜ 4 * n ≤ length (now quads) ⌝ }
@@ -154,19 +226,75 @@ pub fn eval_query(script: &[u8], terms: usize, at: usize, left: u8, table: &[u8]
         0x61 => {
             let names = names_at(script, terms, first, below, known, 16);
             let least = scan(quads, n, names.codes, 0, 1);
-            Test { next: names.next, holds: least == 0 }
+            Test {
+                next: names.next,
+                holds: least == 0,
+            }
         }
         0x62 => {
-            let a = eval_query(script, terms, first, below, table, count, known, clock, quads, n);
-            let b = eval_query(script, terms, a.next, below, table, count, known, clock, quads, n);
-            Test { next: b.next, holds: a.holds & b.holds }
+            let a = eval_query(
+                script,
+                terms,
+                first,
+                below,
+                table,
+                count,
+                known,
+                clock,
+                quads,
+                n,
+            );
+            let b = eval_query(
+                script,
+                terms,
+                a.next,
+                below,
+                table,
+                count,
+                known,
+                clock,
+                quads,
+                n,
+            );
+            Test {
+                next: b.next,
+                holds: a.holds & b.holds,
+            }
         }
         0x63 => {
-            let a = eval_query(script, terms, first, below, table, count, known, clock, quads, n);
-            let b = eval_query(script, terms, a.next, below, table, count, known, clock, quads, n);
-            Test { next: b.next, holds: a.holds | b.holds }
+            let a = eval_query(
+                script,
+                terms,
+                first,
+                below,
+                table,
+                count,
+                known,
+                clock,
+                quads,
+                n,
+            );
+            let b = eval_query(
+                script,
+                terms,
+                a.next,
+                below,
+                table,
+                count,
+                known,
+                clock,
+                quads,
+                n,
+            );
+            Test {
+                next: b.next,
+                holds: a.holds | b.holds,
+            }
         }
         0x64 => eval_cond(script, terms, first, below, table, count, known, clock),
-        _ => Test { next: first, holds: true },
+        _ => Test {
+            next: first,
+            holds: true,
+        },
     }
 }

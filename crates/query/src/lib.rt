@@ -3,7 +3,6 @@ pub mod answer;
 mod eval;
 mod find;
 mod names;
-
 mod scan;
 mod seek;
 

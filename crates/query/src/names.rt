@@ -38,7 +38,7 @@ fn variable_code(known: &[usize], v: usize, w: usize) -> usize
     FREE
 }
 
-// The name at an offset.
+// The name at an offset. Ruled out: a constant's high byte left out; the variable sought taken for a known one.
 pub fn name_at(
     script: &[u8],
     terms: usize,
@@ -64,7 +64,7 @@ pub fn name_at(
     NameRead { next, code }
 }
 
-// A pattern's four names.
+// A pattern's four names. Ruled out: subject and object exchanged; the same name read twice.
 pub fn names_at(
     script: &[u8],
     terms: usize,
@@ -93,7 +93,7 @@ pub fn names_at(
     }
 }
 
-// Whether all variables of an expression are known.
+// Whether all variables of an expression are known. Ruled out: the second part left out; a free variable taken for a known one.
 pub fn known_expr(script: &[u8], terms: usize, at: usize, left: u8, known: &[usize]) -> Test
     requires { ⌜ Loads (readExpr (now script) terms left at) ⌝ }
     requires { ⌜ length (now known) ≡ 16 ⌝ }
@@ -135,7 +135,7 @@ pub fn known_expr(script: &[u8], terms: usize, at: usize, left: u8, known: &[usi
     }
 }
 
-// Whether all variables of a boolean are known.
+// Whether all variables of a boolean are known. Ruled out: the second part left out; not counted as known whatever it negates.
 pub fn known_cond(script: &[u8], terms: usize, at: usize, left: u8, known: &[usize]) -> Test
     requires { ⌜ Loads (readCond (now script) terms left at) ⌝ }
     requires { ⌜ length (now known) ≡ 16 ⌝ }

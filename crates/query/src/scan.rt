@@ -106,6 +106,7 @@ fn better(quads: &[u16], at: usize, codes: Four, lo: usize, best: usize) -> usiz
 }
 
 // The least number from lo on that one of the first n quads gives the variable sought; end where none does.
+// Ruled out: the first number in the place of the least; a variable that stands twice in the pattern taken from one place only.
 pub fn scan(quads: &[u16], n: usize, codes: Four, lo: usize, end: usize) -> usize
     requires { ⌜ 4 * n ≤ length (now quads) ⌝ }
     ensures { λ r. ⌜ r ≡ isScan (placesAt codes) lo end (rowsFrom n (now (quads .entry)) 0) ⌝ }

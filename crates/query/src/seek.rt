@@ -9,10 +9,10 @@ ghost use Rattle.laws.proofs.Walked.{Walked};
 ghost use Rattle.query.specs.Codes.{rowsFrom};
 ghost use Rattle.query.specs.Eval.{Lent};
 ghost use Rattle.query.specs.Sought.{FilterOf, SeekOf};
-
 use crate::Sought;
 use crate::eval::eval_cond;
-use crate::names::{known_cond, names_at};
+use crate::names::known_cond;
+use crate::names::names_at;
 use crate::scan::scan;
 
 fn smaller(a: usize, b: usize) -> usize
@@ -22,24 +22,57 @@ fn smaller(a: usize, b: usize) -> usize
 }
 
 // A filter: lo, or count where all its variables are known and it does not hold.
-fn seek_filter(script: &[u8], terms: usize, at: usize, left: u8, table: &[u8], count: usize, known: &[usize], clock: u64, lo: usize) -> Sought
+fn seek_filter(
+    script: &[u8],
+    terms: usize,
+    at: usize,
+    left: u8,
+    table: &[u8],
+    count: usize,
+    known: &[usize],
+    clock: u64,
+    lo: usize,
+) -> Sought
     requires { ⌜ Loads (readCond (now script) terms left at) ⌝ }
     requires { ⌜ Lent (now table) (now known) count clock ⌝ }
     ensures { λ r. ⌜ Walked (FilterOf (now (table .entry)) (now (known .entry)) count clock lo (r .least)) (readCond (now (script .entry)) terms left at) (r .next) ⌝ }
 {
     let k = known_cond(script, terms, at, left, known);
     if !k.holds {
-        return Sought { next: k.next, least: lo };
+        return Sought {
+            next: k.next,
+            least: lo,
+        };
     }
     let t = eval_cond(script, terms, at, left, table, count, known, clock);
     if t.holds {
-        return Sought { next: k.next, least: lo };
+        return Sought {
+            next: k.next,
+            least: lo,
+        };
     }
-    Sought { next: k.next, least: count }
+    Sought {
+        next: k.next,
+        least: count,
+    }
 }
 
 // The least number from lo on that the variable v can have in the query at an offset; count where there is none.
-pub fn seek(script: &[u8], terms: usize, at: usize, left: u8, table: &[u8], count: usize, known: &[usize], clock: u64, quads: &[u16], n: usize, v: usize, lo: usize) -> Sought
+// Ruled out: a union of its first part only; a filter passed over whose variables are all known.
+pub fn seek(
+    script: &[u8],
+    terms: usize,
+    at: usize,
+    left: u8,
+    table: &[u8],
+    count: usize,
+    known: &[usize],
+    clock: u64,
+    quads: &[u16],
+    n: usize,
+    v: usize,
+    lo: usize,
+) -> Sought
     requires { ⌜ Loads (readQuery (now script) terms left at) ⌝ }
     requires { ⌜ Lent (now table) (now known) count clock ⌝ }
     requires { ⌜ 4 * n ≤ length (now quads) ⌝ }
@@ -52,19 +85,80 @@ pub fn seek(script: &[u8], terms: usize, at: usize, left: u8, table: &[u8], coun
         0x61 => {
             let names = names_at(script, terms, first, below, known, v);
             let least = scan(quads, n, names.codes, lo, count);
-            Sought { next: names.next, least }
+            Sought {
+                next: names.next,
+                least,
+            }
         }
         0x62 => {
-            let a = seek(script, terms, first, below, table, count, known, clock, quads, n, v, lo);
-            seek(script, terms, a.next, below, table, count, known, clock, quads, n, v, a.least)
+            let a = seek(
+                script,
+                terms,
+                first,
+                below,
+                table,
+                count,
+                known,
+                clock,
+                quads,
+                n,
+                v,
+                lo,
+            );
+            seek(
+                script,
+                terms,
+                a.next,
+                below,
+                table,
+                count,
+                known,
+                clock,
+                quads,
+                n,
+                v,
+                a.least,
+            )
         }
         0x63 => {
-            let a = seek(script, terms, first, below, table, count, known, clock, quads, n, v, lo);
-            let b = seek(script, terms, a.next, below, table, count, known, clock, quads, n, v, lo);
+            let a = seek(
+                script,
+                terms,
+                first,
+                below,
+                table,
+                count,
+                known,
+                clock,
+                quads,
+                n,
+                v,
+                lo,
+            );
+            let b = seek(
+                script,
+                terms,
+                a.next,
+                below,
+                table,
+                count,
+                known,
+                clock,
+                quads,
+                n,
+                v,
+                lo,
+            );
             let least = smaller(a.least, b.least);
-            Sought { next: b.next, least }
+            Sought {
+                next: b.next,
+                least,
+            }
         }
         0x64 => seek_filter(script, terms, first, below, table, count, known, clock, lo),
-        _ => Sought { next: first, least: lo },
+        _ => Sought {
+            next: first,
+            least: lo,
+        },
     }
 }

@@ -1,18 +1,26 @@
--- The three demands, proved of the definitions of the calls: `Calls.load`, `Calls.runCall`, `Calls.pageCall`.
---
--- The code's part goes here. The contracts of the three functions say that each call gives exactly what these definitions
--- say: answer, saved run and both tables. The record then takes (M : Type 1), is of Type 2, and has one more field for each
--- function, `loads : load.statement M` and so on, answered by the function's `Met.met`: so the theorem is about the code.
+-- The three demands. The definitions of the calls say what each call gives: answer, saved run and both tables, on refusals
+-- too. `loads`, `runs` and `pages` say that the code of the three calls gives exactly that: they are the contracts of
+-- `engine::load`, `engine::run` and `engine::page`, met. The other three fields say what follows from the definitions.
 use mathlib.Core.Path.{_≡_}
 use mathlib.Core.List.{List}
 use Rattle.definitions.specs.Calls.{Lent, load}
 use Rattle.definitions.specs.declared.LoadAnswer.the-variants as LoadAnswers
+use Rattle.engine.proofs.load.load.Statement as load-call
+use Rattle.engine.proofs.load.load.Met as load-met
+use Rattle.engine.proofs.run.run.Statement as run-call
+use Rattle.engine.proofs.run.run.Met as run-met
+use Rattle.engine.proofs.page.page.Statement as page-call
+use Rattle.engine.proofs.page.page.Met as page-met
 use Rattle.theorems.proofs.Engine.{HostCall}
 use Rattle.theorems.proofs.Demand1.{Demand1, demand-1}
 use Rattle.theorems.proofs.Demand2.{Demand2, demand-2}
 use Rattle.theorems.proofs.Demand3.{Demand3, demand-3}
 
-pub record Demands : Type 0 where
+pub record Demands (M : Type 1) : Type 2 where
+  -- the code of each call does what the call's definition says
+  pub loads : load-call.statement M
+  pub runs : run-call.statement M
+  pub pages : page-call.statement M
   -- refusals
   pub first : Demand1
   -- typing, runs and pages
@@ -20,5 +28,13 @@ pub record Demands : Type 0 where
   -- the whole list of calls after the load of an accepted script
   pub third : (l : Lent) → load l .returned .answer ≡ LoadAnswers.Accepted → (calls : List HostCall) → Demand3 l calls
 
-pub demands : Demands
-demands = record { first = demand-1; second = demand-2; third = demand-3 }
+pub demands : {M : Type 1} → Demands M
+demands =
+    record {
+      loads = load-met.met;
+      runs = run-met.met;
+      pages = page-met.met;
+      first = demand-1;
+      second = demand-2;
+      third = demand-3;
+    }

@@ -3,11 +3,11 @@ use Prim.Native.Nat.{ℕ, _+_, _-_, _≤_, _<_}
 use native.Mathlib.Decide.{ℕ-discrete}
 use native.Mathlib.Omega.{arith}
 use mathlib.Core.Path.{_≡_, refl, sym, ap, ap₂, _∙_}
-use mathlib.Core.Bool.{Bool, true, false, not, _&&_}
+use mathlib.Core.Bool.{Bool, false, not, _&&_}
 use mathlib.Core.Logic.{_⊎_, ⊎-elim}
 use lib.Dec.{eqb, eqb→eq}
-use borrow.Author.Tests.{lt-ltb, le-ltb, eq-eqb, ne-eqb}
-use Rattle.definitions.specs.Types.{Datatype, anyURI, decimal, integer, plain, range, datatypeCode, typeCode, leqDatatype, sameDatatype}
+use borrow.Author.Tests.{lt-ltb, le-ltb, ne-eqb}
+use Rattle.definitions.specs.Types.{Datatype, anyURI, string, decimal, dateTime, integer, Ty, plain, range, datatypeCode, typeCode, leqDatatype, sameDatatype}
 use Rattle.laws.proofs.Reading.{Others, row-others, row-keys}
 use Rattle.laws.proofs.Ranges.{every-in}
 use Rattle.laws.proofs.Agree.{datatype-equal2}
@@ -93,3 +93,17 @@ module _ (k : ℕ) where
 
   pub normal-range : {r : ℕ} → 8 ≤ k → r ≡ datatypeCode (datatypeOf (k - 8)) → 8 + r ≡ typeCode (typeOf k)
   normal-range h e = ap (λ n. 8 + n) e ∙ sym (ap typeCode (range-code h))
+
+-- a type's code stands for it
+pub type-back : (τ : Ty) → typeOf (typeCode τ) ≡ τ
+unfolding typeOf datatypeOf
+type-back (plain anyURI) = refl
+type-back (plain string) = refl
+type-back (plain decimal) = refl
+type-back (plain dateTime) = refl
+type-back (plain integer) = refl
+type-back (range anyURI) = refl
+type-back (range string) = refl
+type-back (range decimal) = refl
+type-back (range dateTime) = refl
+type-back (range integer) = refl

@@ -136,11 +136,11 @@ module _ (t : Tables) where
 
 -- ── lists of 16 types ───────────────────────────────────────────────────────────────────────
 
+pub variable-at : (x : ℕ) → x < 16 → getD variables x 0 ≡ x
+variable-at x l = eqb→eq (getD variables x 0) x (every-in (λ x. eqb (getD variables x 0) x) 0 16 tt x (omega arith) (omega arith))
+
 pub type-of : (f : ℕ → Ty) (x : ℕ) → x < 16 → typeAt (map f variables) x ≡ f x
-type-of f x l = getD-inside (map f variables) x (plain anyURI) (f 0) l ∙ List·getD-map f variables x 0 ∙ ap f same
-  where
-    same : getD variables x 0 ≡ x
-    same = eqb→eq (getD variables x 0) x (every-in (λ x. eqb (getD variables x 0) x) 0 16 tt x (omega arith) (omega arith))
+type-of f x l = getD-inside (map f variables) x (plain anyURI) (f 0) l ∙ List·getD-map f variables x 0 ∙ ap f (variable-at x l)
 
 -- of a typing
 abbrev ofTyping : List Ty → Environment

@@ -9,3 +9,6 @@ pub mod CodeLaws
 pub mod TableLaws
 pub mod WalkLaws
 pub mod ReadOffLaws
+pub mod PairLaws
+pub mod TyperLaws
+pub mod Constants

@@ -6,9 +6,9 @@ use mathlib.Core.Path.{_≡_, refl, sym, ap, _∙_, subst}
 use mathlib.Core.Logic.{_⊎_, ⊎-elim}
 use mathlib.Core.List.{List, [], _∷_, _++_}
 use mathlib.Core.Bool.{Bool, true, false, cond}
-use mathlib.Core.Option.{none, some}
+use mathlib.Core.Option.{some}
 use lib.ListN.{length, getD, List·getD-map}
-use borrow.Author.Tests.{eq-eqb, ne-eqb}
+use borrow.Author.Tests.{ne-eqb}
 use Rattle.definitions.specs.Bytes.{Got, byte}
 use Rattle.definitions.specs.Types.{Datatype, anyURI, string, decimal, dateTime, integer, Ty, plain, range, leqDatatype, sameDatatype}
 use Rattle.definitions.specs.Tree.{Name, var, const, Expr, Cond, Query, Script}
@@ -59,9 +59,6 @@ module _ (sorts written : List ℕ) where
       here = placed (fixed (typeOf (getD written x 0))) (rw (ne-eqb (getD written x 0) 0 n, ne-eqb (getD written x 0) unboundCode m) refl);
       inside = tt;
     }
-
-  pub same-placed : {p : Codes.Place} {x y : ℕ} → x ≡ y → PlacedAs sorts written p (var x) → PlacedAs sorts written p (var y)
-  same-placed {p} e h = subst (λ z. PlacedAs sorts written p (var z)) e h
 
   least-above : (τ : Ty) → least (sortAbove τ) ≡ τ
   unfolding least

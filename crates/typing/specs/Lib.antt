@@ -6,3 +6,4 @@ pub mod Infer
 pub mod Codes
 pub mod Walk
 pub mod Answers
+pub mod Pairs

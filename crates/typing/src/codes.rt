@@ -6,6 +6,7 @@ ghost use Rattle.typing.specs.Family.{family, ownDatatype};
 ghost use Rattle.typing.specs.Codes.{datatypeOf, typeOf};
 
 // The family of a datatype.
+// Ruled out: integers apart from decimals; URIs and strings as one.
 pub fn family(datatype: u8) -> usize
     ensures { λ r. ⌜ r ≡ family (datatypeOf datatype) ⌝ }
 {
@@ -19,6 +20,7 @@ pub fn family(datatype: u8) -> usize
 }
 
 // The least datatype of what has a type: anyURI of a range.
+// Ruled out: a range as its datatype; every code as anyURI.
 pub fn own(code: u8) -> u8
     ensures { λ r. ⌜ datatypeOf r ≡ ownDatatype (typeOf code) ⌝ }
 {
@@ -29,6 +31,7 @@ pub fn own(code: u8) -> u8
 }
 
 // Whether a datatype is below or equal to another: both of one family, and not decimal below integer.
+// Ruled out: decimal below integer; datatypes of two families.
 pub fn below(a: u8, b: u8) -> bool
     ensures { λ r. ⌜ r ≡ leqDatatype (datatypeOf a) (datatypeOf b) ⌝ }
 {
@@ -49,6 +52,7 @@ fn datatype(code: u8) -> u8
 }
 
 // The code of the type that a number stands for.
+// Ruled out: a datatype's code for its range's; 6 as it stands.
 pub fn normal(code: u8) -> u8
     ensures { λ r. ⌜ r ≡ typeCode (typeOf code) ⌝ }
 {

@@ -64,6 +64,7 @@ fn narrow(x: usize) -> u8
 
 impl Families {
     // Each node alone.
+    // Ruled out: a node in another's class; a node left out.
     pub fn fresh() -> Families
         ensures { λ r. ⌜ r .parents ≡ upFrom 0 36 ⌝ }
     {
@@ -72,6 +73,7 @@ impl Families {
     }
 
     // The least node of a node's class.
+    // Ruled out: the node's parent, which may be no root; the greatest node of the class.
     pub fn root(self, node: usize) -> usize
         requires { ⌜ Forest 36 (self .parents) × (node < 36) ⌝ }
         ensures { λ r. ⌜ r ≡ rootIn (self .parents) node ⌝ }
@@ -86,6 +88,7 @@ impl Families {
     }
 
     // Makes the classes of two nodes one: the greater root gets the lesser for a parent.
+    // Ruled out: the nodes joined and not their roots; the lesser root below the greater.
     pub fn merge(mut self, a: usize, b: usize) -> Families
         requires { ⌜ Forest 36 (self .parents) × (a < 36) × (b < 36) ⌝ }
         ensures { λ r. ⌜ r .parents ≡ mergeIn (self .parents) a b ⌝ }

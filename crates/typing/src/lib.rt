@@ -3,7 +3,9 @@ pub mod codes;
 pub mod families;
 pub mod names;
 pub mod noting;
+pub mod pairs;
 pub mod readoff;
+pub mod typer;
 pub mod walk;
 
 use crate::noting::Tables;
@@ -34,6 +36,12 @@ pub struct ExprRead {
 pub struct TablesRead {
     pub next: usize,
     pub tables: Tables,
+}
+
+// What the pairs of a script say, a byte for each variable, and the offset after it.
+pub struct CodesRead {
+    pub next: usize,
+    pub codes: [u8; 16],
 }
 
 // What the typer answers: refusal 8 or 9 and zeros, or 0 and the reported type of each variable, 0 where no pair binds it.

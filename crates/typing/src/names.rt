@@ -2,8 +2,7 @@
 // variable: 0 open, 255 unbound, else the code of its type.
 ghost use mathlib.Core.Path.{_≡_};
 ghost use lib.ListN.{length};
-ghost use Prim.Native.Nat.{_+_, _≤_, _<_};
-ghost use Rattle.definitions.specs.Bytes.{word};
+ghost use Prim.Native.Nat.{_<_};
 ghost use Rattle.definitions.specs.Tree.{var};
 ghost use Rattle.definitions.specs.Reading.{readName};
 ghost use Rattle.laws.proofs.Walking.{Loads};
@@ -15,21 +14,7 @@ use crate::NameRead;
 use crate::Place;
 use crate::UNBOUND;
 use crate::codes;
-
-fn wide(x: u8) -> usize
-    ensures { λ r. ⌜ (r ≡ x) × (r < 256) ⌝ }
-{
-    x as usize
-}
-
-fn word_at(s: &[u8], at: usize) -> usize
-    requires { ⌜ at + 2 ≤ length (now s) ⌝ }
-    ensures { λ r. ⌜ (r ≡ word (now (s .entry)) at) × (r < 65536) ⌝ }
-{
-    let low = wide(s[at]);
-    let high = wide(s[at + 1]);
-    low + 256 * high
-}
+use reader::script::word_at;
 
 // A variable's place: open, or known by its written type; an unbound one stands as anyURI.
 fn variable_place(sorts: &[u8], written: &[u8], x: usize) -> Place
@@ -47,6 +32,7 @@ fn variable_place(sorts: &[u8], written: &[u8], x: usize) -> Place
 }
 
 // The name at an offset.
+// Ruled out: a constant's number taken for a variable's; an offset after the kind alone.
 pub fn name_at(script: &[u8], sorts: &[u8], written: &[u8], at: usize, left: u8) -> NameRead
     requires { ⌜ Loads (readName (now script) (length (now sorts)) left at) ⌝ }
     requires { ⌜ length (now written) ≡ 16 ⌝ }
@@ -55,7 +41,7 @@ pub fn name_at(script: &[u8], sorts: &[u8], written: &[u8], at: usize, left: u8)
     let kind = script[at];
     let first = at + 1;
     if kind == 0x31 {
-        let x = wide(script[first]);
+        let x = script[first] as usize;
         let place = variable_place(sorts, written, x);
         let next = at + 2;
         return NameRead { next, place };
@@ -68,6 +54,7 @@ pub fn name_at(script: &[u8], sorts: &[u8], written: &[u8], at: usize, left: u8)
 }
 
 // The node of a place's family.
+// Ruled out: a range variable's node for its own; a known range in the family of its datatype.
 pub fn node_of(place: Place) -> usize
     requires { ⌜ PlaceIn place ⌝ }
     ensures { λ r. ⌜ (r ≡ placeNode (placeOf place)) × (r < 36) ⌝ }

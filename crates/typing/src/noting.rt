@@ -20,6 +20,7 @@ pub struct Tables {
 
 impl Tables {
     // Nothing noted.
+    // Ruled out: a variable that is a property from the start; families joined.
     pub fn fresh() -> Tables
         ensures { λ r. ⌜ r ≡ fresh ⌝ }
     {
@@ -38,6 +39,7 @@ impl Tables {
     }
 
     // Two nodes are of one family.
+    // Ruled out: the flags forgotten; nodes joined and not their classes.
     pub fn merged(mut self, m: usize, n: usize) -> Tables
         requires { ⌜ Forest 36 (self .families .parents) × (m < 36) × (n < 36) ⌝ }
         ensures { λ r. ⌜ r ≡ merged m n self ⌝ }
@@ -49,6 +51,7 @@ impl Tables {
     }
 
     // A variable's datatype is at most the one given.
+    // Ruled out: integer noted of every number; the family left open.
     pub fn at_most(self, x: usize, datatype: u8) -> Tables
         requires { ⌜ Forest 36 (self .families .parents) × (x < 16) ⌝ }
         ensures { λ r. ⌜ r ≡ atMost x (datatypeOf datatype) self ⌝ }
@@ -63,6 +66,7 @@ impl Tables {
     }
 
     // A variable is a property.
+    // Ruled out: a property that may stay anyURI; a property of any family.
     pub fn as_property(self, p: usize) -> Tables
         requires { ⌜ Forest 36 (self .families .parents) × (p < 16) ⌝ }
         ensures { λ r. ⌜ r ≡ asProperty p self ⌝ }
@@ -73,6 +77,7 @@ impl Tables {
     }
 
     // A variable is a property, and its range is at least the datatype given.
+    // Ruled out: decimal noted of every number; the range's family left open.
     pub fn at_least(self, p: usize, datatype: u8) -> Tables
         requires { ⌜ Forest 36 (self .families .parents) × (p < 16) ⌝ }
         ensures { λ r. ⌜ r ≡ atLeast p (datatypeOf datatype) self ⌝ }
@@ -87,6 +92,7 @@ impl Tables {
     }
 
     // A variable is a property, and another one its object.
+    // Ruled out: property and object swapped; a pair noted with no family joined.
     pub fn edge(self, p: usize, x: usize) -> Tables
         requires { ⌜ Forest 36 (self .families .parents) × (p < 16) × (x < 16) ⌝ }
         ensures { λ r. ⌜ r ≡ edge p x self ⌝ }
@@ -98,6 +104,7 @@ impl Tables {
     }
 
     // No typing: two families are one.
+    // Ruled out: a demand that fails noted as nothing; a flag set in its place.
     pub fn impossible(self) -> Tables
         requires { ⌜ Forest 36 (self .families .parents) ⌝ }
         ensures { λ r. ⌜ r ≡ impossible self ⌝ }
@@ -106,6 +113,7 @@ impl Tables {
     }
 
     // A property and its object.
+    // Ruled out: an anyURI constant taken for a property; an object above the range taken.
     pub fn related(self, property: Place, object: Place) -> Tables
         requires { ⌜ Forest 36 (self .families .parents) × PlaceIn property × PlaceIn object ⌝ }
         ensures { λ r. ⌜ r ≡ related (placeOf property) (placeOf object) self ⌝ }

@@ -168,6 +168,7 @@ fn all_reported(t: Tables, written: &[u8]) -> [u8; 16]
 }
 
 // The answer that the tables of a whole script give.
+// Ruled out: 8 for every script; the least types for the greatest.
 pub fn read_off(t: Tables, written: &[u8]) -> Answer
     requires { ⌜ Joined t × (length (now written) ≡ 16) ⌝ }
     ensures { λ r. ⌜ r ≡ answerOf (allWritten (now (written .entry))) (readOff t (allWritten (now (written .entry)))) ⌝ }

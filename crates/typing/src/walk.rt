@@ -15,6 +15,7 @@ use crate::names;
 use crate::noting::Tables;
 
 // An expression.
+// Ruled out: abs of a string; a sum of which one side alone is a number.
 pub fn type_expr(
     script: &[u8],
     sorts: &[u8],
@@ -131,6 +132,7 @@ fn type_test(
 }
 
 // A boolean.
+// Ruled out: a regex over a number; what stands under not left out.
 pub fn type_cond(
     script: &[u8],
     sorts: &[u8],
@@ -197,6 +199,7 @@ fn type_pattern(
 }
 
 // A query.
+// Ruled out: a pattern whose graph may be a literal; the second side of a union left out.
 pub fn type_query(
     script: &[u8],
     sorts: &[u8],
@@ -229,6 +232,7 @@ pub fn type_query(
 }
 
 // A script.
+// Ruled out: a from named over a literal; the block's script left out.
 pub fn type_script(
     script: &[u8],
     sorts: &[u8],

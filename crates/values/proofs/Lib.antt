@@ -1,5 +1,5 @@
 mod Booleans
-mod Signed
+pub mod Signed
 mod Views
 mod Arithmetic
 mod Fields
@@ -12,7 +12,7 @@ mod Patterns
 mod Rows
 mod Writing
 mod Calendars
-mod Strings
+pub mod Strings
 mod Str
 mod SlotValues
 mod Making

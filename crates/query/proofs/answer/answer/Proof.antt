@@ -1,21 +1,14 @@
+-- `answer::answer` meets its contract: the search from the first level on, with the block's variables not known. Assumes nothing.
 use Rattle.query.proofs.AnswerLaws.{answer-is, level-opened}
-use borrow.Author.Needs.{needs}
 use Rattle.query.proofs.answer.answer.Statement.{statement}
 use Rattle.query.proofs.answer.answer.Tie as tie
-use Rattle.query.proofs.answer.answer.Reads as reads
-use Rattle.query.proofs.answer.answer.Lts as lts
-use Rattle.query.proofs.answer.cleared.Reads as cleared-reads
-use Rattle.query.proofs.find.find.Reads as find-reads
 
--- src/answer.rt:37:9
 cleared-requires : tie.Need-cleared-requires
 cleared-requires c κs = (c .before .before .before .before .pre .size, c .before .before .before .before .pre .small)
 
--- src/answer.rt:38:5
 find-requires : tie.Need-find-requires
 find-requires c κs = level-opened (c .before .before .before .before .before .pre) (c .cleared .ensures .1)
 
--- src/answer.rt:33:1
 returns : tie.Need-returns
 returns c = answer-is _ _ _ _ _ _ _ _ _ (c .before .before .before .before .before .before .args .started) (c .before .cleared .ensures .0) (c .find .result) (c .find .ensures .0)
 

@@ -1,16 +1,15 @@
+-- `answer::cleared` meets its contract. The loop's invariant: the variables from j on are still to clear. Assumes nothing.
 use mathlib.Core.Path.{_≡_, _∙_}
 use Prim.Native.Nat.{_-_}
 use native.Mathlib.Omega.{arith}
 use borrow.Author.Needs.{needs}
-use lib.ListN.{length, length-set}
+use lib.ListN.{length}
 use Rattle.query.specs.Seek.{clear}
 use Rattle.query.specs.Codes.{bindingsOf}
 use Rattle.query.specs.Found.{numbersFrom}
 use Rattle.query.proofs.AnswerLaws.{clear-start, clear-turn, clear-ends}
 use Rattle.query.proofs.answer.cleared.Statement.{statement}
 use Rattle.query.proofs.answer.cleared.Tie as tie
-use Rattle.query.proofs.answer.cleared.Reads as reads
-use Rattle.query.proofs.answer.cleared.Lts as lts
 
 abbrev Inv-loop : tie.InvT-loop
 Inv-loop size vars opened₀ j₀ opened j = (clear (numbersFrom size vars 0) (bindingsOf opened₀) ≡ clear (numbersFrom (size - j) vars j) (bindingsOf opened)) × (length opened ≡ 16)
@@ -18,39 +17,30 @@ Inv-loop size vars opened₀ j₀ opened j = (clear (numbersFrom size vars 0) (b
 abbrev μ-loop : tie.MeasureT-loop
 μ-loop size vars opened₀ j₀ opened j = size - j
 
--- src/answer.rt:23:5
 loop-holds : tie.Need-loop-holds Inv-loop μ-loop
 loop-holds c = (clear-start _ _ _, search needs)
 
--- src/answer.rt:24:17
 mul-v : tie.Need-mul-v Inv-loop μ-loop
 mul-v c = search needs
 
--- src/answer.rt:24:17
 array-read-v : tie.Need-array-read-v Inv-loop μ-loop
 array-read-v c = search needs
 
--- src/answer.rt:25:9
 mul-opened : tie.Need-mul-opened Inv-loop μ-loop
 mul-opened c = omega (arith, c .before .before .before .pre .1 (c .before .loop .j))
 
--- src/answer.rt:25:9
 array-write-opened : tie.Need-array-write-opened Inv-loop μ-loop
 array-write-opened c = c .before .before .before .pre .1 _
 
--- src/answer.rt:26:9
 add-j : tie.Need-add-j Inv-loop μ-loop
 add-j c = search needs
 
--- src/answer.rt:23:5
 loop-less : tie.Need-loop-less Inv-loop μ-loop
 loop-less c = omega arith
 
--- src/answer.rt:23:5
 loop-again : tie.Need-loop-again Inv-loop μ-loop
 loop-again c = (clear-turn _ _ _ _ _ (c .before .loop .inv .0) (c .loop-test .taken) (omega (arith, c .before .loop .inv .1, c .before .before .before .pre .1 (c .before .loop .j))), search needs)
 
--- src/answer.rt:13:1
 returns : tie.Need-returns Inv-loop μ-loop
 returns c = (clear-ends _ _ _ _ _ (c .before .loop .inv .0) (c .loop-test .left), c .before .loop .inv .1)
 

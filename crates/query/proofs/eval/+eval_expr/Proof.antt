@@ -1,3 +1,4 @@
+-- `eval::eval_expr` meets its contract: one law for each kind; the levels left fall. Assumes nothing.
 use native.Mathlib.Omega.{arith}
 use mathlib.Core.Path.{_≡_}
 use Rattle.laws.proofs.Reading.{expr-is}
@@ -31,7 +32,6 @@ abbrev eval-expr-below : ℕ → In 3 eval-expr-kinds.ps
 eval-expr-below t =
     and 3 eval-expr-kinds.ps (falls 3 eval-expr-kinds.ps _<_ μ-eval-expr t) eval-expr.Pre
 
--- src/eval.rt:52:16
 eval-expr-shared-slice-read-kind : (t : ℕ) → eval-expr-lts.Need-shared-slice-read-kind (
   name-at-reads.Asked,
   name-at-reads.Learnt,
@@ -52,7 +52,6 @@ eval-expr-shared-slice-read-kind : (t : ℕ) → eval-expr-lts.Need-shared-slice
 ) (eval-expr-at t) eval-expr.Post
 eval-expr-shared-slice-read-kind t c = expr-inside _ _ _ _ (c .before .before .before .before .pre .1 .0)
 
--- src/eval.rt:53:17
 eval-expr-add-first : (t : ℕ) → eval-expr-lts.Need-add-first (
   name-at-reads.Asked,
   name-at-reads.Learnt,
@@ -73,7 +72,6 @@ eval-expr-add-first : (t : ℕ) → eval-expr-lts.Need-add-first (
 ) (eval-expr-at t) eval-expr.Post
 eval-expr-add-first t c = omega (arith, expr-inside _ _ _ _ (c .before .before .before .before .pre .1 .0))
 
--- src/eval.rt:54:17
 eval-expr-sub-below : (t : ℕ) → eval-expr-lts.Need-sub-below (
   name-at-reads.Asked,
   name-at-reads.Learnt,
@@ -94,7 +92,6 @@ eval-expr-sub-below : (t : ℕ) → eval-expr-lts.Need-sub-below (
 ) (eval-expr-at t) eval-expr.Post
 eval-expr-sub-below t c = (expr-left _ _ _ _ (c .before .before .before .before .pre .1 .0))
 
--- src/eval.rt:56:13
 eval-expr-name-at-requires : (t : ℕ) → eval-expr-lts.Need-name-at-requires (
   name-at-reads.Asked,
   name-at-reads.Learnt,
@@ -115,7 +112,6 @@ eval-expr-name-at-requires : (t : ℕ) → eval-expr-lts.Need-name-at-requires (
 ) (eval-expr-at t) eval-expr.Post
 eval-expr-name-at-requires t c κs = (only-loads _ _ (expr-name _ _ _ _ (c .before .before .before .before .before .pre .1 .0) (c .if1 .taken)) (c .before .before .before .before .before .pre .1 .0), c .before .before .before .before .before .pre .1 .1 .variables)
 
--- src/eval.rt:57:13
 eval-expr-term-value-requires : (t : ℕ) → eval-expr-lts.Need-term-value-requires (
   name-at-reads.Asked,
   name-at-reads.Learnt,
@@ -136,7 +132,6 @@ eval-expr-term-value-requires : (t : ℕ) → eval-expr-lts.Need-term-value-requ
 ) (eval-expr-at t) eval-expr.Post
 eval-expr-term-value-requires t c κs = c .before .before .before .before .before .before .pre .1 .1
 
--- src/eval.rt:58:9
 eval-expr-returns : (t : ℕ) → eval-expr-lts.Need-returns (
   name-at-reads.Asked,
   name-at-reads.Learnt,
@@ -157,7 +152,6 @@ eval-expr-returns : (t : ℕ) → eval-expr-lts.Need-returns (
 ) (eval-expr-at t) eval-expr.Post
 eval-expr-returns t c = one-walked _ _ (expr-name _ _ _ _ (c .before .before .before .before .before .before .before .pre .1 .0) (c .before .before .if1 .taken)) (c .before .name-at .ensures) (λ n h. name-value _ _ _ n _ _ h (c .term-value .ensures))
 
--- src/eval.rt:62:17
 eval-expr-clock-value-requires : (t : ℕ) → eval-expr-lts.Need-clock-value-requires (
   name-at-reads.Asked,
   name-at-reads.Learnt,
@@ -178,7 +172,6 @@ eval-expr-clock-value-requires : (t : ℕ) → eval-expr-lts.Need-clock-value-re
 ) (eval-expr-at t) eval-expr.Post
 eval-expr-clock-value-requires t c κs = c .before .before .before .before .before .before .pre .1 .1 .clocked
 
--- src/eval.rt:66:17
 eval-expr-eval-expr-requires : (t : ℕ) → eval-expr-lts.Need-eval-expr-requires (
   name-at-reads.Asked,
   name-at-reads.Learnt,
@@ -199,7 +192,6 @@ eval-expr-eval-expr-requires : (t : ℕ) → eval-expr-lts.Need-eval-expr-requir
 ) (eval-expr-at t) eval-expr.Post
 eval-expr-eval-expr-requires t c κs = (omega (arith, (expr-left _ _ _ _ (c .before .before .before .before .before .before .pre .1 .0))), (only-loads _ _ (expr-is _ _ _ _ (expr-left _ _ _ _ (c .before .before .before .before .before .before .pre .1 .0)) 0x42 (c .match .keys2)) (c .before .before .before .before .before .before .pre .1 .0), c .before .before .before .before .before .before .pre .1 .1))
 
--- src/eval.rt:67:17
 eval-expr-text-of-requires : (t : ℕ) → eval-expr-lts.Need-text-of-requires (
   name-at-reads.Asked,
   name-at-reads.Learnt,
@@ -220,7 +212,6 @@ eval-expr-text-of-requires : (t : ℕ) → eval-expr-lts.Need-text-of-requires (
 ) (eval-expr-at t) eval-expr.Post
 eval-expr-text-of-requires t c κs = good-value _ _ _ _ (c .before .before .before .before .before .before .before .pre .1 .1) (c .eval-expr .ensures)
 
--- src/eval.rt:71:17
 eval-expr-eval-expr-requires-2 : (t : ℕ) → eval-expr-lts.Need-eval-expr-requires-2 (
   name-at-reads.Asked,
   name-at-reads.Learnt,
@@ -241,7 +232,6 @@ eval-expr-eval-expr-requires-2 : (t : ℕ) → eval-expr-lts.Need-eval-expr-requ
 ) (eval-expr-at t) eval-expr.Post
 eval-expr-eval-expr-requires-2 t c κs = (omega (arith, (expr-left _ _ _ _ (c .before .before .before .before .before .before .pre .1 .0))), (only-loads _ _ (expr-is _ _ _ _ (expr-left _ _ _ _ (c .before .before .before .before .before .before .pre .1 .0)) 0x43 (c .match .keys3)) (c .before .before .before .before .before .before .pre .1 .0), c .before .before .before .before .before .before .pre .1 .1))
 
--- src/eval.rt:72:17
 eval-expr-abs-requires : (t : ℕ) → eval-expr-lts.Need-abs-requires (
   name-at-reads.Asked,
   name-at-reads.Learnt,
@@ -262,7 +252,6 @@ eval-expr-abs-requires : (t : ℕ) → eval-expr-lts.Need-abs-requires (
 ) (eval-expr-at t) eval-expr.Post
 eval-expr-abs-requires t c κs = good-value _ _ _ _ (c .before .before .before .before .before .before .before .pre .1 .1) (c .eval-expr2 .ensures)
 
--- src/eval.rt:76:17
 eval-expr-eval-expr-requires-3 : (t : ℕ) → eval-expr-lts.Need-eval-expr-requires-3 (
   name-at-reads.Asked,
   name-at-reads.Learnt,
@@ -283,7 +272,6 @@ eval-expr-eval-expr-requires-3 : (t : ℕ) → eval-expr-lts.Need-eval-expr-requ
 ) (eval-expr-at t) eval-expr.Post
 eval-expr-eval-expr-requires-3 t c κs = (omega (arith, (expr-left _ _ _ _ (c .before .before .before .before .before .before .pre .1 .0))), (first-loads _ _ _ _ (expr-is _ _ _ _ (expr-left _ _ _ _ (c .before .before .before .before .before .before .pre .1 .0)) 0x44 (c .match .keys4)) (c .before .before .before .before .before .before .pre .1 .0), c .before .before .before .before .before .before .pre .1 .1))
 
--- src/eval.rt:77:17
 eval-expr-eval-expr-requires-4 : (t : ℕ) → eval-expr-lts.Need-eval-expr-requires-4 (
   name-at-reads.Asked,
   name-at-reads.Learnt,
@@ -304,7 +292,6 @@ eval-expr-eval-expr-requires-4 : (t : ℕ) → eval-expr-lts.Need-eval-expr-requ
 ) (eval-expr-at t) eval-expr.Post
 eval-expr-eval-expr-requires-4 t c κs = (omega (arith, (expr-left _ _ _ _ (c .before .before .before .before .before .before .before .pre .1 .0))), (second-walks _ _ _ _ (expr-is _ _ _ _ (expr-left _ _ _ _ (c .before .before .before .before .before .before .before .pre .1 .0)) 0x44 (c .before .match .keys4)) (c .eval-expr3 .ensures) (c .before .before .before .before .before .before .before .pre .1 .0), c .before .before .before .before .before .before .before .pre .1 .1))
 
--- src/eval.rt:78:17
 eval-expr-plus-requires : (t : ℕ) → eval-expr-lts.Need-plus-requires (
   name-at-reads.Asked,
   name-at-reads.Learnt,
@@ -325,7 +312,6 @@ eval-expr-plus-requires : (t : ℕ) → eval-expr-lts.Need-plus-requires (
 ) (eval-expr-at t) eval-expr.Post
 eval-expr-plus-requires t c κs = (good-value _ _ _ _ (c .before .before .before .before .before .before .before .before .pre .1 .1) (c .before .eval-expr3 .ensures), good-value _ _ _ _ (c .before .before .before .before .before .before .before .before .pre .1 .1) (c .eval-expr4 .ensures))
 
--- src/eval.rt:82:17
 eval-expr-eval-expr-requires-5 : (t : ℕ) → eval-expr-lts.Need-eval-expr-requires-5 (
   name-at-reads.Asked,
   name-at-reads.Learnt,
@@ -346,7 +332,6 @@ eval-expr-eval-expr-requires-5 : (t : ℕ) → eval-expr-lts.Need-eval-expr-requ
 ) (eval-expr-at t) eval-expr.Post
 eval-expr-eval-expr-requires-5 t c κs = (omega (arith, (expr-left _ _ _ _ (c .before .before .before .before .before .before .pre .1 .0))), (first-loads _ _ _ _ (expr-is _ _ _ _ (expr-left _ _ _ _ (c .before .before .before .before .before .before .pre .1 .0)) 0x45 (expr-last _ _ _ _ (c .before .before .before .before .before .before .pre .1 .0) (c .before .if1 .left) (c .match .rest))) (c .before .before .before .before .before .before .pre .1 .0), c .before .before .before .before .before .before .pre .1 .1))
 
--- src/eval.rt:83:17
 eval-expr-eval-expr-requires-6 : (t : ℕ) → eval-expr-lts.Need-eval-expr-requires-6 (
   name-at-reads.Asked,
   name-at-reads.Learnt,
@@ -367,7 +352,6 @@ eval-expr-eval-expr-requires-6 : (t : ℕ) → eval-expr-lts.Need-eval-expr-requ
 ) (eval-expr-at t) eval-expr.Post
 eval-expr-eval-expr-requires-6 t c κs = (omega (arith, (expr-left _ _ _ _ (c .before .before .before .before .before .before .before .pre .1 .0))), (second-walks _ _ _ _ (expr-is _ _ _ _ (expr-left _ _ _ _ (c .before .before .before .before .before .before .before .pre .1 .0)) 0x45 (expr-last _ _ _ _ (c .before .before .before .before .before .before .before .pre .1 .0) (c .before .before .if1 .left) (c .before .match .rest))) (c .eval-expr5 .ensures) (c .before .before .before .before .before .before .before .pre .1 .0), c .before .before .before .before .before .before .before .pre .1 .1))
 
--- src/eval.rt:84:17
 eval-expr-minus-requires : (t : ℕ) → eval-expr-lts.Need-minus-requires (
   name-at-reads.Asked,
   name-at-reads.Learnt,
@@ -388,7 +372,6 @@ eval-expr-minus-requires : (t : ℕ) → eval-expr-lts.Need-minus-requires (
 ) (eval-expr-at t) eval-expr.Post
 eval-expr-minus-requires t c κs = (good-value _ _ _ _ (c .before .before .before .before .before .before .before .before .pre .1 .1) (c .before .eval-expr5 .ensures), good-value _ _ _ _ (c .before .before .before .before .before .before .before .before .pre .1 .1) (c .eval-expr6 .ensures))
 
--- src/eval.rt:47:1
 eval-expr-returns-2 : (t : ℕ) → eval-expr-lts.Need-returns-2 (
   name-at-reads.Asked,
   name-at-reads.Learnt,
@@ -409,7 +392,6 @@ eval-expr-returns-2 : (t : ℕ) → eval-expr-lts.Need-returns-2 (
 ) (eval-expr-at t) eval-expr.Post
 eval-expr-returns-2 t c = leaf-walked (expr-is _ _ _ _ (expr-left _ _ _ _ (c .before .before .before .before .before .before .before .pre .1 .0)) 0x41 (c .before .match .keys1)) (now-value _ _ _ (c .clock-value .ensures))
 
--- src/eval.rt:47:1
 eval-expr-returns-3 : (t : ℕ) → eval-expr-lts.Need-returns-3 (
   name-at-reads.Asked,
   name-at-reads.Learnt,
@@ -430,7 +412,6 @@ eval-expr-returns-3 : (t : ℕ) → eval-expr-lts.Need-returns-3 (
 ) (eval-expr-at t) eval-expr.Post
 eval-expr-returns-3 t c = one-walked _ _ (expr-is _ _ _ _ (expr-left _ _ _ _ (c .before .before .before .before .before .before .before .before .pre .1 .0)) 0x42 (c .before .before .match .keys2)) (c .before .eval-expr .ensures) (λ e h. str-value _ _ _ e h (holds-gives (c .text-of .ensures)))
 
--- src/eval.rt:47:1
 eval-expr-returns-4 : (t : ℕ) → eval-expr-lts.Need-returns-4 (
   name-at-reads.Asked,
   name-at-reads.Learnt,
@@ -451,7 +432,6 @@ eval-expr-returns-4 : (t : ℕ) → eval-expr-lts.Need-returns-4 (
 ) (eval-expr-at t) eval-expr.Post
 eval-expr-returns-4 t c = one-walked _ _ (expr-is _ _ _ _ (expr-left _ _ _ _ (c .before .before .before .before .before .before .before .before .pre .1 .0)) 0x43 (c .before .before .match .keys3)) (c .before .eval-expr2 .ensures) (λ e h. abs-value _ _ _ e h (c .abs .ensures))
 
--- src/eval.rt:47:1
 eval-expr-returns-5 : (t : ℕ) → eval-expr-lts.Need-returns-5 (
   name-at-reads.Asked,
   name-at-reads.Learnt,
@@ -472,7 +452,6 @@ eval-expr-returns-5 : (t : ℕ) → eval-expr-lts.Need-returns-5 (
 ) (eval-expr-at t) eval-expr.Post
 eval-expr-returns-5 t c = two-walked _ _ _ _ (expr-is _ _ _ _ (expr-left _ _ _ _ (c .before .before .before .before .before .before .before .before .before .pre .1 .0)) 0x44 (c .before .before .before .match .keys4)) (c .before .before .eval-expr3 .ensures) (c .before .eval-expr4 .ensures) (λ e f h k. plus-value _ _ _ e h f k (c .plus .ensures))
 
--- src/eval.rt:47:1
 eval-expr-returns-6 : (t : ℕ) → eval-expr-lts.Need-returns-6 (
   name-at-reads.Asked,
   name-at-reads.Learnt,

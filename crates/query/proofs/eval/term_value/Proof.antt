@@ -1,30 +1,22 @@
+-- `eval::term_value` meets its contract: the slot that it reads is the term's. Assumes nothing.
 use native.Mathlib.Omega.{arith}
 use Rattle.query.proofs.TermLaws.{few, past-value, fits, slot-value}
 use borrow.Author.Needs.{needs}
 use Rattle.query.proofs.eval.term_value.Statement.{statement}
 use Rattle.query.proofs.eval.term_value.Tie as tie
-use Rattle.query.proofs.eval.term_value.Reads as reads
-use Rattle.query.proofs.eval.term_value.Lts as lts
-use Rattle.query.proofs.eval.clock_value.Reads as clock-value-reads
-use Rattle.values.proofs.slot.value_at.Reads as value-at-reads
 
--- src/eval.rt:40:9
 clock-value-requires : tie.Need-clock-value-requires
 clock-value-requires c κs = search needs
 
--- src/eval.rt:40:9
 returns : tie.Need-returns
 returns c = past-value _ _ _ _ (c .before .before .before .before .pre) _ (c .before .if1 .taken) (c .clock-value .ensures)
 
--- src/eval.rt:42:16
 mul-from : tie.Need-mul-from
 mul-from c = omega (arith, few _ _ _ _ (c .before .before .before .pre), c .if1 .left)
 
--- src/eval.rt:43:5
 value-at-requires : tie.Need-value-at-requires
 value-at-requires c κs = fits _ _ _ _ (c .before .before .before .pre) _ (c .if1 .left)
 
--- src/eval.rt:35:1
 returns-2 : tie.Need-returns-2
 returns-2 c = slot-value _ _ _ _ (c .before .before .before .before .pre) _ (c .before .if1 .left) (c .value-at .ensures)
 

@@ -7,8 +7,7 @@ use mathlib.Core.Logic.{⊎-elim}
 use Prim.Native.Nat.{_-_, _≤_}
 use lib.ListN.{length-set}
 use Rattle.query.specs.Codes.{rowsFrom}
-use Rattle.query.specs.Found.{Level}
-use Rattle.query.proofs.FindLaws.{level-at, level-set, SoFar, level-enter, find-tight, find-test, find-past, find-none, find-skip, find-on, find-hit}
+use Rattle.query.proofs.FindLaws.{level-set, SoFar, level-enter, find-tight, find-test, find-past, find-none, find-skip, find-on, find-hit}
 use mathlib.Core.List.{[]}
 use Prim.Native.Nat.{ℕ, _<_}
 use borrow.Fn.Kinds.{In}
@@ -17,9 +16,9 @@ use Rattle.query.proofs.find.find.Reads as find
 use Rattle.query.proofs.find.find.Kinds as find-kinds
 use Rattle.query.proofs.find.+find.Lts-find as find-lts
 use Rattle.query.proofs.eval.eval_query.Reads as eval-query-reads
+use Rattle.query.proofs.find.either.Reads as either-reads
 use Rattle.query.proofs.find.hopeful.Reads as hopeful-reads
 use Rattle.query.proofs.find.next.Reads as next-reads
-use Rattle.query.proofs.find.start.Reads as start-reads
 use Rattle.query.proofs.find.+find.{statement}
 use Rattle.query.proofs.find.+find.Tie.{close}
 
@@ -41,8 +40,8 @@ find-μ-loop script loaded block table count clock quads n leasts k tight known 
 find-returns : (t : ℕ) → find-lts.Need-returns (
   eval-query-reads.Asked,
   eval-query-reads.Learnt,
-  start-reads.Asked,
-  start-reads.Learnt,
+  either-reads.Asked,
+  either-reads.Learnt,
   next-reads.Asked,
   next-reads.Learnt,
   hopeful-reads.Asked,
@@ -55,8 +54,8 @@ find-returns t c = (find-tight _ _ _ _ _ _ _ _ _ ((c .before .before .before .be
 find-slice-aggregate-eval-query : (t : ℕ) → find-lts.Need-slice-aggregate-eval-query (
   eval-query-reads.Asked,
   eval-query-reads.Learnt,
-  start-reads.Asked,
-  start-reads.Learnt,
+  either-reads.Asked,
+  either-reads.Learnt,
   next-reads.Asked,
   next-reads.Learnt,
   hopeful-reads.Asked,
@@ -69,8 +68,8 @@ find-slice-aggregate-eval-query t c = omega arith
 find-eval-query-requires : (t : ℕ) → find-lts.Need-eval-query-requires (
   eval-query-reads.Asked,
   eval-query-reads.Learnt,
-  start-reads.Asked,
-  start-reads.Learnt,
+  either-reads.Asked,
+  either-reads.Learnt,
   next-reads.Asked,
   next-reads.Learnt,
   hopeful-reads.Asked,
@@ -83,8 +82,8 @@ find-eval-query-requires t c κs = ((c .before .before .before .before .before .
 find-returns-2 : (t : ℕ) → find-lts.Need-returns-2 (
   eval-query-reads.Asked,
   eval-query-reads.Learnt,
-  start-reads.Asked,
-  start-reads.Learnt,
+  either-reads.Asked,
+  either-reads.Learnt,
   next-reads.Asked,
   next-reads.Learnt,
   hopeful-reads.Asked,
@@ -97,8 +96,8 @@ find-returns-2 t c = (find-test _ _ _ _ _ _ _ _ _ ((c .before .before .before .b
 find-mul-v : (t : ℕ) → find-lts.Need-mul-v (
   eval-query-reads.Asked,
   eval-query-reads.Learnt,
-  start-reads.Asked,
-  start-reads.Learnt,
+  either-reads.Asked,
+  either-reads.Learnt,
   next-reads.Asked,
   next-reads.Learnt,
   hopeful-reads.Asked,
@@ -111,8 +110,8 @@ find-mul-v t c = omega (arith, (c .before .before .before .before .before .befor
 find-array-read-v : (t : ℕ) → find-lts.Need-array-read-v (
   eval-query-reads.Asked,
   eval-query-reads.Learnt,
-  start-reads.Asked,
-  start-reads.Learnt,
+  either-reads.Asked,
+  either-reads.Learnt,
   next-reads.Asked,
   next-reads.Learnt,
   hopeful-reads.Asked,
@@ -125,8 +124,8 @@ find-array-read-v t c = omega (arith, (c .before .before .before .before .before
 find-mul-l : (t : ℕ) → find-lts.Need-mul-l (
   eval-query-reads.Asked,
   eval-query-reads.Learnt,
-  start-reads.Asked,
-  start-reads.Learnt,
+  either-reads.Asked,
+  either-reads.Learnt,
   next-reads.Asked,
   next-reads.Learnt,
   hopeful-reads.Asked,
@@ -139,8 +138,8 @@ find-mul-l t c = omega (arith, (c .before .before .before .before .before .befor
 find-array-read-l : (t : ℕ) → find-lts.Need-array-read-l (
   eval-query-reads.Asked,
   eval-query-reads.Learnt,
-  start-reads.Asked,
-  start-reads.Learnt,
+  either-reads.Asked,
+  either-reads.Learnt,
   next-reads.Asked,
   next-reads.Learnt,
   hopeful-reads.Asked,
@@ -150,11 +149,11 @@ find-array-read-l : (t : ℕ) → find-lts.Need-array-read-l (
 ) (find-at t) find.Post find-Inv-loop find-μ-loop
 find-array-read-l t c = omega (arith, (c .before .before .before .before .before .before .before .pre .1) .size)
 
-find-start-requires : (t : ℕ) → find-lts.Need-start-requires (
+find-either-requires : (t : ℕ) → find-lts.Need-either-requires (
   eval-query-reads.Asked,
   eval-query-reads.Learnt,
-  start-reads.Asked,
-  start-reads.Learnt,
+  either-reads.Asked,
+  either-reads.Learnt,
   next-reads.Asked,
   next-reads.Learnt,
   hopeful-reads.Asked,
@@ -162,13 +161,13 @@ find-start-requires : (t : ℕ) → find-lts.Need-start-requires (
   find-below t,
   find.Post,
 ) (find-at t) find.Post find-Inv-loop find-μ-loop
-find-start-requires t c κs = tt
+find-either-requires t c κs = tt
 
 find-loop-holds : (t : ℕ) → find-lts.Need-loop-holds (
   eval-query-reads.Asked,
   eval-query-reads.Learnt,
-  start-reads.Asked,
-  start-reads.Learnt,
+  either-reads.Asked,
+  either-reads.Learnt,
   next-reads.Asked,
   next-reads.Learnt,
   hopeful-reads.Asked,
@@ -176,13 +175,13 @@ find-loop-holds : (t : ℕ) → find-lts.Need-loop-holds (
   find-below t,
   find.Post,
 ) (find-at t) find.Post find-Inv-loop find-μ-loop
-find-loop-holds t c = level-enter _ _ _ _ _ _ _ _ _ ((c .before .before .before .before .before .before .before .before .pre .1) .lent) (c .before .before .before .before .before .before .before .before .args .k) (c .before .before .before .before .before .before .before .before .args .tight) (c .before .before .before .if1 .left) _ (c .start .ensures)
+find-loop-holds t c = level-enter _ _ _ _ _ _ _ _ _ ((c .before .before .before .before .before .before .before .before .pre .1) .lent) (c .before .before .before .before .before .before .before .before .args .k) (c .before .before .before .before .before .before .before .before .args .tight) (c .before .before .before .if1 .left) _ (c .either .ensures)
 
 find-slice-aggregate-next : (t : ℕ) → find-lts.Need-slice-aggregate-next (
   eval-query-reads.Asked,
   eval-query-reads.Learnt,
-  start-reads.Asked,
-  start-reads.Learnt,
+  either-reads.Asked,
+  either-reads.Learnt,
   next-reads.Asked,
   next-reads.Learnt,
   hopeful-reads.Asked,
@@ -195,8 +194,8 @@ find-slice-aggregate-next t c = omega (arith, (c .before .before .before .before
 find-next-requires : (t : ℕ) → find-lts.Need-next-requires (
   eval-query-reads.Asked,
   eval-query-reads.Learnt,
-  start-reads.Asked,
-  start-reads.Learnt,
+  either-reads.Asked,
+  either-reads.Learnt,
   next-reads.Asked,
   next-reads.Learnt,
   hopeful-reads.Asked,
@@ -209,8 +208,8 @@ find-next-requires t c κs = ((c .before .before .before .before .before .before
 find-returns-3 : (t : ℕ) → find-lts.Need-returns-3 (
   eval-query-reads.Asked,
   eval-query-reads.Learnt,
-  start-reads.Asked,
-  start-reads.Learnt,
+  either-reads.Asked,
+  either-reads.Learnt,
   next-reads.Asked,
   next-reads.Learnt,
   hopeful-reads.Asked,
@@ -223,8 +222,8 @@ find-returns-3 t c = (find-none _ _ _ _ _ _ _ _ _ ((c .before .before .before .b
 find-mul-with : (t : ℕ) → find-lts.Need-mul-with (
   eval-query-reads.Asked,
   eval-query-reads.Learnt,
-  start-reads.Asked,
-  start-reads.Learnt,
+  either-reads.Asked,
+  either-reads.Learnt,
   next-reads.Asked,
   next-reads.Learnt,
   hopeful-reads.Asked,
@@ -237,8 +236,8 @@ find-mul-with t c = omega (arith, (c .before .before .before .before .before .be
 find-array-write-with : (t : ℕ) → find-lts.Need-array-write-with (
   eval-query-reads.Asked,
   eval-query-reads.Learnt,
-  start-reads.Asked,
-  start-reads.Learnt,
+  either-reads.Asked,
+  either-reads.Learnt,
   next-reads.Asked,
   next-reads.Learnt,
   hopeful-reads.Asked,
@@ -248,11 +247,39 @@ find-array-write-with : (t : ℕ) → find-lts.Need-array-write-with (
 ) (find-at t) find.Post find-Inv-loop find-μ-loop
 find-array-write-with t c = omega (arith, (c .before .before .before .before .before .before .before .before .before .before .before .before .before .pre .1) .small (c .before .before .before .before .before .before .before .before .before .before .before .before .before .args .k))
 
+find-add-either : (t : ℕ) → find-lts.Need-add-either (
+  eval-query-reads.Asked,
+  eval-query-reads.Learnt,
+  either-reads.Asked,
+  either-reads.Learnt,
+  next-reads.Asked,
+  next-reads.Learnt,
+  hopeful-reads.Asked,
+  hopeful-reads.Learnt,
+  find-below t,
+  find.Post,
+) (find-at t) find.Post find-Inv-loop find-μ-loop
+find-add-either t c = omega (arith, (c .before .before .before .before .before .before .before .before .before .before .before .before .before .pre .1) .size, c .before .before .before .before .before .before .before .before .if1 .left)
+
+find-either-requires-2 : (t : ℕ) → find-lts.Need-either-requires-2 (
+  eval-query-reads.Asked,
+  eval-query-reads.Learnt,
+  either-reads.Asked,
+  either-reads.Learnt,
+  next-reads.Asked,
+  next-reads.Learnt,
+  hopeful-reads.Asked,
+  hopeful-reads.Learnt,
+  find-below t,
+  find.Post,
+) (find-at t) find.Post find-Inv-loop find-μ-loop
+find-either-requires-2 t c κs = tt
+
 find-slice-aggregate-hopeful : (t : ℕ) → find-lts.Need-slice-aggregate-hopeful (
   eval-query-reads.Asked,
   eval-query-reads.Learnt,
-  start-reads.Asked,
-  start-reads.Learnt,
+  either-reads.Asked,
+  either-reads.Learnt,
   next-reads.Asked,
   next-reads.Learnt,
   hopeful-reads.Asked,
@@ -262,25 +289,11 @@ find-slice-aggregate-hopeful : (t : ℕ) → find-lts.Need-slice-aggregate-hopef
 ) (find-at t) find.Post find-Inv-loop find-μ-loop
 find-slice-aggregate-hopeful t c = search needs
 
-find-add-hopeful : (t : ℕ) → find-lts.Need-add-hopeful (
-  eval-query-reads.Asked,
-  eval-query-reads.Learnt,
-  start-reads.Asked,
-  start-reads.Learnt,
-  next-reads.Asked,
-  next-reads.Learnt,
-  hopeful-reads.Asked,
-  hopeful-reads.Learnt,
-  find-below t,
-  find.Post,
-) (find-at t) find.Post find-Inv-loop find-μ-loop
-find-add-hopeful t c = omega (arith, (c .before .before .before .before .before .before .before .before .before .before .before .before .before .before .pre .1) .size)
-
 find-hopeful-requires : (t : ℕ) → find-lts.Need-hopeful-requires (
   eval-query-reads.Asked,
   eval-query-reads.Learnt,
-  start-reads.Asked,
-  start-reads.Learnt,
+  either-reads.Asked,
+  either-reads.Learnt,
   next-reads.Asked,
   next-reads.Learnt,
   hopeful-reads.Asked,
@@ -288,13 +301,13 @@ find-hopeful-requires : (t : ℕ) → find-lts.Need-hopeful-requires (
   find-below t,
   find.Post,
 ) (find-at t) find.Post find-Inv-loop find-μ-loop
-find-hopeful-requires t c κs = level-set (c .before .before .before .before .before .before .before .before .before .before .before .before .before .before .pre .1) _ _ (omega arith)
+find-hopeful-requires t c κs = level-set (c .before .before .before .before .before .before .before .before .before .before .before .before .before .before .before .pre .1) _ _ (omega arith)
 
 find-add-find : (t : ℕ) → find-lts.Need-add-find (
   eval-query-reads.Asked,
   eval-query-reads.Learnt,
-  start-reads.Asked,
-  start-reads.Learnt,
+  either-reads.Asked,
+  either-reads.Learnt,
   next-reads.Asked,
   next-reads.Learnt,
   hopeful-reads.Asked,
@@ -302,13 +315,13 @@ find-add-find : (t : ℕ) → find-lts.Need-add-find (
   find-below t,
   find.Post,
 ) (find-at t) find.Post find-Inv-loop find-μ-loop
-find-add-find t c = omega (arith, (c .before .before .before .before .before .before .before .before .before .before .before .before .before .before .before .before .pre .1) .size)
+find-add-find t c = omega (arith, (c .before .before .before .before .before .before .before .before .before .before .before .before .before .before .before .before .before .pre .1) .size)
 
 find-find-requires : (t : ℕ) → find-lts.Need-find-requires (
   eval-query-reads.Asked,
   eval-query-reads.Learnt,
-  start-reads.Asked,
-  start-reads.Learnt,
+  either-reads.Asked,
+  either-reads.Learnt,
   next-reads.Asked,
   next-reads.Learnt,
   hopeful-reads.Asked,
@@ -316,13 +329,13 @@ find-find-requires : (t : ℕ) → find-lts.Need-find-requires (
   find-below t,
   find.Post,
 ) (find-at t) find.Post find-Inv-loop find-μ-loop
-find-find-requires t c κs = (omega arith, level-set (c .before .before .before .before .before .before .before .before .before .before .before .before .before .before .before .before .pre .1) _ _ (omega (arith, c .before .before .before .before .before .before .before .before .before .before .before .if1 .left)))
+find-find-requires t c κs = (omega arith, level-set (c .before .before .before .before .before .before .before .before .before .before .before .before .before .before .before .before .before .pre .1) _ _ (omega (arith, c .before .before .before .before .before .before .before .before .before .before .before .before .if1 .left)))
 
 find-mul-tuple : (t : ℕ) → find-lts.Need-mul-tuple (
   eval-query-reads.Asked,
   eval-query-reads.Learnt,
-  start-reads.Asked,
-  start-reads.Learnt,
+  either-reads.Asked,
+  either-reads.Learnt,
   next-reads.Asked,
   next-reads.Learnt,
   hopeful-reads.Asked,
@@ -330,13 +343,13 @@ find-mul-tuple : (t : ℕ) → find-lts.Need-mul-tuple (
   find-below t,
   find.Post,
 ) (find-at t) find.Post find-Inv-loop find-μ-loop
-find-mul-tuple t c = omega (arith, (c .before .before .before .before .before .before .before .before .before .before .before .before .before .before .before .before .before .before .before .pre .1) .size, c .before .before .before .before .before .before .before .before .before .before .before .before .before .before .if1 .left)
+find-mul-tuple t c = omega (arith, (c .before .before .before .before .before .before .before .before .before .before .before .before .before .before .before .before .before .before .before .before .pre .1) .size, c .before .before .before .before .before .before .before .before .before .before .before .before .before .before .before .if1 .left)
 
 find-array-write-tuple : (t : ℕ) → find-lts.Need-array-write-tuple (
   eval-query-reads.Asked,
   eval-query-reads.Learnt,
-  start-reads.Asked,
-  start-reads.Learnt,
+  either-reads.Asked,
+  either-reads.Learnt,
   next-reads.Asked,
   next-reads.Learnt,
   hopeful-reads.Asked,
@@ -344,13 +357,13 @@ find-array-write-tuple : (t : ℕ) → find-lts.Need-array-write-tuple (
   find-below t,
   find.Post,
 ) (find-at t) find.Post find-Inv-loop find-μ-loop
-find-array-write-tuple t c = omega (arith, (c .before .before .before .before .before .before .before .before .before .before .before .before .before .before .before .before .before .before .before .pre .1) .size, c .before .before .before .before .before .before .before .before .before .before .before .before .before .before .if1 .left)
+find-array-write-tuple t c = omega (arith, (c .before .before .before .before .before .before .before .before .before .before .before .before .before .before .before .before .before .before .before .before .pre .1) .size, c .before .before .before .before .before .before .before .before .before .before .before .before .before .before .before .if1 .left)
 
 find-returns-4 : (t : ℕ) → find-lts.Need-returns-4 (
   eval-query-reads.Asked,
   eval-query-reads.Learnt,
-  start-reads.Asked,
-  start-reads.Learnt,
+  either-reads.Asked,
+  either-reads.Learnt,
   next-reads.Asked,
   next-reads.Learnt,
   hopeful-reads.Asked,
@@ -358,13 +371,13 @@ find-returns-4 : (t : ℕ) → find-lts.Need-returns-4 (
   find-below t,
   find.Post,
 ) (find-at t) find.Post find-Inv-loop find-μ-loop
-find-returns-4 t c = (find-hit _ _ _ _ _ _ _ _ _ ((c .before .before .before .before .before .before .before .before .before .before .before .before .before .before .before .before .before .before .before .pre .1) .lent) (c .before .before .before .before .before .before .before .before .before .before .before .before .before .before .before .before .before .before .before .args .k) (c .before .before .before .before .before .before .before .before .before .before .before .before .before .before .before .before .before .before .before .args .tight) (c .before .before .before .before .before .before .before .before .before .before .before .before .before .before .if1 .left) _ (c .before .before .before .before .before .before .before .before .before .before .loop .inv) [] _ (c .before .before .before .before .before .before .before .next .ensures) (c .before .before .before .before .before .before .if3 .left) (omega (arith, (c .before .before .before .before .before .before .before .before .before .before .before .before .before .before .before .before .before .before .before .pre .1) .small (c .before .before .before .before .before .before .before .before .before .before .before .before .before .before .before .before .before .before .before .args .k), (c .before .before .before .before .before .before .before .before .before .before .before .before .before .before .before .before .before .before .before .pre .1) .lent .variables)) _ (c .before .before .before .before .hopeful .ensures) (c .before .before .before .if4 .taken) _ _ refl (c .before .before .find .ensures .0) (c .before .if5 .taken) (omega (arith, c .before .before .find .ensures .1, (c .before .before .before .before .before .before .before .before .before .before .before .before .before .before .before .before .before .before .before .pre .1) .size, c .before .before .before .before .before .before .before .before .before .before .before .before .before .before .if1 .left)), length-set (c .before .before .find .result .tuple) (c .before .before .before .before .before .before .before .before .before .before .before .before .before .before .before .before .before .before .before .args .k) (c .before .before .before .before .before .before .before .next .result) ∙ c .before .before .find .ensures .1)
+find-returns-4 t c = (find-hit _ _ _ _ _ _ _ _ _ ((c .before .before .before .before .before .before .before .before .before .before .before .before .before .before .before .before .before .before .before .before .pre .1) .lent) (c .before .before .before .before .before .before .before .before .before .before .before .before .before .before .before .before .before .before .before .before .args .k) (c .before .before .before .before .before .before .before .before .before .before .before .before .before .before .before .before .before .before .before .before .args .tight) (c .before .before .before .before .before .before .before .before .before .before .before .before .before .before .before .if1 .left) _ (c .before .before .before .before .before .before .before .before .before .before .before .loop .inv) [] _ (c .before .before .before .before .before .before .before .before .next .ensures) (c .before .before .before .before .before .before .before .if3 .left) (omega (arith, (c .before .before .before .before .before .before .before .before .before .before .before .before .before .before .before .before .before .before .before .before .pre .1) .small (c .before .before .before .before .before .before .before .before .before .before .before .before .before .before .before .before .before .before .before .before .args .k), (c .before .before .before .before .before .before .before .before .before .before .before .before .before .before .before .before .before .before .before .before .pre .1) .lent .variables)) _ refl _ (c .before .before .before .before .before .before .either2 .ensures) _ (c .before .before .before .before .hopeful .ensures) (c .before .before .before .if4 .taken) _ (c .before .before .find .ensures .0) (c .before .if5 .taken) (omega (arith, c .before .before .find .ensures .1, (c .before .before .before .before .before .before .before .before .before .before .before .before .before .before .before .before .before .before .before .before .pre .1) .size, c .before .before .before .before .before .before .before .before .before .before .before .before .before .before .before .if1 .left)), length-set (c .before .before .find .result .tuple) (c .before .before .before .before .before .before .before .before .before .before .before .before .before .before .before .before .before .before .before .before .args .k) (c .before .before .before .before .before .before .before .before .next .result) ∙ c .before .before .find .ensures .1)
 
 find-add-lo : (t : ℕ) → find-lts.Need-add-lo (
   eval-query-reads.Asked,
   eval-query-reads.Learnt,
-  start-reads.Asked,
-  start-reads.Learnt,
+  either-reads.Asked,
+  either-reads.Learnt,
   next-reads.Asked,
   next-reads.Learnt,
   hopeful-reads.Asked,
@@ -372,13 +385,13 @@ find-add-lo : (t : ℕ) → find-lts.Need-add-lo (
   find-below t,
   find.Post,
 ) (find-at t) find.Post find-Inv-loop find-μ-loop
-find-add-lo t c = omega (arith, (c .before .before .before .before .before .before .before .before .before .before .before .before .before .before .before .before .pre .1) .size)
+find-add-lo t c = omega (arith, (c .before .before .before .before .before .before .before .before .before .before .before .before .before .before .before .before .before .pre .1) .size)
 
 find-loop-less : (t : ℕ) → find-lts.Need-loop-less (
   eval-query-reads.Asked,
   eval-query-reads.Learnt,
-  start-reads.Asked,
-  start-reads.Learnt,
+  either-reads.Asked,
+  either-reads.Learnt,
   next-reads.Asked,
   next-reads.Learnt,
   hopeful-reads.Asked,
@@ -386,13 +399,13 @@ find-loop-less : (t : ℕ) → find-lts.Need-loop-less (
   find-below t,
   find.Post,
 ) (find-at t) find.Post find-Inv-loop find-μ-loop
-find-loop-less t c = omega (arith, c .before .before .before .before .next .ensures .0, c .before .before .before .if3 .left, c .before .before .before .before .before .before .loop-test .taken)
+find-loop-less t c = omega (arith, c .before .before .before .before .before .next .ensures .0, c .before .before .before .before .if3 .left, c .before .before .before .before .before .before .before .loop-test .taken)
 
 find-loop-again : (t : ℕ) → find-lts.Need-loop-again (
   eval-query-reads.Asked,
   eval-query-reads.Learnt,
-  start-reads.Asked,
-  start-reads.Learnt,
+  either-reads.Asked,
+  either-reads.Learnt,
   next-reads.Asked,
   next-reads.Learnt,
   hopeful-reads.Asked,
@@ -400,17 +413,13 @@ find-loop-again : (t : ℕ) → find-lts.Need-loop-again (
   find-below t,
   find.Post,
 ) (find-at t) find.Post find-Inv-loop find-μ-loop
-find-loop-again t c =
-    ⊎-elim
-    (λ w. find-on _ _ _ _ _ _ _ _ _ ((c .before .before .before .before .before .before .before .before .before .before .before .before .before .before .before .before .pre .1) .lent) (c .before .before .before .before .before .before .before .before .before .before .before .before .before .before .before .before .args .k) (c .before .before .before .before .before .before .before .before .before .before .before .before .before .before .before .before .args .tight) (c .before .before .before .before .before .before .before .before .before .before .before .if1 .left) _ (c .before .before .before .before .before .before .before .loop .inv) [] _ (c .before .before .before .before .next .ensures) (c .before .before .before .if3 .left) (omega (arith, (c .before .before .before .before .before .before .before .before .before .before .before .before .before .before .before .before .pre .1) .small (c .before .before .before .before .before .before .before .before .before .before .before .before .before .before .before .before .args .k), (c .before .before .before .before .before .before .before .before .before .before .before .before .before .before .before .before .pre .1) .lent .variables)) _ (c .before .hopeful .ensures) (w .0 .taken) _ _ refl (w .1 .ensures .0) (w .2 .left))
-    (λ w. find-skip _ _ _ _ _ _ _ _ _ ((c .before .before .before .before .before .before .before .before .before .before .before .before .before .before .before .before .pre .1) .lent) (c .before .before .before .before .before .before .before .before .before .before .before .before .before .before .before .before .args .k) (c .before .before .before .before .before .before .before .before .before .before .before .before .before .before .before .before .args .tight) (c .before .before .before .before .before .before .before .before .before .before .before .if1 .left) _ (c .before .before .before .before .before .before .before .loop .inv) [] _ (c .before .before .before .before .next .ensures) (c .before .before .before .if3 .left) (omega (arith, (c .before .before .before .before .before .before .before .before .before .before .before .before .before .before .before .before .pre .1) .small (c .before .before .before .before .before .before .before .before .before .before .before .before .before .before .before .before .args .k), (c .before .before .before .before .before .before .before .before .before .before .before .before .before .before .before .before .pre .1) .lent .variables)) _ (c .before .hopeful .ensures) (w .left))
-    (c .if4 .came)
+find-loop-again t c = ⊎-elim (λ w. find-on _ _ _ _ _ _ _ _ _ ((c .before .before .before .before .before .before .before .before .before .before .before .before .before .before .before .before .before .pre .1) .lent) (c .before .before .before .before .before .before .before .before .before .before .before .before .before .before .before .before .before .args .k) (c .before .before .before .before .before .before .before .before .before .before .before .before .before .before .before .before .before .args .tight) (c .before .before .before .before .before .before .before .before .before .before .before .before .if1 .left) _ (c .before .before .before .before .before .before .before .before .loop .inv) [] _ (c .before .before .before .before .before .next .ensures) (c .before .before .before .before .if3 .left) (omega (arith, (c .before .before .before .before .before .before .before .before .before .before .before .before .before .before .before .before .before .pre .1) .small (c .before .before .before .before .before .before .before .before .before .before .before .before .before .before .before .before .before .args .k), (c .before .before .before .before .before .before .before .before .before .before .before .before .before .before .before .before .before .pre .1) .lent .variables)) _ refl _ (c .before .before .before .either2 .ensures) _ (c .before .hopeful .ensures) (w .0 .taken) _ (w .1 .ensures .0) (w .2 .left)) (λ w. find-skip _ _ _ _ _ _ _ _ _ ((c .before .before .before .before .before .before .before .before .before .before .before .before .before .before .before .before .before .pre .1) .lent) (c .before .before .before .before .before .before .before .before .before .before .before .before .before .before .before .before .before .args .k) (c .before .before .before .before .before .before .before .before .before .before .before .before .before .before .before .before .before .args .tight) (c .before .before .before .before .before .before .before .before .before .before .before .before .if1 .left) _ (c .before .before .before .before .before .before .before .before .loop .inv) [] _ (c .before .before .before .before .before .next .ensures) (c .before .before .before .before .if3 .left) (omega (arith, (c .before .before .before .before .before .before .before .before .before .before .before .before .before .before .before .before .before .pre .1) .small (c .before .before .before .before .before .before .before .before .before .before .before .before .before .before .before .before .before .args .k), (c .before .before .before .before .before .before .before .before .before .before .before .before .before .before .before .before .before .pre .1) .lent .variables)) _ refl _ (c .before .before .before .either2 .ensures) _ (c .before .hopeful .ensures) (w .left)) (c .if4 .came)
 
 find-returns-5 : (t : ℕ) → find-lts.Need-returns-5 (
   eval-query-reads.Asked,
   eval-query-reads.Learnt,
-  start-reads.Asked,
-  start-reads.Learnt,
+  either-reads.Asked,
+  either-reads.Learnt,
   next-reads.Asked,
   next-reads.Learnt,
   hopeful-reads.Asked,
@@ -424,8 +433,8 @@ pub +find-spec : {M : Type 1} → statement M
 +find-spec = close μ-find λ t. find-lts.spec (
   eval-query-reads.Asked,
   eval-query-reads.Learnt,
-  start-reads.Asked,
-  start-reads.Learnt,
+  either-reads.Asked,
+  either-reads.Learnt,
   next-reads.Asked,
   next-reads.Learnt,
   hopeful-reads.Asked,
@@ -445,15 +454,16 @@ pub +find-spec : {M : Type 1} → statement M
     (find-array-read-v t)
     (find-mul-l t)
     (find-array-read-l t)
-    (find-start-requires t)
+    (find-either-requires t)
     (find-loop-holds t)
     (find-slice-aggregate-next t)
     (find-next-requires t)
     (find-returns-3 t)
     (find-mul-with t)
     (find-array-write-with t)
+    (find-add-either t)
+    (find-either-requires-2 t)
     (find-slice-aggregate-hopeful t)
-    (find-add-hopeful t)
     (find-hopeful-requires t)
     (find-add-find t)
     (find-find-requires t)

@@ -1,9 +1,8 @@
 -- `names::name_at` meets its contract: what loads is a variable or a constant. Assumes nothing.
 use native.Mathlib.Omega.{arith}
-use borrow.Author.Needs.{needs}
 use Rattle.laws.proofs.Loaded.{name-inside, name-var, name-const, name-last}
 use Rattle.laws.proofs.Walked.{leaf-walked}
-use Rattle.typing.proofs.WalkLaws.{same-placed, constant-placed}
+use Rattle.typing.proofs.WalkLaws.{constant-placed}
 use Rattle.typing.proofs.names.name_at.Statement.{statement}
 use Rattle.typing.proofs.names.name_at.Tie as tie
 
@@ -13,20 +12,20 @@ shared-slice-read-kind c = name-inside _ _ _ _ (c .before .before .before .befor
 add-first : tie.Need-add-first
 add-first c = omega (arith, name-inside _ _ _ _ (c .before .before .before .before .pre .0))
 
-shared-slice-read-wide : tie.Need-shared-slice-read-wide
-shared-slice-read-wide c = omega (arith, name-var _ _ _ _ (c .before .before .before .before .before .before .pre .0) (c .before .if1 .taken))
+shared-slice-read-x : tie.Need-shared-slice-read-x
+shared-slice-read-x c = omega (arith, name-var _ _ _ _ (c .before .before .before .before .before .before .pre .0) (c .before .if1 .taken))
 
-wide-requires : tie.Need-wide-requires
-wide-requires c κs = search needs
+cast-x : tie.Need-cast-x
+cast-x c = omega (arith, name-var _ _ _ _ (c .before .before .before .before .before .before .pre .0) (c .before .if1 .taken))
 
 variable-place-requires : tie.Need-variable-place-requires
-variable-place-requires c κs = (c .before .before .before .before .before .before .before .pre .1, omega (arith, name-var _ _ _ _ (c .before .before .before .before .before .before .before .pre .0) (c .before .before .if1 .taken)))
+variable-place-requires c κs = (c .before .before .before .before .before .before .pre .1, omega (arith, name-var _ _ _ _ (c .before .before .before .before .before .before .pre .0) (c .before .if1 .taken)))
 
 add-next : tie.Need-add-next
-add-next c = omega (arith, name-var _ _ _ _ (c .before .before .before .before .before .before .before .before .pre .0) (c .before .before .before .if1 .taken))
+add-next c = omega (arith, name-var _ _ _ _ (c .before .before .before .before .before .before .before .pre .0) (c .before .before .if1 .taken))
 
 returns : tie.Need-returns
-returns c = leaf-walked (name-var _ _ _ _ (c .before .before .before .before .before .before .before .before .pre .0) (c .before .before .before .if1 .taken) .2) (same-placed _ _ (c .before .wide .ensures .0) (c .variable-place .ensures))
+returns c = leaf-walked (name-var _ _ _ _ (c .before .before .before .before .before .before .before .pre .0) (c .before .before .if1 .taken) .2) (c .variable-place .ensures)
 
 word-at-requires : tie.Need-word-at-requires
 word-at-requires c κs = omega (arith, name-const _ _ _ _ (c .before .before .before .before .before .pre .0) (name-last _ _ _ _ (c .before .before .before .before .before .pre .0) (c .if1 .left)))
@@ -38,7 +37,7 @@ add-next-2 : tie.Need-add-next-2
 add-next-2 c = omega (arith, name-const _ _ _ _ (c .before .before .before .before .before .before .before .pre .0) (name-last _ _ _ _ (c .before .before .before .before .before .before .before .pre .0) (c .before .before .if1 .left)))
 
 returns-2 : tie.Need-returns-2
-returns-2 c = let k = name-const _ _ _ _ (c .before .before .before .before .before .before .before .pre .0) (name-last _ _ _ _ (c .before .before .before .before .before .before .before .pre .0) (c .before .before .if1 .left)) in leaf-walked (k .2) (constant-placed _ _ _ _ (c .before .word-at .ensures .0) (k .1))
+returns-2 c = let k = name-const _ _ _ _ (c .before .before .before .before .before .before .before .pre .0) (name-last _ _ _ _ (c .before .before .before .before .before .before .before .pre .0) (c .before .before .if1 .left)) in leaf-walked (k .2) (constant-placed _ _ _ _ (c .before .word-at .ensures) (k .1))
 
 pub name-at-spec : {M : Type 1} → statement M
 name-at-spec =
@@ -46,8 +45,8 @@ name-at-spec =
     (tie.spec
     shared-slice-read-kind
     add-first
-    shared-slice-read-wide
-    wide-requires
+    shared-slice-read-x
+    cast-x
     variable-place-requires
     add-next
     returns

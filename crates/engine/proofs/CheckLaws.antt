@@ -1,0 +1,258 @@
+-- The whole check, refusals 2 to 9: its tests in the parts in which the code makes them, and what the code finds.
+use Prim.Native.Nat.{ℕ, _≤_}
+use native.Mathlib.Omega.{arith}
+use mathlib.Core.Path.{_≡_, refl, sym, ap, subst, fun-ext, _∙_}
+use mathlib.Core.List.{List, map, _++_}
+use mathlib.Core.Bool.{Bool, true, false, _&&_}
+use mathlib.Core.Option.{Option, none, some}
+use lib.Dec.{leb}
+use lib.ListN.{length, take, drop, length-map, length-append}
+use lib.Seq.{take-append-seam}
+use Rattle.definitions.specs.Limits.{termLimit, entryLimit, scriptLimit}
+use Rattle.definitions.specs.Lists.{distinct}
+use Rattle.definitions.specs.Types.{Ty}
+use Rattle.definitions.specs.Terms.{Term, Schema, readTerms, readSchema, sameTerm, sameProperty}
+use Rattle.definitions.specs.Tree.{Script}
+use Rattle.definitions.specs.Reading.{parsed}
+use Rattle.definitions.specs.Scope.{inScope}
+use Rattle.definitions.specs.Typing.{Verdict, noTyping, noGreatest, greatest, writtenTypes, verdict}
+use Rattle.definitions.specs.Machine.{withProperties}
+use Rattle.definitions.specs.Saved.{termTable, termsIn}
+use Rattle.definitions.specs.Result.{Result, refused, passed, _>>=_, _>>_, require, given}
+use Rattle.definitions.specs.Calls.{Checked, constantsOf, typesOf, sizesFit, check, reported}
+use Rattle.laws.proofs.Results.{passed-is, not-refused}
+use Rattle.records.specs.Answers.{isSome}
+use Rattle.records.specs.Table.{HoldsTerms}
+use Rattle.records.proofs.NumberingLaws.{Holding, holding-terms, holds-of}
+use Rattle.reader.specs.Fields as Reader
+use Rattle.typing.specs.Codes.{sortsIn}
+use Rattle.typing.specs.Answers.{answerOf}
+use Rattle.typing.specs.declared.Answer.{Answer}
+use Rattle.typing.proofs.Constants.{worked-out}
+use Rattle.engine.specs.Leasts.{codeOf, leastCodes}
+use Rattle.engine.specs.Check.{numberOf, Listed, recordTests, scriptTests, Parsed, readTests, readyOf, typeTests, refusedCard, cardOf, TablesOf}
+use Rattle.engine.specs.declared.card.Card.{Card}
+use Rattle.engine.specs.declared.card.Ready.{Ready}
+use Rattle.engine.specs.declared.card.Ready.the-variants.{Refused, Terms}
+use Rattle.engine.proofs.Numbers.{NotZero, bind-not-zero, bind-bind, bind-refused, bind-passed}
+use Rattle.engine.proofs.ReadyLaws.{read-not-zero, Reads, reads-of}
+
+-- ── the parts ───────────────────────────────────────────────────────────────────────────────
+
+-- what follows two readings and their tests
+module _ {C D : Type 0} (k : C → Result D) where
+  last-then : (n : ℕ) (b : Bool) (c : C) → ((require n b >> passed c) >>= k) ≡ (require n b >> k c)
+  unfolding require _>>=_ _>>_
+  last-then n true c = refl
+  last-then n false c = refl
+
+  test-then : (n : ℕ) (b : Bool) (m : Result C) {r : Result D} → (m >>= k) ≡ r → ((require n b >> m) >>= k) ≡ (require n b >> r)
+  unfolding require _>>=_ _>>_
+  test-then n true m e = e
+  test-then n false m e = refl
+
+  one-then : {B : Type 0} (n m : ℕ) (o : Option B) (t : B → Bool) (f : B → C)
+      → ((given n o >>= λ y. require m (t y) >> passed (f y)) >>= k) ≡ (given n o >>= λ y. require m (t y) >> k (f y))
+  unfolding given _>>=_
+  one-then n m none t f = refl
+  one-then n m (some y) t f = last-then m (t y) (f y)
+
+  two-then : {A B : Type 0} (a b n m : ℕ) (o : Option A) (t : A → Bool) (p : Option B) (u : B → Bool) (f : A → B → C)
+      → ((given a o >>= λ x. require b (t x) >> (given n p >>= λ y. require m (u y) >> passed (f x y))) >>= k)
+      ≡ (given a o >>= λ x. require b (t x) >> (given n p >>= λ y. require m (u y) >> k (f x y)))
+  unfolding given _>>=_
+  two-then a b n m none t p u f = refl
+  two-then a b n m (some x) t p u f = test-then b (t x) _ (one-then n m p u (f x))
+
+require-both : {B : Type 0} (n : ℕ) (a b : Bool) (k : Result B) → (require n (a && b) >> k) ≡ (require n a >> (require n b >> k))
+unfolding require _>>_
+require-both n true b k = refl
+require-both n false b k = refl
+
+module _ (schema script : List ℕ) where
+  numbered : List Term → Schema → List Term
+  numbered listed S = withProperties S listed
+
+  -- reading and scope, then the types
+  rest : List Term → Schema → Result Checked
+  rest listed S =
+      given 6 (parsed (length (numbered listed S)) script) >>= λ root.
+      require 7 (inScope root) >> typeTests (record { terms = numbered listed S; schema = S; root = root })
+
+  -- the schema is read twice, its size is looked at once
+  size-tests : (o : Option Schema) (listed : List Term)
+      → (given 4 o >>= λ S. require 5 (distinct sameProperty S) >> (require 6 (sizesFit (numbered listed S) S script) >> rest listed S))
+      ≡ (given 4 o >>= λ S. require 5 (distinct sameProperty S) >> (require 6 (leb (length (numbered listed S)) termLimit)
+      >> (given 6 o >>= λ S′. require 6 (leb (length S′) entryLimit && leb (length script) scriptLimit) >> rest listed S)))
+  unfolding given _>>=_ sizesFit
+  size-tests none listed = refl
+  size-tests (some S) listed =
+      ap (λ (m : Result Checked). require 5 (distinct sameProperty S) >> m)
+      (require-both 6 (leb (length (numbered listed S)) termLimit) (leb (length S) entryLimit && leb (length script) scriptLimit) (rest listed S))
+
+  -- what follows terms and schema
+  after : Listed → Result Checked
+  after l =
+      require 6 (leb (length (numbered (l .terms) (l .schema))) termLimit)
+      >> (given 6 (readSchema schema) >>= λ S. require 6 (leb (length S) entryLimit && leb (length script) scriptLimit) >> rest (l .terms) (l .schema))
+
+  parse : Listed → Result Parsed
+  parse l =
+      require 6 (leb (length (numbered (l .terms) (l .schema))) termLimit)
+      >> (scriptTests (length (numbered (l .terms) (l .schema))) schema script
+      >>= λ root. passed (record { terms = numbered (l .terms) (l .schema); schema = l .schema; root = root }))
+
+  parse-then : (l : Listed) → (parse l >>= typeTests) ≡ after l
+  unfolding parse after rest scriptTests
+  parse-then l =
+      let n = length (numbered (l .terms) (l .schema)) in
+      let made : Script → Parsed = λ root. record { terms = numbered (l .terms) (l .schema); schema = l .schema; root = root } in
+      test-then typeTests 6 (leb n termLimit) (scriptTests n schema script >>= λ root. passed (made root))
+      (bind-bind typeTests (scriptTests n schema script) (λ root. passed (made root))
+      ∙ ap (λ (f : Script → Result Checked). scriptTests n schema script >>= f) (fun-ext (λ root. bind-passed typeTests {a = made root} refl))
+      ∙ two-then (λ root. typeTests (made root)) 6 6 6 7 (readSchema schema) (λ S. leb (length S) entryLimit && leb (length script) scriptLimit)
+      (parsed n script) inScope (λ S root. root))
+
+  check-parts : (terms : List ℕ) → check terms schema script ≡ (readTests terms schema script >>= typeTests)
+  unfolding check readTests recordTests parse after rest numbered typeTests
+  check-parts terms =
+      ap (λ (f : List Term → Result Checked). given 2 (readTerms terms) >>= f)
+      (fun-ext (λ listed. ap (λ (m : Result Checked). require 3 (distinct sameTerm listed) >> m) (size-tests (readSchema schema) listed)))
+      ∙ sym (bind-bind typeTests (recordTests terms schema) parse
+      ∙ ap (λ (f : Listed → Result Checked). recordTests terms schema >>= f) (fun-ext parse-then)
+      ∙ two-then after 2 3 4 5 (readTerms terms) (distinct sameTerm) (readSchema schema) (distinct sameProperty)
+      (λ listed S. record { terms = listed; schema = S }))
+
+-- ── what the code answers ───────────────────────────────────────────────────────────────────
+
+pub card-refused : {m : Result Checked} {n : ℕ} {r : Card} {table leasts : List ℕ} → m ≡ refused n → r ≡ refusedCard n
+    → (r ≡ cardOf m) × ((c : Checked) → m ≡ passed c → TablesOf c table leasts)
+unfolding cardOf
+card-refused e f = (f ∙ rw e, λ c p. absurd (not-refused (sym e ∙ p)))
+
+pub card-number : (m : Result Checked) → cardOf m .refusal ≡ numberOf m
+unfolding cardOf numberOf
+card-number (refused n) = refl
+card-number (passed c) = refl
+
+types-not-zero : (v : Verdict) → NotZero (typesOf v)
+unfolding typesOf
+types-not-zero noTyping = omega arith
+types-not-zero noGreatest = omega arith
+types-not-zero (greatest Γ) = tt
+
+pub check-not-zero : (terms schema script : List ℕ) → NotZero (check terms schema script)
+unfolding typeTests
+check-not-zero terms schema script =
+    subst NotZero (sym (check-parts schema script terms))
+    (bind-not-zero (readTests terms schema script) typeTests (read-not-zero terms schema script) (λ x. bind-not-zero (typesOf _) _ (types-not-zero _) (λ Γ. tt)))
+
+ready-refused : (m : Result Parsed) {n : ℕ} → Refused n ≡ readyOf m → m ≡ refused n
+unfolding readyOf
+ready-refused (refused k) {n} e = let h : k ≡ n = cc in ap refused h
+ready-refused (passed x) e = absurd (let z : _≡_ {A = ℕ} 0 1 = cc in omega arith)
+
+ready-passed : (m : Result Parsed) {n : ℕ} → Terms n ≡ readyOf m → (x : Parsed) × (m ≡ passed x) × (length (x .terms) ≡ n)
+unfolding readyOf
+ready-passed (refused k) e = absurd (let z : _≡_ {A = ℕ} 0 1 = cc in omega arith)
+ready-passed (passed x) {n} e = let h : length (x .terms) ≡ n = cc in (x, refl, h)
+
+card-is : (c : Checked) (n : ℕ) → length (c .terms) ≡ n → (types : List ℕ) → types ≡ reported c → cardOf (passed c) ≡ record { refusal = 0; count = n; types = types }
+unfolding cardOf
+card-is c n e types f = λ i. record { refusal = 0; count = e i; types = sym f i }
+
+-- the types worked out, from the typer's answer
+module _ (x : Parsed) where
+  abbrev made : List Ty → Checked
+  made Γ = record { schema = x .schema; terms = x .terms; root = x .root; types = Γ }
+
+  typed : Verdict → Result Checked
+  typed v = typesOf v >>= λ Γ. passed (made Γ)
+
+  typed-refused : (v : Verdict) (a : Answer) → a ≡ answerOf (writtenTypes (x .root)) v → (a .refusal ≡ 0 → ⊥) → typed v ≡ refused (a .refusal)
+  unfolding typed answerOf typesOf _>>=_
+  typed-refused noTyping a e h = ap refused (sym (ap (λ (b : Answer). b .refusal) e))
+  typed-refused noGreatest a e h = ap refused (sym (ap (λ (b : Answer). b .refusal) e))
+  typed-refused (greatest Γ) a e h = absurd (h (ap (λ (b : Answer). b .refusal) e))
+
+  typed-passed : (v : Verdict) (a : Answer) → a ≡ answerOf (writtenTypes (x .root)) v → a .refusal ≡ 0
+      → (Γ : List Ty) × (typed v ≡ passed (made Γ)) × (a .types ≡ reported (made Γ))
+  unfolding typed answerOf typesOf _>>=_
+  typed-passed noTyping a e h = absurd (omega (arith, ap (λ (b : Answer). b .refusal) e))
+  typed-passed noGreatest a e h = absurd (omega (arith, ap (λ (b : Answer). b .refusal) e))
+  typed-passed (greatest Γ) a e h = (Γ, refl, ap (λ (b : Answer). b .types) e)
+
+module _ (terms schema script : List ℕ) {r : Ready} (er : r ≡ readyOf (readTests terms schema script)) where
+  pub read-refused : {n : ℕ} → r ≡ Refused n → check terms schema script ≡ refused n
+  read-refused k = check-parts schema script terms ∙ bind-refused typeTests (ready-refused (readTests terms schema script) (sym k ∙ er))
+
+  module _ {count : ℕ} (k : r ≡ Terms count) {table : List ℕ} (ht : (x : Parsed) → readTests terms schema script ≡ passed x → table ≡ termTable (x .terms)) where
+    found : (x : Parsed) × (readTests terms schema script ≡ passed x) × (length (x .terms) ≡ count)
+    found = ready-passed (readTests terms schema script) (sym k ∙ er)
+
+    reads : Reads schema script (found .0)
+    reads = reads-of terms schema script (found .0) (found .1)
+
+    held : Holding table (found .0 .terms) count
+    held = record { valid = reads .valid; is = ht (found .0) (found .1); count = found .2; few = omega (arith, reads .few, found .2) }
+
+    pub holds : HoldsTerms table count
+    holds = holds-of _ _ _ held
+
+    pub schema-reads : isSome (readSchema schema) ≡ true
+    unfolding isSome
+    schema-reads = rw (reads .entries)
+
+    pub leasts-room : (old : List ℕ) → length old ≡ termLimit → count ≤ length old
+    leasts-room old e = omega (arith, e, held .few)
+
+    types-left : check terms schema script ≡ typed (found .0) (verdict (constantsOf (found .0 .schema) (found .0 .terms)) (writtenTypes (found .0 .root)) (found .0 .root))
+    unfolding typed typeTests
+    types-left = check-parts schema script terms ∙ bind-passed typeTests (found .1)
+
+    codes : List ℕ
+    codes = map (codeOf (found .0 .schema)) (found .0 .terms)
+
+    codes-length : length codes ≡ count
+    unfolding codes
+    codes-length = length-map (found .0 .terms) (codeOf (found .0 .schema)) ∙ found .2
+
+    module _ (old : List ℕ) {leasts : List ℕ} (el : leasts ≡ leastCodes (readSchema schema) (termsIn table) ++ drop count old) where
+      codes-first : leasts ≡ codes ++ drop count old
+      unfolding codes leastCodes
+      codes-first = el ∙ rw (reads .entries, holding-terms _ _ _ held)
+
+      -- the codes stand in front
+      pub codes-fit : count ≤ length leasts
+      codes-fit = omega (arith, codes-length, ap length codes-first, length-append codes (drop count old))
+
+      sorts : take count leasts ≡ codes
+      sorts = ap (λ (l : List ℕ). take count l) codes-first ∙ ap (λ (n : ℕ). take n (codes ++ drop count old)) (sym codes-length) ∙ take-append-seam codes (drop count old)
+
+      pub sorts-length : count ≡ length (take count leasts)
+      sorts-length = sym (ap length sorts ∙ codes-length)
+
+      parses : parsed (length (take count leasts)) script ≡ some (found .0 .root)
+      parses = ap (λ (n : ℕ). parsed n script) (sym sorts-length ∙ sym (found .2)) ∙ reads .parses
+
+      pub script-reads : Reader.isSome (parsed (length (take count leasts)) script) ≡ true
+      script-reads = rw parses
+
+      module _ {a : Answer} (ea : (root : Script) → parsed (length (take count leasts)) script ≡ some root
+          → a ≡ answerOf (writtenTypes root) (verdict (sortsIn (take count leasts)) (writtenTypes root) root)) where
+        answer : a ≡ answerOf (writtenTypes (found .0 .root)) (verdict (constantsOf (found .0 .schema) (found .0 .terms)) (writtenTypes (found .0 .root)) (found .0 .root))
+        unfolding codes codeOf
+        answer = worked-out (found .0 .schema) (found .0 .terms) sorts script ea (found .0 .root) (reads .parses)
+
+        pub types-refused : (a .refusal ≡ 0 → ⊥) → check terms schema script ≡ refused (a .refusal)
+        types-refused h = types-left ∙ typed-refused (found .0) _ a answer h
+
+        pub types-found : a .refusal ≡ 0 → (record { refusal = 0; count = count; types = a .types } ≡ cardOf (check terms schema script))
+            × ((c : Checked) → check terms schema script ≡ passed c → TablesOf c table leasts)
+        unfolding codes
+        types-found h =
+            let t = typed-passed (found .0) _ a answer h in
+            let c = made (found .0) (t .0) in
+            let e : check terms schema script ≡ passed c = types-left ∙ t .1 in
+            let d : TablesOf c table leasts = record { slots = held .is; codes = ap (λ (n : ℕ). take n leasts) (found .2) ∙ sorts } in
+            (sym (ap cardOf e ∙ card-is c count (found .2) (a .types) (t .2)), λ c′ p. subst (λ (z : Checked). TablesOf z table leasts) (passed-is (sym e ∙ p)) d)

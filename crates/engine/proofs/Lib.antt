@@ -1,0 +1,14 @@
+pub mod Numbers
+pub mod CardLaws
+pub mod ScriptLaws
+pub mod LeastLaws
+pub mod ReadyLaws
+pub mod CheckLaws
+pub mod LoadLaws
+pub mod Lent
+pub mod ClockLaws
+pub mod SoundLaws
+pub mod Held
+pub mod PageLaws
+pub mod TakeLaws
+pub mod RunLaws

@@ -1,0 +1,18 @@
+use mathlib.Core.Path.{ap}
+use mathlib.Core.Bool.{Bool, _&&_}
+use lib.Dec.{leb}
+use borrow.Author.Needs.{needs}
+use Rattle.engine.proofs.run.in_limits.Statement.{statement}
+use Rattle.engine.proofs.run.in_limits.Tie as tie
+use Rattle.engine.proofs.run.in_limits.Reads as reads
+use Rattle.engine.proofs.run.in_limits.Lts as lts
+use Rattle.records.proofs.numbers.within.Reads as within-reads
+
+within-requires : tie.Need-within-requires
+within-requires c κs = search needs
+
+returns : tie.Need-returns
+returns c = ap (λ (b : Bool). leb (c .before .args .budget) 60000 && b) (c .within .ensures)
+
+pub in-limits-spec : {M : Type 1} → statement M
+in-limits-spec = tie.close (tie.spec within-requires returns)

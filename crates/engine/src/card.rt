@@ -1,0 +1,139 @@
+// Terms, schema and script: refusals 2 to 9.
+ghost use mathlib.Core.Path.{_≡_};
+ghost use lib.ListN.{length, replicate};
+ghost use Rattle.definitions.specs.Limits.{termLimit, termTableWidth};
+ghost use Rattle.definitions.specs.Result.{passed};
+ghost use Rattle.definitions.specs.Saved.{termTable};
+ghost use Rattle.definitions.specs.Calls.{Checked, check};
+ghost use Rattle.engine.specs.Check.{numberOf, recordTests, scriptTests, Parsed, readTests, readyOf, refusedCard, cardOf, TablesOf};
+use crate::leasts::least_codes;
+use definitions::ENTRY_LIMIT;
+use definitions::SCRIPT_LIMIT;
+use reader::scope::in_scope;
+use reader::script::script_ok;
+use records::Added;
+use records::Counted;
+use records::lists::count_entries;
+use records::lists::count_terms;
+use records::lists::properties_distinct;
+use records::lists::terms_distinct;
+use records::numbering::number_terms;
+use typing::typer::work_out;
+
+// What a check finds: a refusal's number and zeros, or the number of terms and the reported type of each variable.
+pub struct Card {
+    pub refusal: u8,
+    pub count: usize,
+    pub types: [u8; 16],
+}
+
+// A refusal's number, or how many terms loading numbers.
+pub enum Ready {
+    Refused(u8),
+    Terms(usize),
+}
+
+// Refusals 2 to 5 of terms and schema, 0 for none. Ruled out: a bad schema told before bad terms; 3 for a property that is listed twice.
+pub fn records_refusal(terms: &[u8], schema: &[u8]) -> u8
+    ensures { λ r. ⌜ r ≡ numberOf (recordTests (now (terms .entry)) (now (schema .entry))) ⌝ }
+{
+    let Counted::Count(_) = count_terms(terms) else {
+        return 2;
+    };
+    if !terms_distinct(terms) {
+        return 3;
+    }
+    let Counted::Count(_) = count_entries(schema) else {
+        return 4;
+    };
+    if !properties_distinct(schema) {
+        return 5;
+    }
+    0
+}
+
+// Refusals 6 and 7 of schema and script, where so many terms are numbered, 0 for none.
+// Ruled out: scope looked at in a script that is too long; a script of 2,049 bytes let pass.
+pub fn script_refusal(terms: usize, schema: &[u8], script: &[u8]) -> u8
+    ensures { λ r. ⌜ r ≡ numberOf (scriptTests terms (now (schema .entry)) (now (script .entry))) ⌝ }
+{
+    let Counted::Count(entries) = count_entries(schema) else {
+        return 6;
+    };
+    if ENTRY_LIMIT < entries {
+        return 6;
+    }
+    if SCRIPT_LIMIT < script.len() {
+        return 6;
+    }
+    if !script_ok(script, terms) {
+        return 6;
+    }
+    if !in_scope(script, terms) {
+        return 7;
+    }
+    0
+}
+
+// Refusals 2 to 7, or how many terms loading numbers, with these in a table of zeros.
+// Ruled out: a script read before its terms are numbered; 513 terms accepted.
+pub fn read_card(terms: &[u8], schema: &[u8], script: &[u8], table: &mut [u8]) -> Ready
+    requires { ⌜ now table ≡ replicate termTableWidth 0 ⌝ }
+    ensures { λ r. ⌜ (r ≡ readyOf (readTests (now (terms .entry)) (now (schema .entry)) (now (script .entry)))) × ((x : Parsed) → readTests (now (terms .entry)) (now (schema .entry)) (now (script .entry)) ≡ passed x → now (table .exit) ≡ termTable (x .terms)) ⌝ }
+{
+    let records = records_refusal(terms, schema);
+    if records != 0 {
+        return Ready::Refused(records);
+    }
+    let Added::Count(count) = number_terms(terms, schema, table) else {
+        return Ready::Refused(6);
+    };
+    let refusal = script_refusal(count, schema, script);
+    if refusal != 0 {
+        return Ready::Refused(refusal);
+    }
+    Ready::Terms(count)
+}
+
+// A refusal's number and zeros.
+fn refused_card(refusal: u8) -> Card
+    ensures { λ r. ⌜ r ≡ refusedCard refusal ⌝ }
+{
+    Card {
+        refusal,
+        count: 0,
+        types: [0; 16],
+    }
+}
+
+// Refusals 2 to 9, or the number of terms and the reported types, with the terms in one working table and the codes of
+// their least types in the other. Ruled out: types told beside a refusal; 8 for a script that has several greatest typings.
+pub fn check_card(
+    terms: &[u8],
+    schema: &[u8],
+    script: &[u8],
+    table: &mut [u8],
+    leasts: &mut [u8],
+) -> Card
+    requires { ⌜ now table ≡ replicate termTableWidth 0 ⌝ }
+    requires { ⌜ length (now leasts) ≡ termLimit ⌝ }
+    ensures { λ r. ⌜ (r ≡ cardOf (check (now (terms .entry)) (now (schema .entry)) (now (script .entry)))) × ((c : Checked) → check (now (terms .entry)) (now (schema .entry)) (now (script .entry)) ≡ passed c → TablesOf c (now (table .exit)) (now (leasts .exit))) ⌝ }
+{
+    let ready = read_card(terms, schema, script, table);
+    match ready {
+        Ready::Refused(refusal) => refused_card(refusal),
+        Ready::Terms(count) => {
+            least_codes(table, count, schema, leasts);
+            let answer = work_out(script, &leasts[..count]);
+            if answer.refusal != 0 {
+                return refused_card(answer.refusal);
+            }
+            let types = answer.types;
+            Card {
+                refusal: 0,
+                count,
+                types,
+            }
+        }
+    }
+}

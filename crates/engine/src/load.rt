@@ -1,0 +1,88 @@
+// The load call: refusals 1 to 9, or both tables and the saved run.
+ghost use mathlib.Core.Path.{_≡_};
+ghost use Rattle.definitions.specs.Calls as Calls;
+ghost use Rattle.engine.specs.Saved.{bareRun, refusedLoad, acceptedLoad, lentOf};
+use crate::card::check_card;
+use definitions::LoadAnswer;
+use definitions::Loaded;
+use definitions::SavedItem;
+use definitions::SavedRun;
+use definitions::TERM_LIMIT;
+
+// Bytes of the lent tables.
+const TERM_TABLE: usize = 25088;
+
+const QUAD_TABLE: usize = 4096;
+
+// A saved run in which nothing is bound, fetched or stored: only so many of the stack's items count.
+fn bare_run(height: u16, types: [u8; 16]) -> SavedRun
+    ensures { λ r. ⌜ r ≡ bareRun height types ⌝ }
+{
+    let item = SavedItem {
+        at: 0,
+        started: false,
+        last: [0; 4],
+    };
+    SavedRun {
+        height,
+        quads: 0,
+        graphs: 0,
+        types,
+        bound: [false; 16],
+        bindings: [0; 16],
+        fetched: [0; 64],
+        items: [item; 24],
+    }
+}
+
+// What a refused load hands back.
+fn refused(refusal: u8) -> Loaded
+    ensures { λ r. ⌜ r ≡ refusedLoad refusal ⌝ }
+{
+    let saved = bare_run(0, [0; 16]);
+    Loaded {
+        answer: LoadAnswer::Refused(refusal),
+        saved,
+    }
+}
+
+// What an accepted load hands back: the root alone on the stack, an item at offset 0.
+fn accepted(types: [u8; 16]) -> Loaded
+    ensures { λ r. ⌜ r ≡ acceptedLoad types ⌝ }
+{
+    let saved = bare_run(1, types);
+    Loaded {
+        answer: LoadAnswer::Accepted,
+        saved,
+    }
+}
+
+// Loads terms, schema and script: term table, quad table and saved run, or a refusal that leaves both tables as they were.
+// Ruled out: a table cleared before a refusal; a quad table of another length accepted.
+pub fn load(
+    terms: &[u8],
+    schema: &[u8],
+    script: &[u8],
+    table: &mut [u8],
+    store: &mut [u8],
+) -> Loaded
+    ensures { λ r. ⌜ (r ≡ Calls.load (lentOf (now (terms .entry)) (now (schema .entry)) (now (script .entry)) (now (table .entry)) (now (store .entry))) .returned) × (now (table .exit) ≡ Calls.load (lentOf (now (terms .entry)) (now (schema .entry)) (now (script .entry)) (now (table .entry)) (now (store .entry))) .termTable) × (now (store .exit) ≡ Calls.load (lentOf (now (terms .entry)) (now (schema .entry)) (now (script .entry)) (now (table .entry)) (now (store .entry))) .quadTable) ⌝ }
+{
+    if table.len() != TERM_TABLE {
+        return refused(1);
+    }
+    if store.len() != QUAD_TABLE {
+        return refused(1);
+    }
+    let mut work = [0u8; TERM_TABLE];
+    let mut leasts = [0u8; TERM_LIMIT];
+    let card = check_card(terms, schema, script, &mut work, &mut leasts);
+    if card.refusal != 0 {
+        return refused(card.refusal);
+    }
+    let empty = [0u8; QUAD_TABLE];
+    bytes::copy(&work, table);
+    bytes::copy(&empty, store);
+    let types = card.types;
+    accepted(types)
+}

@@ -1,0 +1,126 @@
+// The page call: refusals 1, 10, 12, 13 and 14 in this order, then the page taken in on copies of both tables.
+ghost use mathlib.Core.Path.{_≡_};
+ghost use mathlib.Core.List.{List};
+ghost use Prim.Native.Nat.{_≤_};
+ghost use lib.ListN.{length, getElem?};
+ghost use Rattle.definitions.specs.Terms.{Term, Schema};
+ghost use Rattle.definitions.specs.Calls.{tablesFit, isGraph, pageIn, pageCall};
+ghost use Rattle.reader.specs.Fields.{isSome};
+ghost use Rattle.engine.specs.Answered.{refusedPaged};
+ghost use Rattle.engine.specs.Saved.{lentOf};
+ghost use Rattle.soundness.specs.Store.{LeastOf};
+ghost use Rattle.engine.specs.Paging.{Passed};
+
+use crate::sound::sound;
+use definitions::{PAGE_LIMIT, PageAnswer, Paged, SavedRun};
+use machine::canonical::canonical;
+use machine::taking::take_in;
+use records::Counted;
+use records::lists::count_triples;
+
+fn refused(saved: SavedRun, number: u8) -> Paged
+    ensures { λ r. ⌜ r ≡ refusedPaged saved number ⌝ }
+{
+    Paged {
+        answer: PageAnswer::Refused(number),
+        saved,
+    }
+}
+
+// Whether both tables have their lengths.
+pub fn tables_fit(table: &[u8], store: &[u8]) -> bool
+    ensures { λ r. ⌜ r ≡ tablesFit (length (now (table .entry))) (length (now (store .entry))) ⌝ }
+{
+    (table.len() == 25088) & (store.len() == 4096)
+}
+
+// Whether a number is that of a URI among the terms in use.
+fn is_graph(leasts: &[u8], count: usize, graph: u64) -> bool
+    requires { ⌜ count ≤ length (now leasts) ⌝ }
+    ensures { λ r. ⌜ ((S : Schema) (terms : List Term) → LeastOf S terms (now (leasts .entry)) → count ≡ length terms → r ≡ isGraph (getElem? terms graph)) ⌝ }
+{
+    if (count as u64) <= graph {
+        return false;
+    }
+    let code = leasts[graph as usize];
+    (code == 1) | (9 <= code)
+}
+
+// Whether a page has no more bytes than it may, and good records only.
+fn page_ok(page: &[u8]) -> bool
+    ensures { λ r. ⌜ r ≡ isSome (pageIn (now (page .entry))) ⌝ }
+{
+    if PAGE_LIMIT < page.len() {
+        return false;
+    }
+    let Counted::Count(_) = count_triples(page) else {
+        return false;
+    };
+    true
+}
+
+// Takes in what passed refusals 1 to 13.
+fn take(
+    terms: &[u8],
+    schema: &[u8],
+    script: &[u8],
+    table: &mut [u8],
+    store: &mut [u8],
+    saved: SavedRun,
+    count: usize,
+    graph: u64,
+    page: &[u8],
+) -> Paged
+    requires { ⌜ Passed (lentOf (now terms) (now schema) (now script) (now table) (now store)) saved count graph (now page) ⌝ }
+    ensures { λ r. ⌜ pageCall (lentOf (now (terms .entry)) (now (schema .entry)) (now (script .entry)) (now (table .entry)) (now (store .entry))) saved graph (now (page .entry)) ≡ record { returned = r; termTable = now (table .exit); quadTable = now (store .exit) } ⌝ }
+{
+    let clean = canonical(saved, script);
+    let done = take_in(clean, graph as u16, count, schema, page, table, store);
+    let answer = done.answer;
+    let PageAnswer::Taken(_) = answer else {
+        return refused(saved, 14);
+    };
+    done
+}
+
+// The page call. Ruled out: a page that keeps the graph's old quads; a refused page that leaves new terms behind.
+pub fn page(
+    terms: &[u8],
+    schema: &[u8],
+    script: &[u8],
+    table: &mut [u8],
+    store: &mut [u8],
+    saved: SavedRun,
+    graph: u64,
+    page: &[u8],
+) -> Paged
+    ensures { λ r. ⌜ pageCall (lentOf (now (terms .entry)) (now (schema .entry)) (now (script .entry)) (now (table .entry)) (now (store .entry))) saved graph (now (page .entry)) ≡ record { returned = r; termTable = now (table .exit); quadTable = now (store .exit) } ⌝ }
+{
+    if !tables_fit(table, store) {
+        return refused(saved, 1);
+    }
+    let mut rows = [0u16; 2048];
+    let mut leasts = [0u8; 512];
+    let lent = sound(
+        terms,
+        schema,
+        script,
+        table,
+        store,
+        saved,
+        &mut rows,
+        &mut leasts,
+    );
+    if !lent.sound {
+        return refused(saved, 10);
+    }
+    if !is_graph(&leasts, lent.count, graph) {
+        return refused(saved, 12);
+    }
+    if !page_ok(page) {
+        return refused(saved, 13);
+    }
+    take(
+        terms, schema, script, table, store, saved, lent.count, graph, page,
+    )
+}

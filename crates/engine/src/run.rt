@@ -1,0 +1,101 @@
+// The run call: refusals 1, 10 and 11 in this order, then the machine's steps.
+ghost use mathlib.Core.Path.{_≡_};
+ghost use mathlib.Core.Bool.{_&&_};
+ghost use lib.Dec.{leb};
+ghost use Rattle.definitions.specs.Limits.{budgetLimit};
+ghost use Rattle.definitions.specs.Bytes.{signed};
+ghost use Rattle.definitions.specs.Terms.{isDateTime};
+ghost use Rattle.definitions.specs.Outcome.{ok};
+ghost use Rattle.definitions.specs.Calls.{runCall};
+ghost use Rattle.engine.specs.Answered.{refusedRan};
+ghost use Rattle.engine.specs.Saved.{lentOf};
+
+use crate::page::tables_fit;
+use crate::sound::sound;
+use definitions::{BUDGET_LIMIT, Ran, RunAnswer, SavedRun};
+use machine::canonical::canonical;
+use machine::running::run_steps;
+use records::numbers::within;
+
+// The limits of a dateTime, in seconds before and after 1970.
+const SECONDS_BEFORE: u64 = 62135596800;
+
+const SECONDS_AFTER: u64 = 253402300799;
+
+fn refused(saved: SavedRun, number: u8) -> Ran
+    ensures { λ r. ⌜ r ≡ refusedRan saved number ⌝ }
+{
+    Ran {
+        answer: RunAnswer::Refused(number),
+        saved,
+    }
+}
+
+// A signed number in two's complement.
+fn bits(n: i64) -> u64
+    ensures { λ r. ⌜ signed r ≡ n ⌝ }
+{
+    if 0 <= n {
+        return n as u64;
+    }
+    let below = -1 - n;
+    18446744073709551615 - (below as u64)
+}
+
+// Whether a budget and now, in two's complement, are within their limits.
+fn in_limits(budget: u64, clock: u64) -> bool
+    ensures { λ r. ⌜ r ≡ (leb budget budgetLimit && isDateTime (signed clock)) ⌝ }
+{
+    let few = budget <= BUDGET_LIMIT;
+    few & within(clock, SECONDS_BEFORE, SECONDS_AFTER)
+}
+
+// The run call. Ruled out: waiting or spent said without a step; a total of steps that were not taken.
+pub fn run(
+    terms: &[u8],
+    schema: &[u8],
+    script: &[u8],
+    table: &[u8],
+    store: &[u8],
+    saved: SavedRun,
+    budget: u64,
+    clock: i64,
+) -> Ran
+    ensures { λ r. ⌜ runCall (lentOf (now (terms .entry)) (now (schema .entry)) (now (script .entry)) (now (table .entry)) (now (store .entry))) saved budget clock ≡ ok r ⌝ }
+{
+    if !tables_fit(table, store) {
+        return refused(saved, 1);
+    }
+    let mut rows = [0u16; 2048];
+    let mut leasts = [0u8; 512];
+    let lent = sound(
+        terms,
+        schema,
+        script,
+        table,
+        store,
+        saved,
+        &mut rows,
+        &mut leasts,
+    );
+    if !lent.sound {
+        return refused(saved, 10);
+    }
+    let second = bits(clock);
+    if !in_limits(budget, second) {
+        return refused(saved, 11);
+    }
+    let clean = canonical(saved, script);
+    let known = lent.known;
+    let count = lent.count;
+    let steps = budget as u32;
+    let end = run_steps(
+        clean, script, known, table, count, &rows, &leasts, second, steps,
+    );
+    let ending = end.ending;
+    let after = end.saved;
+    Ran {
+        answer: RunAnswer::Ran(end.steps, ending),
+        saved: after,
+    }
+}

@@ -1,0 +1,70 @@
+// Refusal 10: whether saved run and tables are sound.
+ghost use mathlib.Core.Path.{_≡_};
+ghost use lib.ListN.{length};
+ghost use Prim.Native.Nat.{_*_};
+ghost use Rattle.definitions.specs.Limits.{termLimit, quadLimit, termTableWidth, quadTableWidth};
+ghost use Rattle.engine.specs.Lending.{notSound, Lends};
+ghost use Rattle.engine.specs.Saved.{lentOf};
+
+use crate::Lending;
+use crate::card::check_card;
+use crate::leasts::least_codes;
+use definitions::SavedRun;
+use records::Counted;
+use records::table::used_terms;
+use soundness::control::control_sound;
+use soundness::store::store_sound;
+
+fn unsound() -> Lending
+    ensures { λ r. ⌜ r ≡ notSound ⌝ }
+{
+    Lending {
+        sound: false,
+        known: 0,
+        count: 0,
+    }
+}
+
+// Whether records, tables and saved run are sound. Where they are, `rows` has the quads in numbers, and `leasts` the codes of
+// the terms' least types. Ruled out: a saved run of other types than those worked out; a table whose first terms are others.
+pub fn sound(
+    terms: &[u8],
+    schema: &[u8],
+    script: &[u8],
+    table: &[u8],
+    store: &[u8],
+    saved: SavedRun,
+    rows: &mut [u16],
+    leasts: &mut [u8],
+) -> Lending
+    requires { ⌜ length (now table) ≡ termTableWidth ⌝ }
+    requires { ⌜ length (now store) ≡ quadTableWidth ⌝ }
+    requires { ⌜ length (now rows) ≡ 4 * quadLimit ⌝ }
+    requires { ⌜ length (now leasts) ≡ termLimit ⌝ }
+    ensures { λ r. ⌜ Lends (lentOf (now (terms .entry)) (now (schema .entry)) (now (script .entry)) (now (table .entry)) (now (store .entry))) saved r (now (rows .exit)) (now (leasts .exit)) ⌝ }
+{
+    let mut loading = [0u8; 25088];
+    let card = check_card(terms, schema, script, &mut loading, leasts);
+    if card.refusal != 0 {
+        return unsound();
+    }
+    let Counted::Count(count) = used_terms(table) else {
+        return unsound();
+    };
+    let types = card.types;
+    let reported = saved.types;
+    if !check::same(&reported, &types) {
+        return unsound();
+    }
+    least_codes(table, count, schema, leasts);
+    let known = card.count;
+    if !store_sound(&loading, known, table, count, store, saved, leasts, rows) {
+        return unsound();
+    }
+    let sound = control_sound(script, known, saved, count, leasts);
+    Lending {
+        sound,
+        known,
+        count,
+    }
+}

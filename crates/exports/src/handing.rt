@@ -1,0 +1,37 @@
+// What the three calls have in common: the lengths of what is lent, and the saved run handed back.
+ghost use mathlib.Core.Path.{_≡_};
+ghost use Rattle.definitions.specs.Exports.{savedWidth, savedAfter};
+ghost use Rattle.exports.specs.Buffers.{buffersFit};
+use super::QUAD_TABLE_WIDTH;
+use super::SAVED_WIDTH;
+use super::TERM_TABLE_WIDTH;
+use super::writing::write_saved;
+use definitions::SavedRun;
+
+// Tables, saved run and report have their lengths.
+// Ruled out: a report of another length taken for good; a test of the tables alone.
+pub fn buffers_fit(terms: usize, quads: usize, saved: usize, report: usize, width: usize) -> bool
+    ensures { λ r. ⌜ r ≡ buffersFit terms quads saved report width ⌝ }
+{
+    if terms != TERM_TABLE_WIDTH {
+        return false;
+    }
+    if quads != QUAD_TABLE_WIDTH {
+        return false;
+    }
+    if saved != SAVED_WIDTH {
+        return false;
+    }
+    report == width
+}
+
+// The saved run's bytes where nothing was refused, else those that were lent.
+// Ruled out: a refused call that writes its saved run; a call that leaves the bytes it was lent.
+pub fn hand_back(number: u32, run: SavedRun, saved: &mut [u8])
+    requires { do ⌜ (← ⟦saved.len()⟧) ≡ savedWidth ⌝ }
+    ensures { λ r. ⌜ now (saved .exit) ≡ savedAfter number run (now (saved .entry)) ⌝ }
+{
+    if number == 0 {
+        write_saved(run, saved);
+    }
+}

@@ -1,0 +1,172 @@
+// A block's answer: what the search is given, and what it finds.
+use crate::Answered;
+use crate::stack::index;
+use crate::stack::top;
+use definitions::SavedRun;
+use query::Block;
+use query::FREE;
+use query::answer::answer;
+ghost use mathlib.Core.Path.{_≡_};
+ghost use mathlib.Core.List.{List, [], _∷_};
+ghost use mathlib.Core.Bool.{Bool, cond};
+ghost use Prim.Native.Nat.{ℕ, _+_, _≤_, _<_};
+ghost use lib.Dec.{ltb};
+ghost use lib.ListN.{length, getD};
+ghost use Rattle.definitions.specs.Bytes.{byte};
+ghost use Rattle.machine.specs.Answers.{knownOf, pairNumbers, typesOf, fourOf, blockOf, shortNumber, shortNumbers};
+ghost use Rattle.machine.specs.Running.{Lends, Top, AnswersNow};
+
+// The number of a bound variable's term; none where it is not bound.
+fn code_of(bound: bool, number: u16) -> usize
+    ensures { λ r. ⌜ r ≡ cond bound number 65537 ⌝ }
+{
+    if bound { number as usize } else { FREE }
+}
+
+// What is known of the 16 variables.
+fn known_of(bound: [bool; 16], bindings: [u16; 16]) -> [usize; 16]
+    ensures { λ r. ⌜ r ≡ knownOf bound bindings ⌝ }
+{
+    let mut known = [FREE; 16];
+    let mut v = 0;
+    while v < 16 {
+        known[v] = code_of(bound[v], bindings[v]);
+        v += 1;
+    }
+    known
+}
+
+// The variables of a block's four pairs, of which the unused are zero.
+fn pair_numbers(script: &[u8], at: usize) -> [usize; 4]
+    requires { ⌜ at + 11 ≤ length (now script) ⌝ }
+    ensures { λ r. ⌜ r ≡ pairNumbers (now (script .entry)) at ⌝ }
+{
+    let first = at + 3;
+    let second = at + 5;
+    let third = at + 7;
+    let fourth = at + 9;
+    let a = index(script[first]);
+    let b = index(script[second]);
+    let c = index(script[third]);
+    let d = index(script[fourth]);
+    [a, b, c, d]
+}
+
+// The reported types of four variables.
+fn types_of(types: [u8; 16], vars: [usize; 4]) -> [u8; 4]
+    requires { ⌜ ((k : ℕ) → getD vars k 0 < 16) ⌝ }
+    ensures { λ r. ⌜ r ≡ typesOf types vars ⌝ }
+{
+    let a = vars[0];
+    let b = vars[1];
+    let c = vars[2];
+    let d = vars[3];
+    let first = types[a];
+    let second = types[b];
+    let third = types[c];
+    let fourth = types[d];
+    [first, second, third, fourth]
+}
+
+fn wide_number(n: u16) -> usize
+    ensures { λ r. ⌜ r ≡ n ⌝ }
+{
+    n as usize
+}
+
+// Four numbers as the search counts them.
+fn wide_numbers(numbers: [u16; 4]) -> [usize; 4]
+    ensures { λ r. ⌜ r ≡ fourOf numbers ⌝ }
+{
+    let a = wide_number(numbers[0]);
+    let b = wide_number(numbers[1]);
+    let c = wide_number(numbers[2]);
+    let d = wide_number(numbers[3]);
+    [a, b, c, d]
+}
+
+// A number of the term table, as the saved run has it.
+fn short_number(n: usize) -> u16
+    ensures { λ r. ⌜ r ≡ shortNumber n ⌝ }
+{
+    if n < 65536 { n as u16 } else { 0 }
+}
+
+fn short_numbers(numbers: [usize; 4]) -> [u16; 4]
+    ensures { λ r. ⌜ r ≡ shortNumbers numbers ⌝ }
+{
+    let a = short_number(numbers[0]);
+    let b = short_number(numbers[1]);
+    let c = short_number(numbers[2]);
+    let d = short_number(numbers[3]);
+    [a, b, c, d]
+}
+
+// The block at an offset as the search sees it.
+fn block_of(script: &[u8], at: usize, reported: [u8; 16], used: [u16; 4]) -> Block
+    requires { ⌜ at + 11 ≤ length (now script) ⌝ }
+    requires { ⌜ ((k : ℕ) → getD (pairNumbers (now script) at) k 0 < 16) ⌝ }
+    ensures { λ r. ⌜ r ≡ blockOf (now (script .entry)) at reported used ⌝ }
+{
+    let query = at + 11;
+    let second = at + 2;
+    let size = index(script[second]);
+    let vars = pair_numbers(script, at);
+    let types = types_of(reported, vars);
+    let last = wide_numbers(used);
+    Block {
+        at: query,
+        left: 24,
+        size,
+        vars,
+        types,
+        last,
+    }
+}
+
+// The answer of the block on top: the first after the tuple that it last used.
+// Ruled out: answers frozen as the block was entered; a tuple of terms that no longer fit the variables' types.
+pub fn block_answer(
+    run: SavedRun,
+    script: &[u8],
+    known: usize,
+    at: usize,
+    table: &[u8],
+    count: usize,
+    quads: &[u16],
+    leasts: &[u8],
+    clock: u64,
+) -> Answered
+    requires { ⌜ ((w : Lends (now script) known (now table) count (now quads) (now leasts) clock run) × Top (w .here) at) ⌝ }
+    requires { ⌜ byte (now script) at ≡ 0x73 ⌝ }
+    ensures { λ r. ⌜ ((w : Lends (now (script .entry)) known (now (table .entry)) count (now (quads .entry)) (now (leasts .entry)) clock run) (t : Top (w .here) at) → AnswersNow w t (r .found) (r .tuple)) ⌝ }
+{
+    let item = top(run);
+    let reported = run.types;
+    let bound = run.bound;
+    let bindings = run.bindings;
+    let started = item.started;
+    let used = item.last;
+    let n = run.quads as usize;
+    let block = block_of(script, at, reported, used);
+    let free = known_of(bound, bindings);
+    let found = answer(
+        script,
+        known,
+        block,
+        table,
+        count,
+        clock,
+        quads,
+        n,
+        leasts,
+        free,
+        started,
+    );
+    let numbers = found.tuple;
+    let tuple = short_numbers(numbers);
+    Answered {
+        found: found.found,
+        tuple,
+    }
+}

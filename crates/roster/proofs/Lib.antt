@@ -1,0 +1,2 @@
+mod Distances
+mod Filling

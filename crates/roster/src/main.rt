@@ -1,0 +1,16 @@
+// The roster: cases of document 01's values, a line of output for each. docs/ROSTER.md says where the expected lines come from.
+mod comparisons;
+mod dates;
+mod fields;
+mod numbers;
+mod patterns;
+mod print;
+mod ranges;
+
+fn main() {
+    dates::cases();
+    numbers::cases();
+    comparisons::cases();
+    patterns::cases();
+    ranges::cases();
+}

@@ -1,0 +1,11 @@
+pub mod Begins
+pub mod Looks
+pub mod Numbers
+pub mod QuadLaws
+pub mod StoreLaws
+pub mod Whole
+pub mod TypeLaws
+pub mod BindingLaws
+pub mod StackLaws
+pub mod ControlLaws
+pub mod StateLaws

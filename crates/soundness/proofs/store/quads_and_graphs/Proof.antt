@@ -1,0 +1,56 @@
+-- `soundness::store::quads_and_graphs` meets its contract. Each return is one law.
+use native.Mathlib.Omega.{arith}
+use Rattle.soundness.proofs.QuadLaws.{held-few}
+use Rattle.soundness.proofs.Whole.{never, not-held, bad-graphs, quads-twice, quads-all}
+use borrow.Author.Needs.{needs}
+use Rattle.soundness.proofs.store.quads_and_graphs.Statement.{statement}
+use Rattle.soundness.proofs.store.quads_and_graphs.Tie as tie
+
+quads-held-requires : tie.Need-quads-held-requires
+quads-held-requires c κs = search needs
+
+returns : tie.Need-returns
+returns c = (not-held _ _ _ _ _ (c .before .quads-held .ensures) (c .if1 .taken), λ e. absurd (never e))
+
+graphs-sound-requires : tie.Need-graphs-sound-requires
+graphs-sound-requires c κs = search needs
+
+returns-2 : tie.Need-returns-2
+returns-2 c = (bad-graphs _ _ _ _ _ (c .before .before .before .quads-held .ensures) (c .before .before .if1 .left) (c .before .graphs-sound .ensures) (c .if2 .taken), λ e. absurd (never e))
+
+decode-requires : tie.Need-decode-requires
+decode-requires c κs = (c .before .before .before .before .before .before .before .before .before .pre .0, (held-few _ _ (c .before .before .before .before .quads-held .ensures) (c .before .before .before .if1 .left), omega (arith, held-few _ _ (c .before .before .before .before .quads-held .ensures) (c .before .before .before .if1 .left), c .before .before .before .before .before .before .before .before .before .pre .1 .1)))
+
+quads-distinct-requires : tie.Need-quads-distinct-requires
+quads-distinct-requires c κs = omega (arith, held-few _ _ (c .before .before .before .before .before .before .before .before .quads-held .ensures) (c .before .before .before .before .before .before .before .if1 .left), c .before .before .before .before .before .before .before .before .before .before .before .before .before .pre .1 .1, c .before .before .rows .given)
+
+same-length : tie.Need-same-length
+same-length c = search needs
+
+returns-3 : tie.Need-returns-3
+returns-3 c = (quads-twice _ _ _ _ _ (c .before .before .before .before .before .before .before .before .before .before .quads-held .ensures) (c .before .before .before .before .before .before .before .before .before .if1 .left) (c .before .before .before .before .before .before .before .before .graphs-sound .ensures) (c .before .before .before .before .before .before .before .if2 .left) _ (c .before .before .before .before .before .decode .ensures) (c .before .quads-distinct .ensures) (c .if3 .taken), λ e. absurd (never e))
+
+quads-sound-requires : tie.Need-quads-sound-requires
+quads-sound-requires c κs = (c .before .before .before .before .before .before .before .before .before .before .before .before .before .before .before .before .pre .1 .0, omega (arith, held-few _ _ (c .before .before .before .before .before .before .before .before .before .before .before .quads-held .ensures) (c .before .before .before .before .before .before .before .before .before .before .if1 .left), c .before .before .before .before .before .before .before .before .before .before .before .before .before .before .before .before .pre .1 .1, c .before .before .before .before .before .rows .given))
+
+same-length-2 : tie.Need-same-length-2
+same-length-2 c = search needs
+
+returns-4 : tie.Need-returns-4
+returns-4 c = (quads-all _ _ _ _ _ (c .before .before .before .before .before .before .before .before .before .before .before .before .quads-held .ensures) (c .before .before .before .before .before .before .before .before .before .before .before .if1 .left) (c .before .before .before .before .before .before .before .before .before .before .graphs-sound .ensures) (c .before .before .before .before .before .before .before .before .before .if2 .left) _ (c .before .before .before .before .before .before .before .decode .ensures) (c .before .before .before .quads-distinct .ensures) (c .before .before .if3 .left) (c .quads-sound .ensures), λ e. c .before .before .before .before .before .before .before .decode .ensures)
+
+pub quads-and-graphs-spec : {M : Type 1} → statement M
+quads-and-graphs-spec =
+    tie.close
+    (tie.spec
+    quads-held-requires
+    returns
+    graphs-sound-requires
+    returns-2
+    decode-requires
+    quads-distinct-requires
+    same-length
+    returns-3
+    quads-sound-requires
+    same-length-2
+    returns-4)

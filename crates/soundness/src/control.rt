@@ -1,0 +1,204 @@
+// Stack and bindings of the saved run: the control's half of soundness.
+use definitions::SavedItem;
+use definitions::SavedRun;
+use reader::place::Place;
+use reader::place::place_at;
+use reader::scope::free_in;
+ghost use mathlib.Core.Path.{_≡_};
+ghost use mathlib.Core.Bool.{true};
+ghost use Prim.Native.Nat.{_≤_};
+ghost use lib.ListN.{length};
+ghost use Rattle.definitions.specs.Reading.{readScript, parsed};
+ghost use Rattle.laws.proofs.Walking.{Loads};
+ghost use Rattle.reader.specs.Fields.{isSome};
+ghost use Rattle.soundness.specs.Store.{passes};
+ghost use Rattle.soundness.specs.Control.{allBound, tupleFits, lastHeld, itemHeld, itemsHeld, codeLeq, bindingFits, bindingsFit, ControlOf};
+
+// A term's number as an index.
+fn index(x: u16) -> usize
+    ensures { λ r. ⌜ r ≡ x ⌝ }
+{
+    x as usize
+}
+
+// Whether each flagged variable is bound.
+fn all_bound(free: [bool; 16], bound: [bool; 16]) -> bool
+    ensures { λ r. ⌜ r ≡ allBound free bound ⌝ }
+{
+    let mut v = 0;
+    while v < 16 {
+        let good = !free[v] | bound[v];
+        if !good {
+            return false;
+        }
+        v += 1;
+    }
+    true
+}
+
+// Whether a tuple's first numbers are all numbers of terms.
+fn tuple_fits(last: [u16; 4], n: usize, count: usize) -> bool
+    requires { ⌜ n ≤ 4 ⌝ }
+    ensures { λ r. ⌜ r ≡ tupleFits count n last ⌝ }
+{
+    let mut k = 0;
+    while k < n {
+        let number = index(last[k]);
+        if count <= number {
+            return false;
+        }
+        k += 1;
+    }
+    true
+}
+
+// Whether an item's last tuple, which only an each block has, names terms.
+fn last_sound(script: &[u8], known: usize, item: SavedItem, count: usize) -> bool
+    requires { ⌜ Loads (readScript (now script) known 24 (item .«at»)) ⌝ }
+    ensures { λ r. ⌜ r ≡ passes (λ p. lastHeld count item (p .0)) (readScript (now (script .entry)) known 24 (item .«at»)) ⌝ }
+{
+    let started = item.started;
+    if !started {
+        return true;
+    }
+    let offset = item.at;
+    let at = offset as usize;
+    if script[at] != 0x73 {
+        return true;
+    }
+    if script[at + 1] != 1 {
+        return true;
+    }
+    let n = script[at + 2] as usize;
+    let last = item.last;
+    tuple_fits(last, n, count)
+}
+
+// Whether an item is a record of kinds 71 to 74 at a depth of at least its place, its free variables bound.
+fn item_sound(
+    script: &[u8],
+    known: usize,
+    item: SavedItem,
+    place: usize,
+    bound: [bool; 16],
+    count: usize,
+) -> bool
+    requires { ⌜ isSome (parsed known (now script)) ≡ true ⌝ }
+    ensures { λ r. ⌜ r ≡ passes (itemHeld count bound place item) (parsed known (now (script .entry))) ⌝ }
+{
+    let offset = item.at;
+    let at = offset as usize;
+    let Place::At(depth) = place_at(script, known, at) else {
+        return false;
+    };
+    let deep = depth as usize;
+    if deep < place {
+        return false;
+    }
+    let free = free_in(script, known, at, 24);
+    if !all_bound(free, bound) {
+        return false;
+    }
+    last_sound(script, known, item, count)
+}
+
+// Whether the items below a height are sound, from the top down.
+fn stack_sound(
+    script: &[u8],
+    known: usize,
+    height: u16,
+    items: [SavedItem; 24],
+    bound: [bool; 16],
+    count: usize,
+) -> bool
+    requires { ⌜ isSome (parsed known (now script)) ≡ true ⌝ }
+    requires { ⌜ height ≤ 24 ⌝ }
+    ensures { λ r. ⌜ r ≡ passes (itemsHeld count bound items height) (parsed known (now (script .entry))) ⌝ }
+{
+    let mut place = height as usize;
+    while 0 < place {
+        let below = place - 1;
+        let item = items[below];
+        if !item_sound(script, known, item, place, bound, count) {
+            return false;
+        }
+        place = below;
+    }
+    true
+}
+
+// Whether a term whose least type has one code has the type of another.
+fn has_type(least: u8, ty: u8) -> bool
+    ensures { λ r. ⌜ r ≡ codeLeq least ty ⌝ }
+{
+    let number = (least == 5) & (ty == 3);
+    let uri = (9 <= least) & (ty == 1);
+    let property = (least == 11) & (ty == 13);
+    (least == ty) | (number | (uri | property))
+}
+
+// Whether a variable is not bound, or a pair binds it and it holds a term of its type.
+fn binding_sound(leasts: &[u8], count: usize, bound: bool, number: u16, ty: u8) -> bool
+    requires { ⌜ count ≤ length (now leasts) ⌝ }
+    ensures { λ r. ⌜ r ≡ bindingFits (now (leasts .entry)) count bound number ty ⌝ }
+{
+    if !bound {
+        return true;
+    }
+    if ty == 0 {
+        return false;
+    }
+    let i = number as usize;
+    if count <= i {
+        return false;
+    }
+    has_type(leasts[i], ty)
+}
+
+// Whether the bindings are sound, variable by variable.
+fn bindings_sound(
+    leasts: &[u8],
+    count: usize,
+    bound: [bool; 16],
+    numbers: [u16; 16],
+    types: [u8; 16],
+) -> bool
+    requires { ⌜ count ≤ length (now leasts) ⌝ }
+    ensures { λ r. ⌜ r ≡ bindingsFit (now (leasts .entry)) count bound numbers types ⌝ }
+{
+    let mut v = 0;
+    while v < 16 {
+        if !binding_sound(leasts, count, bound[v], numbers[v], types[v]) {
+            return false;
+        }
+        v += 1;
+    }
+    true
+}
+
+// Whether stack and bindings are sound.
+// Ruled out: an item higher than its record is deep let pass; a free variable of an item that is not bound let pass.
+pub fn control_sound(
+    script: &[u8],
+    known: usize,
+    saved: SavedRun,
+    count: usize,
+    leasts: &[u8],
+) -> bool
+    requires { ⌜ isSome (parsed known (now script)) ≡ true ⌝ }
+    requires { ⌜ count ≤ length (now leasts) ⌝ }
+    ensures { λ r. ⌜ ControlOf (now (script .entry)) known saved count (now (leasts .entry)) r ⌝ }
+{
+    let height = saved.height;
+    if 24 < height {
+        return false;
+    }
+    let items = saved.items;
+    let bound = saved.bound;
+    if !stack_sound(script, known, height, items, bound, count) {
+        return false;
+    }
+    let numbers = saved.bindings;
+    let types = saved.types;
+    bindings_sound(leasts, count, bound, numbers, types)
+}

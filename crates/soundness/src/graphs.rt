@@ -1,0 +1,76 @@
+// Term numbers, by the codes of their terms' least types; and the list of fetched graphs.
+ghost use mathlib.Core.Path.{_≡_};
+ghost use mathlib.Core.Bool.{_&&_};
+ghost use Prim.Native.Nat.{_≤_};
+ghost use lib.Dec.{eqb};
+ghost use lib.ListN.{length};
+ghost use Rattle.definitions.specs.Lists.{every, distinct, isIn};
+ghost use Rattle.soundness.specs.Store.{uriNumber};
+
+// Whether a number is in a list. Ruled out: the last left out; the first alone compared.
+pub fn is_in(list: &[u16], x: u16) -> bool
+    ensures { λ r. ⌜ r ≡ isIn x (now (list .entry)) ⌝ }
+{
+    let mut i = 0;
+    while i < list.len() {
+        if list[i] == x {
+            return true;
+        }
+        i += 1;
+    }
+    false
+}
+
+// Whether the numbers of a list are all different.
+fn numbers_distinct(list: &[u16]) -> bool
+    ensures { λ r. ⌜ r ≡ distinct eqb (now (list .entry)) ⌝ }
+{
+    let mut i = 0;
+    while i < list.len() {
+        let x = list[i];
+        i += 1;
+        if is_in(&list[i..], x) {
+            return false;
+        }
+    }
+    true
+}
+
+// Whether a number is that of a URI. Ruled out: a number past the terms; a schema URI refused.
+pub fn is_uri(leasts: &[u8], count: usize, i: u16) -> bool
+    requires { ⌜ count ≤ length (now leasts) ⌝ }
+    ensures { λ r. ⌜ r ≡ uriNumber (now (leasts .entry)) count i ⌝ }
+{
+    let at = i as usize;
+    if count <= at {
+        return false;
+    }
+    let code = leasts[at];
+    (code == 1) | (9 <= code)
+}
+
+// Whether the numbers of a list are those of URIs.
+fn all_uris(leasts: &[u8], count: usize, list: &[u16]) -> bool
+    requires { ⌜ count ≤ length (now leasts) ⌝ }
+    ensures { λ r. ⌜ r ≡ every (uriNumber (now (leasts .entry)) count) (now (list .entry)) ⌝ }
+{
+    let mut i = 0;
+    while i < list.len() {
+        if !is_uri(leasts, count, list[i]) {
+            return false;
+        }
+        i += 1;
+    }
+    true
+}
+
+// Whether the fetched graphs are different URIs. Ruled out: one twice; the number of a literal.
+pub fn graphs_sound(leasts: &[u8], count: usize, fetched: &[u16]) -> bool
+    requires { ⌜ count ≤ length (now leasts) ⌝ }
+    ensures { λ r. ⌜ r ≡ distinct eqb (now (fetched .entry)) && every (uriNumber (now (leasts .entry)) count) (now (fetched .entry)) ⌝ }
+{
+    if !numbers_distinct(fetched) {
+        return false;
+    }
+    all_uris(leasts, count, fetched)
+}

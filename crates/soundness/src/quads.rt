@@ -1,0 +1,171 @@
+// The quad table: its quads in numbers, all different, and each sound.
+ghost use mathlib.Core.Path.{_≡_};
+ghost use Prim.Native.Nat.{_+_, _-_, _*_, _≤_, _<_};
+ghost use lib.ListN.{length};
+ghost use Rattle.definitions.specs.Limits.{quadLimit, quadTableWidth};
+ghost use Rattle.definitions.specs.Bytes.{word};
+ghost use Rattle.definitions.specs.Lists.{every, some?, distinct};
+ghost use Rattle.definitions.specs.Evaluate.{sameQuad};
+ghost use Rattle.definitions.specs.Saved.{quadsFrom, quadsIn};
+ghost use Rattle.records.specs.Answers.{isSome};
+ghost use Rattle.query.specs.Codes.{rowAt, rowsFrom};
+ghost use Rattle.soundness.specs.Store.{codeFits, pairNumbers, quadNumbers};
+use crate::graphs::is_in;
+use crate::graphs::is_uri;
+use definitions::QUAD_LIMIT;
+use definitions::QUAD_WIDTH;
+use records::numbers::is_zero;
+use records::numbers::word_at;
+
+// Whether a table holds so many quads. Ruled out: bytes after the last that are not zero; 513 quads.
+pub fn quads_held(table: &[u8], n: usize) -> bool
+    requires { ⌜ length (now table) ≡ quadTableWidth ⌝ }
+    ensures { λ r. ⌜ r ≡ isSome (quadsIn n (now (table .entry))) ⌝ }
+{
+    if QUAD_LIMIT < n {
+        return false;
+    }
+    let end = QUAD_WIDTH * n;
+    is_zero(&table[end..])
+}
+
+// The 2-byte number at an offset.
+fn number_at(table: &[u8], at: usize) -> u16
+    requires { ⌜ at + 1 < length (now table) ⌝ }
+    ensures { λ r. ⌜ r ≡ word (now (table .entry)) at ⌝ }
+{
+    word_at(table, at) as u16
+}
+
+// The quads in numbers, four for each. Ruled out: the high byte first; the last quad left out.
+pub fn decode(table: &[u8], n: usize, rows: &mut [u16])
+    requires { ⌜ length (now table) ≡ quadTableWidth ⌝ }
+    requires { ⌜ n ≤ quadLimit ⌝ }
+    requires { ⌜ 4 * n ≤ length (now rows) ⌝ }
+    ensures { λ _. ⌜ rowsFrom n (now (rows .exit)) 0 ≡ quadsFrom n (now (table .entry)) 0 ⌝ }
+{
+    let end = 4 * n;
+    let mut k = 0;
+    while k < end {
+        let at = 2 * k;
+        rows[k] = number_at(table, at);
+        k += 1;
+    }
+}
+
+// Whether two quads are the same; their objects differ most often.
+fn same_row(rows: &[u16], a: usize, b: usize) -> bool
+    requires { ⌜ a + 4 ≤ length (now rows) ⌝ }
+    requires { ⌜ b + 4 ≤ length (now rows) ⌝ }
+    ensures { λ r. ⌜ r ≡ sameQuad (rowAt (now (rows .entry)) a) (rowAt (now (rows .entry)) b) ⌝ }
+{
+    let a1 = a + 1;
+    let a2 = a + 2;
+    let a3 = a + 3;
+    let b1 = b + 1;
+    let b2 = b + 2;
+    let b3 = b + 3;
+    if rows[a3] != rows[b3] {
+        return false;
+    }
+    (rows[a] == rows[b]) & ((rows[a1] == rows[b1]) & (rows[a2] == rows[b2]))
+}
+
+// Whether a quad comes again after its place.
+fn quad_again(rows: &[u16], n: usize, i: usize) -> bool
+    requires { ⌜ 4 * n ≤ length (now rows) ⌝ }
+    requires { ⌜ i < n ⌝ }
+    ensures { λ r. ⌜ r ≡ some? (sameQuad (rowAt (now (rows .entry)) (4 * i))) (rowsFrom (n - (i + 1)) (now (rows .entry)) (4 * (i + 1))) ⌝ }
+{
+    let from = 4 * i;
+    let mut j = i + 1;
+    while j < n {
+        let at = 4 * j;
+        if same_row(rows, from, at) {
+            return true;
+        }
+        j += 1;
+    }
+    false
+}
+
+// Whether the quads are all different. Ruled out: neighbours alone compared; quads that differ in their graph taken for one.
+pub fn quads_distinct(rows: &[u16], n: usize) -> bool
+    requires { ⌜ 4 * n ≤ length (now rows) ⌝ }
+    ensures { λ r. ⌜ r ≡ distinct sameQuad (rowsFrom n (now (rows .entry)) 0) ⌝ }
+{
+    let mut i = 0;
+    while i < n {
+        if quad_again(rows, n, i) {
+            return false;
+        }
+        i += 1;
+    }
+    true
+}
+
+// Whether a term of a least type has a datatype, both by their codes.
+fn code_fits(object: u8, datatype: u8) -> bool
+    ensures { λ r. ⌜ r ≡ codeFits object datatype ⌝ }
+{
+    (object == datatype) | (((object == 5) & (datatype == 3)) | ((9 <= object) & (datatype == 1)))
+}
+
+// Whether a property is one of the schema, and the object of its datatype.
+fn pair_fits(leasts: &[u8], count: usize, property: u16, object: u16) -> bool
+    requires { ⌜ count ≤ length (now leasts) ⌝ }
+    ensures { λ r. ⌜ r ≡ pairNumbers (now (leasts .entry)) count property object ⌝ }
+{
+    let p = property as usize;
+    let o = object as usize;
+    if count <= p {
+        return false;
+    }
+    if count <= o {
+        return false;
+    }
+    let range = leasts[p];
+    if range < 9 {
+        return false;
+    }
+    code_fits(leasts[o], range - 8)
+}
+
+// Whether the quad at an offset is well typed, in a fetched graph.
+fn quad_sound(leasts: &[u8], count: usize, fetched: &[u16], rows: &[u16], at: usize) -> bool
+    requires { ⌜ count ≤ length (now leasts) ⌝ }
+    requires { ⌜ at + 4 ≤ length (now rows) ⌝ }
+    ensures { λ r. ⌜ r ≡ quadNumbers (now (leasts .entry)) count (now (fetched .entry)) (rowAt (now (rows .entry)) at) ⌝ }
+{
+    let s = at + 1;
+    let p = at + 2;
+    let o = at + 3;
+    if !is_in(fetched, rows[at]) {
+        return false;
+    }
+    if !is_uri(leasts, count, rows[at]) {
+        return false;
+    }
+    if !is_uri(leasts, count, rows[s]) {
+        return false;
+    }
+    pair_fits(leasts, count, rows[p], rows[o])
+}
+
+// Whether each quad is well typed, in a fetched graph.
+// Ruled out: a quad of a graph that is not fetched; an object that is not of its property's datatype.
+pub fn quads_sound(leasts: &[u8], count: usize, fetched: &[u16], rows: &[u16], n: usize) -> bool
+    requires { ⌜ count ≤ length (now leasts) ⌝ }
+    requires { ⌜ 4 * n ≤ length (now rows) ⌝ }
+    ensures { λ r. ⌜ r ≡ every (quadNumbers (now (leasts .entry)) count (now (fetched .entry))) (rowsFrom n (now (rows .entry)) 0) ⌝ }
+{
+    let mut i = 0;
+    while i < n {
+        let at = 4 * i;
+        if !quad_sound(leasts, count, fetched, rows, at) {
+            return false;
+        }
+        i += 1;
+    }
+    true
+}

@@ -1,0 +1,33 @@
+// The term table: its terms are all different, and begin as loading numbers them.
+ghost use mathlib.Core.Path.{_≡_};
+ghost use Rattle.definitions.specs.Saved.{termsIn};
+ghost use Rattle.records.specs.Table.{HoldsTerms};
+ghost use Rattle.soundness.specs.Store.{beginsIn, termsSound};
+use definitions::SLOT_WIDTH;
+use records::table::slots_distinct;
+
+// Whether a table begins with the terms of another.
+fn begins_with(loading: &[u8], known: usize, table: &[u8], count: usize) -> bool
+    requires { ⌜ HoldsTerms (now loading) known ⌝ }
+    requires { ⌜ HoldsTerms (now table) count ⌝ }
+    ensures { λ r. ⌜ r ≡ beginsIn (termsIn (now (loading .entry))) (termsIn (now (table .entry))) ⌝ }
+{
+    if count < known {
+        return false;
+    }
+    let end = known * SLOT_WIDTH;
+    check::same(&loading[..end], &table[..end])
+}
+
+// Whether a table's terms are different ones that begin with those of loading.
+// Ruled out: the last of loading's left out; a table with fewer terms than loading's.
+pub fn terms_sound(loading: &[u8], known: usize, table: &[u8], count: usize) -> bool
+    requires { ⌜ HoldsTerms (now loading) known ⌝ }
+    requires { ⌜ HoldsTerms (now table) count ⌝ }
+    ensures { λ r. ⌜ r ≡ termsSound (termsIn (now (loading .entry))) (termsIn (now (table .entry))) ⌝ }
+{
+    if !begins_with(loading, known, table, count) {
+        return false;
+    }
+    slots_distinct(table, count)
+}
