@@ -39,10 +39,11 @@ check() {
 }
 
 host() { (cd host && "$@"); }
+check 'the archive' rt staticlib exports
 check 'cargo fmt' host cargo fmt --check
 check 'cargo clippy' host cargo clippy --offline --quiet --all-targets -- -D warnings
 part 'cargo test' host cargo test --offline --quiet
-check 'the comparison' host cargo run --offline --quiet --release -p compare -- --cases 50000 --seed 1
+check 'the comparison' host cargo run --offline --quiet --release -p compare -- --cases 50000 --seed 1 --printer ../target/bin/print_types --printer-every 50
 
 echo "== the whole gate took $SECONDS s"
 echo "$passed passed, $failed failed"

@@ -2,14 +2,13 @@
 use Prim.Native.Nat.{ℕ, _≤_}
 use mathlib.Core.Path.{_≡_, ap, _∙_}
 use mathlib.Core.List.{List}
-use mathlib.Core.Bool.{true}
 use mathlib.Core.Option.{some}
 use lib.Dec.{leb→le}
 use lib.ListN.{length}
 use Rattle.definitions.specs.Limits.{depthLimit, graphLimit, variableLimit}
 use Rattle.definitions.specs.Saved.{savedOf}
 use Rattle.definitions.specs.Calls as Calls
-use Rattle.definitions.specs.Calls.{reported, Lent, soundIn}
+use Rattle.definitions.specs.Calls.{reported, soundIn}
 use Rattle.definitions.specs.declared.SavedRun.{SavedRun}
 use Rattle.laws.proofs.Check.{Passed, check-passed}
 use Rattle.laws.proofs.Sound.{Accepted}

@@ -1,13 +1,13 @@
 -- Laws of what a call is lent: lengths, the least types of terms, and what a sound saved run is of.
 use Prim.Native.Nat.{ℕ, zero, suc, _≤_, _<_}
 use native.Mathlib.Omega.{arith}
-use mathlib.Core.Path.{_≡_, refl, sym, ap, ap₂, _∙_}
+use mathlib.Core.Path.{_≡_, refl, sym, ap, _∙_}
 use mathlib.Core.List.{List, [], _∷_, map}
-use mathlib.Core.Bool.{Bool, true, false, _&&_, _||_, Bool·beq}
+use mathlib.Core.Bool.{Bool, true, false, _&&_, _||_}
 use mathlib.Core.Option.{Option, none, some}
-use lib.Dec.{T, eqb, leb, leb→le}
+use lib.Dec.{eqb, leb}
 use lib.ListN.{length, getD, getElem?, length-map}
-use Rattle.definitions.specs.Types.{Ty, plain, range, Datatype, typeCode, typeRows, typeOfCode}
+use Rattle.definitions.specs.Types.{Ty, range, Datatype, typeCode, typeRows, typeOfCode}
 use Rattle.definitions.specs.Terms.{Term, Schema, datatypeIn, sortOf, Sort}
 use Rattle.definitions.specs.Evaluate.{isURI}
 use Rattle.definitions.specs.Limits.{termTableWidth, quadTableWidth}

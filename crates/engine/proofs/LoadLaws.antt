@@ -57,10 +57,6 @@ saved-fresh types terms root e = rw e
 
 -- ── the tests ───────────────────────────────────────────────────────────────────────────────
 
-pub empty-table : replicate {A = ℕ} quadTableWidth 0 ≡ quadTable []
-unfolding quadTable quadBytes filled
-empty-table = refl
-
 abbrev pub LoadDone : (l : Lent) → (r : Loaded) → (termBytes quadBytes : List ℕ) → Type 0
 LoadDone l r termBytes quadBytes = (r ≡ Calls.load l .returned) × (termBytes ≡ Calls.load l .termTable) × (quadBytes ≡ Calls.load l .quadTable)
 

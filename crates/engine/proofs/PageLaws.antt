@@ -1,22 +1,21 @@
 -- The page call, refusal by refusal, and its result where nothing is refused.
 use Prim.Native.Nat.{ℕ, _≤_, _<_}
 use native.Mathlib.Omega.{arith}
-use mathlib.Core.Path.{_≡_, refl, sym, ap, subst, _∙_}
+use mathlib.Core.Path.{_≡_, refl, sym, ap, _∙_}
 use mathlib.Core.List.{List}
-use mathlib.Core.Bool.{Bool, true, false, cond}
+use mathlib.Core.Bool.{true, false}
 use mathlib.Core.Option.{Option, none, some}
-use lib.Dec.{T, leb, leb→le}
 use lib.ListN.{length, getElem?}
 use borrow.Author.Tests.{le-leb, lt-leb}
 use Rattle.laws.proofs.Tests.{trueIs}
-use Rattle.definitions.specs.Limits.{termTableWidth, quadTableWidth, graphLimit, pageLimit}
+use Rattle.definitions.specs.Limits.{pageLimit}
 use Rattle.definitions.specs.Bytes.{provided}
 use Rattle.definitions.specs.Terms.{Triple, readPage}
-use Rattle.definitions.specs.Machine.{State, Store, Taken, taken, withPage, inLimits}
-use Rattle.definitions.specs.Saved.{savedOf, termTable, quadTable}
+use Rattle.definitions.specs.Machine.{State, Taken, taken, withPage, inLimits}
+use Rattle.definitions.specs.Saved.{termTable, quadTable}
 use Rattle.definitions.specs.Result.{Result, refused, passed, _>>=_, _>>_, require, given}
 use Rattle.definitions.specs.Calls as Calls
-use Rattle.definitions.specs.Calls.{Checked, reported, Lent, lengthsFit, soundIn, isGraph, pageIn, PageTaken, pageTaken, takeIn, Taking, pageTests, PageResult, pageResult, pageCall}
+use Rattle.definitions.specs.Calls.{Checked, Lent, lengthsFit, soundIn, isGraph, pageIn, PageTaken, pageTaken, takeIn, Taking, pageTests, PageResult, pageResult, pageCall}
 use Rattle.definitions.specs.declared.SavedRun.{SavedRun}
 use Rattle.definitions.specs.declared.Paged.{Paged}
 use Rattle.laws.proofs.Results.{given-bind, require-after, given-refused, require-refused}

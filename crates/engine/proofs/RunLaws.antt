@@ -4,7 +4,7 @@ use native.Mathlib.Omega.{arith}
 use mathlib.Core.Path.{_≡_, sym, ap, _∙_}
 use mathlib.Core.List.{List}
 use mathlib.Core.Bool.{Bool, true, false, _&&_}
-use mathlib.Core.Option.{Option, none, some}
+use mathlib.Core.Option.{none, some}
 use lib.Dec.{T, leb, leb→le}
 use lib.IntN.{ℤ}
 use lib.ListN.{length, drop}
@@ -13,11 +13,11 @@ use Rattle.definitions.specs.Bytes.{signed, allZero}
 use Rattle.definitions.specs.Terms.{isDateTime}
 use Rattle.definitions.specs.Typing.{typeAt}
 use Rattle.definitions.specs.Outcome as Outcomes
-use Rattle.definitions.specs.Outcome.{Outcome, ok, fault}
+use Rattle.definitions.specs.Outcome.{Outcome, ok}
 use Rattle.definitions.specs.Machine.{State, Run, lastOf}
 use Rattle.definitions.specs.Machine as Machine
 use Rattle.definitions.specs.Saved.{savedOf, quadsFrom, quadsIn}
-use Rattle.definitions.specs.Result.{Result, refused, passed, _>>=_, _>>_, require, given}
+use Rattle.definitions.specs.Result.{Result, refused, passed, _>>=_, _>>_, given}
 use Rattle.definitions.specs.Calls as Calls
 use Rattle.definitions.specs.Calls.{Checked, reported, Lent, lengthsFit, soundIn, runIn, Running, runTests, ranOf, runResult, runCall}
 use Rattle.definitions.specs.declared.SavedRun.{SavedRun}

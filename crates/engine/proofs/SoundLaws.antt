@@ -1,21 +1,19 @@
 -- Refusal 10, from the tests that the code makes.
-use Prim.Native.Nat.{ℕ, zero, suc, _+_, _*_, _≤_, _<_}
+use Prim.Native.Nat.{ℕ, zero, suc, _+_, _*_, _≤_}
 use native.Mathlib.Omega.{arith}
 use mathlib.Core.Path.{_≡_, refl, sym, ap, subst, _∙_}
 use mathlib.Core.List.{List, [], _∷_, _++_, map}
 use mathlib.Core.Bool.{Bool, true, false, _&&_, and-false}
 use mathlib.Core.Option.{Option, none, some}
 use lib.Dec.{T, leb}
-use lib.ListN.{length, getD, getElem?, drop, length-map, length-append, length-drop}
+use lib.ListN.{length, drop, length-map, length-append, length-drop}
 use Rattle.definitions.specs.Limits.{termLimit, quadLimit, graphLimit, termTableWidth}
 use Rattle.definitions.specs.Bytes.{sameBytes, onward}
-use Rattle.definitions.specs.Types.{typeOfCode}
 use Rattle.definitions.specs.Terms.{Term, Schema, sortOf, readSchema}
 use Rattle.definitions.specs.Reading.{parsed}
-use Rattle.definitions.specs.Machine.{State, Store}
-use Rattle.definitions.specs.Saved.{termTable, termsIn, quadsFrom, quadsIn}
-use Rattle.definitions.specs.Result.{refused, passed}
-use Rattle.definitions.specs.Calls as Calls
+use Rattle.definitions.specs.Machine.{Store}
+use Rattle.definitions.specs.Saved.{termsIn, quadsFrom, quadsIn}
+use Rattle.definitions.specs.Result.{passed}
 use Rattle.definitions.specs.Calls.{Checked, check, reported, Lent, soundIn}
 use Rattle.definitions.specs.declared.SavedRun.{SavedRun}
 use Rattle.laws.proofs.Tests.{isTrue, trueIs}
@@ -27,8 +25,8 @@ use Rattle.laws.proofs.Sorts.{least}
 use Rattle.laws.proofs.Check.{Passed, check-passed, terms-fit, types-length}
 use Rattle.laws.proofs.Valid.{check-valid}
 use Rattle.laws.proofs.Tables.{terms-of, term-table-length}
-use Rattle.laws.proofs.Saved.{Holding, held-inv}
-use Rattle.laws.proofs.SoundIn.{SoundIn, sound-in}
+use Rattle.laws.proofs.Saved.{held-inv}
+use Rattle.laws.proofs.SoundIn.{sound-in}
 use Rattle.records.specs.Answers as Records
 use Rattle.records.specs.Answers.{countOf}
 use Rattle.records.specs.Table.{HoldsTerms}
@@ -43,7 +41,7 @@ use Rattle.engine.specs.declared.Lending.{Lending}
 use Rattle.engine.specs.declared.card.Card.{Card}
 use Rattle.engine.specs.Check.{numberOf, cardOf, TablesOf}
 use Rattle.engine.specs.Leasts.{codeOf, leastCodes}
-use Rattle.engine.specs.Lending.{notSound, Found, Lends}
+use Rattle.engine.specs.Lending.{notSound, Lends}
 use Rattle.engine.specs.Saved.{lentOf}
 use Rattle.engine.proofs.Numbers.{refused-number, passed-number}
 use Rattle.engine.proofs.CheckLaws.{card-number, check-not-zero}
@@ -241,17 +239,17 @@ module _ (terms schema script table store : List ℕ) (saved : SavedRun) where
                   record {
                     sound = decided;
                     found = λ x e.
-                    let i = sound-in l saved x e in
-                    let is : x .checked ≡ c = passed-is (sym (i .loads) ∙ checks .1) in
-                    let h = held-inv (x .checked .root) table store saved (x .state) (i .holds) in
-                    let all : used .0 ≡ x .state .store .terms = some-is (sym (used .1) ∙ h .terms) in
-                    record {
-                      known = known-is ∙ ap (λ (c : Checked). length (c .terms)) (sym is);
-                      count = sym (used .2) ∙ ap length all;
-                      few = fewer;
-                      room = leasts-length;
-                      codes = subst (λ (ts : List Term). LeastOf (x .checked .schema) ts leasts) all (subst (λ (c : Checked). LeastOf (c .schema) (used .0) leasts) (sym is) codes);
-                      rowRoom = width;
-                      quads = er good;
-                    };
+                        let i = sound-in l saved x e in
+                        let is : x .checked ≡ c = passed-is (sym (i .loads) ∙ checks .1) in
+                        let h = held-inv (x .checked .root) table store saved (x .state) (i .holds) in
+                        let all : used .0 ≡ x .state .store .terms = some-is (sym (used .1) ∙ h .terms) in
+                        record {
+                          known = known-is ∙ ap (λ (c : Checked). length (c .terms)) (sym is);
+                          count = sym (used .2) ∙ ap length all;
+                          few = fewer;
+                          room = leasts-length;
+                          codes = subst (λ (ts : List Term). LeastOf (x .checked .schema) ts leasts) all (subst (λ (c : Checked). LeastOf (c .schema) (used .0) leasts) (sym is) codes);
+                          rowRoom = width;
+                          quads = er good;
+                        };
                   }

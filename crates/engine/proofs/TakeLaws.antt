@@ -2,33 +2,30 @@
 use Prim.Native.Nat.{ℕ, _-_, _≤_, _<_}
 use native.Mathlib.Omega.{arith}
 use mathlib.Core.Path.{_≡_, refl, sym, ap, subst, _∙_}
-use mathlib.Core.List.{List, _++_}
+use mathlib.Core.List.{List}
 use mathlib.Core.Bool.{Bool, true, false, cond, _&&_}
 use mathlib.Core.Option.{Option, none, some}
-use lib.Dec.{T, eqb, leb, leb→le}
+use lib.Dec.{leb, leb→le}
 use lib.ListN.{length, getElem?, replicate}
 use lib.Seq.{take-at}
-use borrow.Author.Tests.{eqb-true}
-use Rattle.definitions.specs.Limits.{termTableWidth, quadTableWidth, termLimit, quadLimit, graphLimit, depthLimit, variableLimit, pageLimit}
+use Rattle.definitions.specs.Limits.{termLimit, quadLimit, graphLimit, depthLimit, variableLimit, pageLimit}
 use Rattle.definitions.specs.Bytes.{filled}
-use Rattle.definitions.specs.Terms.{Term, Triple, Schema, readSchema, readPage}
+use Rattle.definitions.specs.Terms.{Term, readSchema, readPage}
 use Rattle.definitions.specs.Machine.{State, Store, Taken, taken, withPage, inLimits, joined}
 use Rattle.definitions.specs.Saved.{savedOf, termTable, quadTable}
-use Rattle.definitions.specs.Calls as Calls
-use Rattle.definitions.specs.Calls.{Checked, reported, Lent, lengthsFit, tablesFit, soundIn, isGraph, pageIn, pageTaken, pageResult, pageCall}
+use Rattle.definitions.specs.Calls.{Checked, reported, Lent, isGraph, pageIn, pageTaken, pageResult, pageCall}
 use Rattle.definitions.specs.Result as Results
 use Rattle.definitions.specs.declared.SavedRun.{SavedRun}
 use Rattle.definitions.specs.declared.Paged.{Paged}
-use Rattle.definitions.specs.declared.PageAnswer.{PageAnswer}
 use Rattle.definitions.specs.declared.PageAnswer.the-variants as PageAnswers
 use Rattle.laws.proofs.Tests.{trueIs}
 use Rattle.laws.proofs.Bytes.{AreBytes}
-use Rattle.laws.proofs.Bindings.{there-is, is-below}
-use Rattle.laws.proofs.Options.{provided-inv, some-is}
+use Rattle.laws.proofs.Bindings.{is-below}
+use Rattle.laws.proofs.Options.{provided-inv}
 use Rattle.laws.proofs.Sound.{Accepted}
 use Rattle.laws.proofs.SoundIn.{SoundIn, terms-held, valid-held, quads-held}
 use Rattle.laws.proofs.Saved.{terms-few, quads-few, graphs-few, quads-small}
-use Rattle.machine.specs.Stack.{fetchedIn, graphFits, paged}
+use Rattle.machine.specs.Stack.{graphFits, paged}
 use Rattle.machine.specs.Canonical.{canonicalOf}
 use Rattle.machine.specs.Page.{PageReads, Reads}
 use Rattle.machine.specs.Taking.{HeldStore, HeldTables, PageDone, takenPage, refusedPage as notTaken}
@@ -160,10 +157,11 @@ module _ (terms schema script table store : List ℕ) (saved : SavedRun) (n g : 
 
       by-limits : (b : Bool) → fits ≡ b
           → (r ≡ cond b (takenPage clean g k) (notTaken clean)) × (table₁ ≡ cond b (termTable (k .terms)) table) × (store₁ ≡ cond b (quadTable (k .quads)) store)
-      by-limits b f =
-          (done .answer ∙ ap (λ (b : Bool). cond b (takenPage clean g k) (notTaken clean)) f,
-           done .termBytes ∙ ap (λ (b : Bool). cond b (termTable (k .terms)) table) f,
-           done .quadBytes ∙ ap (λ (b : Bool). cond b (quadTable (k .quads)) store) f)
+      by-limits b f = (
+        done .answer ∙ ap (λ (b : Bool). cond b (takenPage clean g k) (notTaken clean)) f,
+        done .termBytes ∙ ap (λ (b : Bool). cond b (termTable (k .terms)) table) f,
+        done .quadBytes ∙ ap (λ (b : Bool). cond b (quadTable (k .quads)) store) f,
+      )
 
       -- 14
       pub not-taken : (m : ℕ) → r .answer ≡ PageAnswers.Refused m → {r′ : Paged} → r′ ≡ refusedPaged saved 14

@@ -2,17 +2,15 @@
 ghost use mathlib.Core.Path.{_≡_};
 ghost use Rattle.definitions.specs.Calls as Calls;
 ghost use Rattle.engine.specs.Saved.{bareRun, refusedLoad, acceptedLoad, lentOf};
+use crate::QUAD_TABLE;
+use crate::TERM_TABLE;
+use crate::TERMS;
 use crate::card::check_card;
 use definitions::LoadAnswer;
 use definitions::Loaded;
 use definitions::SavedItem;
 use definitions::SavedRun;
 use definitions::TERM_LIMIT;
-
-// Bytes of the lent tables.
-const TERM_TABLE: usize = 25088;
-
-const QUAD_TABLE: usize = 4096;
 
 // A saved run in which nothing is bound, fetched or stored: only so many of the stack's items count.
 fn bare_run(height: u16, types: [u8; 16]) -> SavedRun

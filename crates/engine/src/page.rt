@@ -10,9 +10,15 @@ ghost use Rattle.engine.specs.Answered.{refusedPaged};
 ghost use Rattle.engine.specs.Saved.{lentOf};
 ghost use Rattle.soundness.specs.Store.{LeastOf};
 ghost use Rattle.engine.specs.Paging.{Passed};
-
+use crate::QUAD_TABLE;
+use crate::ROWS;
+use crate::TERM_TABLE;
+use crate::TERMS;
 use crate::sound::sound;
-use definitions::{PAGE_LIMIT, PageAnswer, Paged, SavedRun};
+use definitions::PAGE_LIMIT;
+use definitions::PageAnswer;
+use definitions::Paged;
+use definitions::SavedRun;
 use machine::canonical::canonical;
 use machine::taking::take_in;
 use records::Counted;
@@ -31,7 +37,7 @@ fn refused(saved: SavedRun, number: u8) -> Paged
 pub fn tables_fit(table: &[u8], store: &[u8]) -> bool
     ensures { λ r. ⌜ r ≡ tablesFit (length (now (table .entry))) (length (now (store .entry))) ⌝ }
 {
-    (table.len() == 25088) & (store.len() == 4096)
+    (table.len() == TERM_TABLE) & (store.len() == QUAD_TABLE)
 }
 
 // Whether a number is that of a URI among the terms in use.
@@ -99,8 +105,8 @@ pub fn page(
     if !tables_fit(table, store) {
         return refused(saved, 1);
     }
-    let mut rows = [0u16; 2048];
-    let mut leasts = [0u8; 512];
+    let mut rows = [0u16; ROWS];
+    let mut leasts = [0u8; TERMS];
     let lent = sound(
         terms,
         schema,
@@ -121,6 +127,14 @@ pub fn page(
         return refused(saved, 13);
     }
     take(
-        terms, schema, script, table, store, saved, lent.count, graph, page,
+        terms,
+        schema,
+        script,
+        table,
+        store,
+        saved,
+        lent.count,
+        graph,
+        page,
     )
 }

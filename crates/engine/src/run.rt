@@ -9,10 +9,14 @@ ghost use Rattle.definitions.specs.Outcome.{ok};
 ghost use Rattle.definitions.specs.Calls.{runCall};
 ghost use Rattle.engine.specs.Answered.{refusedRan};
 ghost use Rattle.engine.specs.Saved.{lentOf};
-
+use crate::ROWS;
+use crate::TERMS;
 use crate::page::tables_fit;
 use crate::sound::sound;
-use definitions::{BUDGET_LIMIT, Ran, RunAnswer, SavedRun};
+use definitions::BUDGET_LIMIT;
+use definitions::Ran;
+use definitions::RunAnswer;
+use definitions::SavedRun;
 use machine::canonical::canonical;
 use machine::running::run_steps;
 use records::numbers::within;
@@ -66,8 +70,8 @@ pub fn run(
     if !tables_fit(table, store) {
         return refused(saved, 1);
     }
-    let mut rows = [0u16; 2048];
-    let mut leasts = [0u8; 512];
+    let mut rows = [0u16; ROWS];
+    let mut leasts = [0u8; TERMS];
     let lent = sound(
         terms,
         schema,
@@ -90,7 +94,15 @@ pub fn run(
     let count = lent.count;
     let steps = budget as u32;
     let end = run_steps(
-        clean, script, known, table, count, &rows, &leasts, second, steps,
+        clean,
+        script,
+        known,
+        table,
+        count,
+        &rows,
+        &leasts,
+        second,
+        steps,
     );
     let ending = end.ending;
     let after = end.saved;

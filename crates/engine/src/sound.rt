@@ -5,8 +5,8 @@ ghost use Prim.Native.Nat.{_*_};
 ghost use Rattle.definitions.specs.Limits.{termLimit, quadLimit, termTableWidth, quadTableWidth};
 ghost use Rattle.engine.specs.Lending.{notSound, Lends};
 ghost use Rattle.engine.specs.Saved.{lentOf};
-
 use crate::Lending;
+use crate::TERM_TABLE;
 use crate::card::check_card;
 use crate::leasts::least_codes;
 use definitions::SavedRun;
@@ -43,7 +43,7 @@ pub fn sound(
     requires { ⌜ length (now leasts) ≡ termLimit ⌝ }
     ensures { λ r. ⌜ Lends (lentOf (now (terms .entry)) (now (schema .entry)) (now (script .entry)) (now (table .entry)) (now (store .entry))) saved r (now (rows .exit)) (now (leasts .exit)) ⌝ }
 {
-    let mut loading = [0u8; 25088];
+    let mut loading = [0u8; TERM_TABLE];
     let card = check_card(terms, schema, script, &mut loading, leasts);
     if card.refusal != 0 {
         return unsound();

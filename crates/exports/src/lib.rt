@@ -102,7 +102,13 @@ pub extern "C" fn willetcoffer_run(
         (now (saved .entry)) budget clock (now (report .entry))
         ≡ ok (record { number = r; saved = now (saved .exit); report = now (report .exit) }) ⌝ }
 {
-    if !handing::buffers_fit(term_table.len(), quad_table.len(), saved.len(), report.len(), RUN_REPORT_WIDTH) {
+    if !handing::buffers_fit(
+        term_table.len(),
+        quad_table.len(),
+        saved.len(),
+        report.len(),
+        RUN_REPORT_WIDTH,
+    ) {
         return 1;
     }
     let read = reading::read_saved(saved);
@@ -110,7 +116,16 @@ pub extern "C" fn willetcoffer_run(
         return 10;
     }
     let before = read.saved;
-    let ran = engine::run::run(terms, schema, script, term_table, quad_table, before, budget, clock);
+    let ran = engine::run::run(
+        terms,
+        schema,
+        script,
+        term_table,
+        quad_table,
+        before,
+        budget,
+        clock,
+    );
     let answer = ran.answer;
     let after = ran.saved;
     let number = reports::run_number(answer);
@@ -150,7 +165,13 @@ pub extern "C" fn willetcoffer_page(
           report = now (report .exit);
         } ⌝ }
 {
-    if !handing::buffers_fit(term_table.len(), quad_table.len(), saved.len(), report.len(), PAGE_REPORT_WIDTH) {
+    if !handing::buffers_fit(
+        term_table.len(),
+        quad_table.len(),
+        saved.len(),
+        report.len(),
+        PAGE_REPORT_WIDTH,
+    ) {
         return 1;
     }
     let read = reading::read_saved(saved);
@@ -158,7 +179,16 @@ pub extern "C" fn willetcoffer_page(
         return 10;
     }
     let before = read.saved;
-    let paged = engine::page::page(terms, schema, script, term_table, quad_table, before, graph, page);
+    let paged = engine::page::page(
+        terms,
+        schema,
+        script,
+        term_table,
+        quad_table,
+        before,
+        graph,
+        page,
+    );
     let answer = paged.answer;
     let kept = paged.saved;
     let number = reports::page_number(answer);

@@ -2,44 +2,43 @@
 use Prim.Native.Nat.{ℕ, zero, suc, _+_, _-_, _*_, _≤_, _<_}
 use native.Mathlib.Omega.{arith}
 use mathlib.Core.Path.{_≡_, refl, ap, sym, subst, fun-ext, _∙_}
-use mathlib.Core.List.{List, [], _∷_, _++_, map, map-append}
-use mathlib.Core.Bool.{Bool, true, false, cond, not, _&&_, _||_}
+use mathlib.Core.List.{List, [], _∷_, _++_, map}
+use mathlib.Core.Bool.{Bool, true, false, cond, _&&_}
 use mathlib.Core.Option.{Option, none, some}
-use mathlib.Core.Logic.{_⊎_, inl, inr, ⊎-elim}
+use mathlib.Core.Logic.{⊎-elim}
 use lib.IntN.{ℤ}
 use lib.Dec.{T, eqb, eqb→eq, eqb-refl, ltb, ltb→lt}
-use lib.ListN.{length, getD, getElem?, take, replicate, length-map, List·getD-eq-default}
+use lib.ListN.{length, getD, take, replicate, List·getD-eq-default}
 use borrow.Author.Tests.{lt-ltb, le-ltb}
 use Rattle.definitions.specs.Limits.{variableLimit, pairLimit, termLimit}
-use Rattle.definitions.specs.Lists.{every, distinct, isIn}
-use Rattle.definitions.specs.Bytes.{byte, filled, provided, onward, signed}
-use Rattle.definitions.specs.Types.{Ty, plain, typeCode, typeOfCode}
+use Rattle.definitions.specs.Lists.{every, isIn}
+use Rattle.definitions.specs.Bytes.{byte, filled, onward, signed}
+use Rattle.definitions.specs.Types.{Ty, typeCode, typeOfCode}
 use Rattle.definitions.specs.Terms.{Term, Schema}
-use Rattle.definitions.specs.Tree.{Script, success, fromNamed, block, sequence, Binder, Query}
+use Rattle.definitions.specs.Tree.{Script, block, Binder, Query}
 use Rattle.definitions.specs.Reading.{readQuery, binderAt, bindersAt, writtenOf}
-use Rattle.definitions.specs.Scope.{variables, variablesOf, bindersOf, inQuery, isFree}
-use Rattle.definitions.specs.Typing.{Written, unbound, annotated, writtenIn, writtenTypes, typeAt, queryTyped, scriptTyped}
+use Rattle.definitions.specs.Scope.{variables, variablesOf, bindersOf}
+use Rattle.definitions.specs.Typing.{Written, unbound, annotated, writtenIn, writtenTypes, typeAt}
 use Rattle.definitions.specs.Outcome.{Outcome, ok}
 use Rattle.definitions.specs.Evaluate.{Bindings, Quad}
 use Rattle.definitions.specs.Search.{Typing, Tuple, answer}
 use Rattle.definitions.specs.Machine.{State, answerNow}
 use Rattle.definitions.specs.Saved.{isBound, numberOrZero, savedItem, savedOf, hasTuple, lastNumbers}
 use Rattle.definitions.specs.Sound.{lastSound}
-use Rattle.definitions.specs.Calls.{Checked, constantsOf, reportedType, reportedTypes, reported}
+use Rattle.definitions.specs.Calls.{Checked, reportedType, reportedTypes, reported}
 use Rattle.definitions.specs.declared.SavedItem.{SavedItem}
 use Rattle.definitions.specs.declared.SavedRun.{SavedRun}
-use Rattle.laws.proofs.Tests.{andLeft, andRight, andMake, orLeft, orRight, orCases}
-use Rattle.laws.proofs.Options.{some-not-none, provided-inv, onward-inv}
+use Rattle.laws.proofs.Tests.{andLeft, orLeft, orRight, orCases}
+use Rattle.laws.proofs.Options.{provided-inv, onward-inv}
 use Rattle.laws.proofs.Order.{type-of-code}
 use Rattle.laws.proofs.All.{All}
 use Rattle.laws.proofs.Fine.{Fine, fine-ok}
 use Rattle.laws.proofs.Ranges.{split}
-use Rattle.laws.proofs.Bindings.{BoundIn, Fits, is-below}
+use Rattle.laws.proofs.Bindings.{Fits, is-below}
 use Rattle.laws.proofs.Answers.{IfSome, answer-fine}
 use Rattle.laws.proofs.Places.{block-binds}
 use Rattle.laws.proofs.Saved.{at-variable, terms-few}
 use Rattle.laws.proofs.More.{query-more}
-use Rattle.laws.proofs.Sound.{Accepted, Sound}
 use Rattle.laws.proofs.SoundMeans.{ItemFacts, Facts, facts}
 use Rattle.query.specs.Codes.{soughtCode, freeCode, numberAt, bindingsOf, rowsFrom}
 use Rattle.query.specs.Ready.{Ready}

@@ -1,5 +1,5 @@
 -- Laws of a step and of a run: the item on top is found, the machine's step is taken, and step after step makes its run.
-use Prim.Native.Nat.{ℕ, zero, suc, _+_, _-_, _*_, _≤_, _<_}
+use Prim.Native.Nat.{ℕ, suc, _+_, _-_, _*_, _≤_, _<_}
 use native.Mathlib.Omega.{arith}
 use native.Mathlib.Nat.{sub-zero}
 use mathlib.Core.Path.{_≡_, refl, ap, sym, subst, _∙_}
@@ -8,7 +8,7 @@ use mathlib.Core.Bool.{Bool, true, false}
 use mathlib.Core.Option.{Option, none, some}
 use mathlib.Core.Logic.{_⊎_, inl, inr}
 use lib.Dec.{T, eqb}
-use lib.ListN.{length, getD, getElem?}
+use lib.ListN.{length, getElem?}
 use Rattle.definitions.specs.Bytes.{byte, signed}
 use Rattle.definitions.specs.Terms.{Schema}
 use Rattle.definitions.specs.Tree.{Script, success, fromNamed, block, sequence, Binder, Query}
@@ -26,7 +26,7 @@ use Rattle.definitions.specs.declared.RunState.the-variants.{Ended, Spent}
 use Rattle.definitions.specs.declared.SavedItem.{SavedItem}
 use Rattle.definitions.specs.declared.SavedRun.{SavedRun}
 use Rattle.laws.proofs.Fine.{fine-ok}
-use Rattle.laws.proofs.RunStore.{Keeps, next-keeps}
+use Rattle.laws.proofs.RunStore.{next-keeps}
 use Rattle.laws.proofs.ScriptReads.{ReadsAs}
 use Rattle.laws.proofs.Sound.{Sound}
 use Rattle.safety.proofs.StepSound.{NextSound, next-sound}
@@ -34,10 +34,10 @@ use Rattle.query.specs.Codes.{rowsFrom}
 use Rattle.machine.specs.declared.Stepped.{Stepped}
 use Rattle.machine.specs.declared.Stopped.{Stopped}
 use Rattle.machine.specs.Stack.{topOf}
-use Rattle.machine.specs.Steps.{Standing, OnTop, Acts, answerOf, movedTo, standsAt, steppedOf, EntersOnce, EntersEach}
+use Rattle.machine.specs.Steps.{Standing, OnTop, answerOf, standsAt, steppedOf, EntersOnce, EntersEach}
 use Rattle.machine.specs.Running.{Lends, Top, onTop, eachOn, ActsNow, AnswersNow, StepOf, LookOf, RunOf}
 use Rattle.machine.proofs.Saved.{saved-top}
-use Rattle.machine.proofs.StepLaws.{ok-is, bind-inv, run-is, room, height-is, item-facts, top, inside, Blocked, blocked}
+use Rattle.machine.proofs.StepLaws.{ok-is, run-is, room, height-is, item-facts, top, inside, Blocked, blocked}
 
 false-not-true : false ≡ true → ⊥
 false-not-true e = let z : _≡_ {A = ℕ} 0 1 = cc in omega arith

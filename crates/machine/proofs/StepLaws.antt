@@ -5,9 +5,9 @@ use mathlib.Core.Path.{_≡_, refl, ap, ap₂, sym, subst, _∙_}
 use mathlib.Core.List.{List, [], _∷_}
 use mathlib.Core.Bool.{Bool, true, false, cond, _&&_}
 use mathlib.Core.Option.{Option, none, some}
-use mathlib.Core.Logic.{_⊎_, inl, inr, ⊎-elim}
+use mathlib.Core.Logic.{⊎-elim}
 use lib.IntN.{ℤ}
-use lib.Dec.{T, leb, ltb, leb→le, ltb→lt}
+use lib.Dec.{leb, ltb, leb→le, ltb→lt}
 use lib.ListN.{length, getD, getElem?, take, replicate}
 use lib.Seq.{take-at}
 use Rattle.definitions.specs.Limits.{depthLimit, scriptLimit}
@@ -22,7 +22,7 @@ use Rattle.definitions.specs.Reading.{readName, readQuery, readScript, bindersA
 use Rattle.definitions.specs.Typing.{typeAt}
 use Rattle.definitions.specs.Outcome.{Outcome, ok, fault, _>>=_, _>>_, demand, fromNamedNoURI}
 use Rattle.definitions.specs.Machine.{State, Item, Next, step, stand, fresh, withStack, withAnswer, act, enterNamed, enterOnce, enterEach}
-use Rattle.definitions.specs.Saved.{Place, placeIn, offsetOf, savedItem, savedOf, numberOrZero}
+use Rattle.definitions.specs.Saved.{offsetOf, savedItem, savedOf, numberOrZero}
 use Rattle.definitions.specs.declared.SavedItem.{SavedItem}
 use Rattle.definitions.specs.declared.SavedRun.{SavedRun}
 use Rattle.definitions.specs.declared.RunState.the-variants.{Wanted, Waiting}
@@ -32,18 +32,18 @@ use Rattle.laws.proofs.All.{All}
 use Rattle.laws.proofs.Places.{place-found}
 use Rattle.laws.proofs.Reading.{script-none, byte-out, row-keys}
 use Rattle.laws.proofs.More.{name-more, query-more, script-more}
-use Rattle.laws.proofs.ReadBounds.{ScriptIn, script-within, binders-bounded}
+use Rattle.laws.proofs.ReadBounds.{script-within, binders-bounded}
 use Rattle.laws.proofs.Saved.{stack-low, graphs-few, at-variable}
 use Rattle.laws.proofs.Ranges.{split}
-use Rattle.laws.proofs.ScriptReads.{ReadsAs, SuccessAt, NamedAt, BlockAt, SequenceAt, script-reads, parsed-reads, ReadAt}
-use Rattle.laws.proofs.Sound.{Accepted, Sound, BindersBounded}
-use Rattle.laws.proofs.SoundMeans.{ItemFacts, StackFacts, Facts, facts}
+use Rattle.laws.proofs.ScriptReads.{ReadsAs, NamedAt, BlockAt, SequenceAt, script-reads, parsed-reads, ReadAt}
+use Rattle.laws.proofs.Sound.{BindersBounded}
+use Rattle.laws.proofs.SoundMeans.{ItemFacts, StackFacts, facts}
 use Rattle.reader.specs.Next.{nextOf}
 use Rattle.reader.specs.declared.Read.{Read}
 use Rattle.reader.specs.declared.Read.the-variants as Reads
 use Rattle.machine.specs.declared.Stepped.{Stepped}
 use Rattle.machine.specs.Stack.{pushed, popped, replaced, freshItem, fetchedIn, pairVariables, boundAll}
-use Rattle.machine.specs.Steps.{movedTo, standsAt, steppedOf, Standing, OnTop, Acts, NameReads, NumberOf, BlockReads, BodyAt, answerOf, EntersOnce, EntersEach}
+use Rattle.machine.specs.Steps.{movedTo, standsAt, steppedOf, OnTop, Acts, NameReads, NumberOf, BlockReads, BodyAt, answerOf, EntersOnce, EntersEach}
 use Rattle.machine.proofs.Saved.{saved-push, saved-pop, saved-replace, fresh-is, withBindings}
 use Rattle.machine.proofs.Binding.{pair-variables, saved-bind-all}
 

@@ -1,5 +1,4 @@
 // A step of the machine, and a run: step after step, up to the budget.
-use crate::Answered;
 use crate::Stepped;
 use crate::Stopped;
 use crate::answers::block_answer;
@@ -14,9 +13,6 @@ use crate::steps::stands;
 use definitions::RunState;
 use definitions::SavedRun;
 ghost use mathlib.Core.Path.{_≡_};
-ghost use mathlib.Core.List.{List};
-ghost use Prim.Native.Nat.{ℕ, _≤_};
-ghost use lib.ListN.{length};
 ghost use Rattle.definitions.specs.Bytes.{byte};
 ghost use Rattle.machine.specs.Steps.{Standing};
 ghost use Rattle.machine.specs.Running.{Lends, Top, ActsNow, StepOf, LookOf, RunOf, eachOn};

@@ -9,3 +9,4 @@ pub mod SameLaws
 pub mod SchemaLaws
 pub mod TableLaws
 pub mod NumberingLaws
+pub mod MarkLaws

@@ -383,3 +383,7 @@ module _ (s : List ℕ) (g : isSome (readTerms s) ≡ true) {r : Added} {table :
     pub listed-terms : listOf (termsIn table) ≡ listOf (readTerms s)
     unfolding listOf
     listed-terms = ap listOf (holding-terms table (listOf (readTerms s)) n listed)
+
+    pub listed-same : termsIn table ≡ readTerms s
+    unfolding listOf
+    listed-same = let ts = is-some (readTerms s) g in holding-terms table (listOf (readTerms s)) n listed ∙ rw (ts .1)

@@ -2,6 +2,7 @@
 pub mod bodies;
 pub mod fields;
 pub mod lists;
+pub mod marks;
 pub mod numbering;
 pub mod numbers;
 pub mod reading;

@@ -1,17 +1,23 @@
 // Records one after the other: how many there are, and whether one is there twice.
+use crate::Added;
 use crate::Counted;
 use crate::Read;
 use crate::bodies::body_width;
+use crate::numbering::list_terms;
 use crate::reading::ENTRY_WIDTH;
 use crate::reading::read_entry;
 use crate::reading::read_term;
 use crate::reading::read_triple;
+use crate::table::slots_distinct;
 use definitions::TEXT_WIDTH;
 ghost use mathlib.Core.Path.{_≡_};
 ghost use mathlib.Core.Bool.{true};
 ghost use Rattle.definitions.specs.Terms.{sameTerm, sameProperty, readTerm, readEntry, readTerms, readSchema, readPage};
 ghost use Rattle.laws.proofs.RecordsAt.{recordsAt};
 ghost use Rattle.records.specs.Answers.{isSome, nextOf, countOf, sameIn, againIn, distinctIn};
+
+// The bytes of a term table.
+const TABLE_WIDTH: usize = 25088;
 
 // How many term, schema or page records there are. Ruled out: the count up to the first bad record; one more for bytes left over.
 pub fn count_terms(s: &[u8]) -> Counted
@@ -94,13 +100,11 @@ fn term_again(s: &[u8], at: usize, from: usize) -> bool
     false
 }
 
-// Whether term records are good and all different. Ruled out: neighbours alone compared; integer 3 and decimal 3.0 taken for one term.
-pub fn terms_distinct(s: &[u8]) -> bool
+// Whether good term records are all different, record by record.
+fn records_distinct(s: &[u8]) -> bool
+    requires { ⌜ isSome (readTerms (now s)) ≡ true ⌝ }
     ensures { λ r. ⌜ r ≡ distinctIn sameTerm (readTerms (now (s .entry))) ⌝ }
 {
-    let Counted::Count(_) = count_terms(s) else {
-        return false;
-    };
     let mut at = 0;
     while at < s.len() {
         let next = term_end(s, at);
@@ -110,6 +114,21 @@ pub fn terms_distinct(s: &[u8]) -> bool
         at = next;
     }
     true
+}
+
+// Whether term records are good and all different: by their slots, where a table has room for them.
+// Ruled out: neighbours alone compared; integer 3 and decimal 3.0 taken for one term.
+pub fn terms_distinct(s: &[u8]) -> bool
+    ensures { λ r. ⌜ r ≡ distinctIn sameTerm (readTerms (now (s .entry))) ⌝ }
+{
+    let Counted::Count(_) = count_terms(s) else {
+        return false;
+    };
+    let mut table = [0u8; TABLE_WIDTH];
+    let Added::Count(n) = list_terms(s, &mut table) else {
+        return records_distinct(s);
+    };
+    slots_distinct(&table, n)
 }
 
 fn same_property(s: &[u8], a: usize, b: usize) -> bool

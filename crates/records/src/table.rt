@@ -2,6 +2,8 @@
 use crate::Added;
 use crate::Counted;
 use crate::Read;
+use crate::marks::mark_slots;
+use crate::marks::slot_again;
 use crate::numbers::is_zero;
 use crate::reading::read_term;
 use definitions::SLOT_WIDTH;
@@ -85,15 +87,13 @@ pub fn slots_distinct(table: &[u8], n: usize) -> bool
     requires { ⌜ HoldsTerms (now table) n ⌝ }
     ensures { λ r. ⌜ r ≡ distinctIn sameTerm (termsIn (now (table .entry))) ⌝ }
 {
+    let marks = mark_slots(table, n);
     let mut i = 0;
     while i < n {
-        let at = i * SLOT_WIDTH;
-        let end = at + SLOT_WIDTH;
-        let next = i + 1;
-        if find_slot(table, n, &table[at..end], next) < n {
+        if slot_again(table, n, &marks, i) < n {
             return false;
         }
-        i = next;
+        i += 1;
     }
     true
 }

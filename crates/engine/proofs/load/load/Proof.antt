@@ -5,7 +5,8 @@ use mathlib.Core.Path.{refl}
 use borrow.Author.Needs.{needs}
 use lib.ListN.{length-replicate}
 use Rattle.engine.specs.Saved.{lentOf}
-use Rattle.engine.proofs.LoadLaws.{empty-table, load-refused, term-bytes, quad-bytes, check-refused, table-width, load-accepted}
+use Rattle.engine.proofs.LoadLaws.{load-refused, term-bytes, quad-bytes, check-refused, table-width, load-accepted}
+use Rattle.machine.proofs.DoneLaws.{empty-table}
 use Rattle.engine.proofs.load.load.Statement.{statement}
 use Rattle.engine.proofs.load.load.Tie as tie
 

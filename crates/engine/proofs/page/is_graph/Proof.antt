@@ -1,10 +1,9 @@
+-- `engine::page::is_graph` meets its contract.
 use native.Mathlib.Omega.{arith}
 use borrow.Author.Needs.{needs}
 use Rattle.engine.proofs.Lent.{graph-code, graph-past}
 use Rattle.engine.proofs.page.is_graph.Statement.{statement}
 use Rattle.engine.proofs.page.is_graph.Tie as tie
-use Rattle.engine.proofs.page.is_graph.Reads as reads
-use Rattle.engine.proofs.page.is_graph.Lts as lts
 
 returns : tie.Need-returns
 returns c = λ S terms codes e. graph-past terms _ (omega (arith, e))

@@ -1,11 +1,9 @@
+-- `engine::page::page_ok` meets its contract.
 use native.Mathlib.Omega.{arith}
 use borrow.Author.Needs.{needs}
 use Rattle.engine.proofs.PageLaws.{page-long, page-bad, page-good}
 use Rattle.engine.proofs.page.page_ok.Statement.{statement}
 use Rattle.engine.proofs.page.page_ok.Tie as tie
-use Rattle.engine.proofs.page.page_ok.Reads as reads
-use Rattle.engine.proofs.page.page_ok.Lts as lts
-use Rattle.records.proofs.lists.count_triples.Reads as count-triples-reads
 
 returns : tie.Need-returns
 returns c = page-long _ (omega arith)

@@ -1,3 +1,4 @@
+-- `engine::page::tables_fit` meets its contract.
 use mathlib.Core.Path.{refl}
 use Rattle.definitions.specs.Calls.{tablesFit}
 use Rattle.engine.proofs.page.tables_fit.Statement.{statement}

@@ -1,3 +1,4 @@
+-- `engine::run::bits` meets its contract.
 use Rattle.engine.proofs.ClockLaws.{up-fits, up-signed, down-fits, down-cast, down-most, down-signed}
 use Rattle.engine.proofs.run.bits.Statement.{statement}
 use Rattle.engine.proofs.run.bits.Tie as tie

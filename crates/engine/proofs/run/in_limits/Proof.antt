@@ -1,12 +1,10 @@
+-- `engine::run::in_limits` meets its contract.
 use mathlib.Core.Path.{ap}
 use mathlib.Core.Bool.{Bool, _&&_}
 use lib.Dec.{leb}
 use borrow.Author.Needs.{needs}
 use Rattle.engine.proofs.run.in_limits.Statement.{statement}
 use Rattle.engine.proofs.run.in_limits.Tie as tie
-use Rattle.engine.proofs.run.in_limits.Reads as reads
-use Rattle.engine.proofs.run.in_limits.Lts as lts
-use Rattle.records.proofs.numbers.within.Reads as within-reads
 
 within-requires : tie.Need-within-requires
 within-requires c κs = search needs

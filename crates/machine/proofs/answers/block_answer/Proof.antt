@@ -14,31 +14,24 @@ use Rattle.machine.proofs.answers.known_of.Reads as known-of-reads
 use Rattle.machine.proofs.answers.short_numbers.Reads as short-numbers-reads
 use Rattle.machine.proofs.stack.top.Reads as top-reads
 
--- src/answers.rt:168:9
 top-requires : tie.Need-top-requires
 top-requires c κs = let x = onTop (c .before .before .before .before .pre .0 .0 .here) (c .before .before .before .before .pre .0 .1) in (omega (arith, height-is _ _ _ _ x), omega (arith, height-is _ _ _ _ x, room _ _ _ _ x))
 
--- src/answers.rt:174:13
 cast-n : tie.Need-cast-n
 cast-n c = search needs
 
--- src/answers.rt:175:9
 block-of-requires : tie.Need-block-of-requires
 block-of-requires c κs = (block-room _ _ _ _ _ _ _ _ _ (c .before .before .before .before .before .before .before .before .before .before .pre .0 .0) (c .before .before .before .before .before .before .before .before .before .before .pre .0 .1) (c .before .before .before .before .before .before .before .before .before .before .pre .1), block-small _ _ _ _ _ _ _ _ _ (c .before .before .before .before .before .before .before .before .before .before .pre .0 .0) (c .before .before .before .before .before .before .before .before .before .before .pre .0 .1) (c .before .before .before .before .before .before .before .before .before .before .pre .1))
 
--- src/answers.rt:176:9
 known-of-requires : tie.Need-known-of-requires
 known-of-requires c κs = search needs
 
--- src/answers.rt:177:9
 answer-requires : tie.Need-answer-requires
 answer-requires c κs = level-given _ _ _ _ _ _ _ _ _ (c .before .before .before .before .before .before .before .before .before .before .before .before .pre .0 .0) (c .before .before .before .before .before .before .before .before .before .before .before .before .pre .0 .1) (c .before .before .before .before .before .before .before .before .before .before .before .before .pre .1) (c .before .before .before .before .before .before .before .top .result .last) _ (c .before .block-of .ensures) _ (c .known-of .ensures)
 
--- src/answers.rt:179:9
 short-numbers-requires : tie.Need-short-numbers-requires
 short-numbers-requires c κs = search needs
 
--- src/answers.rt:153:1
 returns : tie.Need-returns
 returns c = λ w t. answers-given _ _ _ _ _ _ _ _ _ w t (c .before .before .before .before .before .before .before .before .before .before .before .before .before .before .before .pre .1) (c .before .before .before .before .before .before .before .before .before .before .top .result .last) _ (c .before .before .before .before .block-of .ensures) _ (c .before .before .before .known-of .ensures) (c .before .before .before .before .before .before .before .before .before .before .top .result .started) (c .before .before .before .before .before .before .before .before .before .before .top .result) (c .before .before .before .before .before .before .before .before .before .before .top .ensures) refl refl (c .before .before .answer .result) (c .before .before .answer .ensures) _ (c .short-numbers .ensures)
 

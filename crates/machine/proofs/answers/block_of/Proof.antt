@@ -13,35 +13,27 @@ use Rattle.machine.proofs.answers.types_of.Reads as types-of-reads
 use Rattle.machine.proofs.answers.wide_numbers.Reads as wide-numbers-reads
 use Rattle.machine.proofs.stack.index.Reads as index-reads
 
--- src/answers.rt:109:17
 add-query : tie.Need-add-query
 add-query c = search needs
 
--- src/answers.rt:110:18
 add-second : tie.Need-add-second
 add-second c = search needs
 
--- src/answers.rt:111:22
 shared-slice-read-index : tie.Need-shared-slice-read-index
 shared-slice-read-index c = search needs
 
--- src/answers.rt:111:9
 index-requires : tie.Need-index-requires
 index-requires c κs = search needs
 
--- src/answers.rt:112:9
 pair-numbers-requires : tie.Need-pair-numbers-requires
 pair-numbers-requires c κs = search needs
 
--- src/answers.rt:113:9
 types-of-requires : tie.Need-types-of-requires
 types-of-requires c κs = subst (λ (l : List ℕ). (k : ℕ) → getD l k 0 < 16) (sym (c .pair-numbers .ensures)) (c .before .before .before .before .pre .1)
 
--- src/answers.rt:114:9
 wide-numbers-requires : tie.Need-wide-numbers-requires
 wide-numbers-requires c κs = search needs
 
--- src/answers.rt:104:1
 returns : tie.Need-returns
 returns c = block-made (c .before .before .before .before .before .before .args .script .now) (c .before .before .before .before .before .before .args .at) (c .before .before .before .before .before .before .args .reported) (c .before .before .before .before .before .before .args .used) _ (c .before .before .before .index .ensures) _ (c .before .before .pair-numbers .ensures) _ (c .before .types-of .ensures) _ (c .wide-numbers .ensures)
 

@@ -18,47 +18,36 @@ Inv-loop bound bindings known₀ v₀ known v = (v ≤ 16) × (known ≡ madeTo 
 abbrev μ-loop : tie.MeasureT-loop
 μ-loop bound bindings known₀ v₀ known v = 16 - v
 
--- src/answers.rt:34:5
 loop-holds : tie.Need-loop-holds Inv-loop μ-loop
 loop-holds c = (omega arith, refl)
 
--- src/answers.rt:35:28
 array-read-code-of : tie.Need-array-read-code-of Inv-loop μ-loop
 array-read-code-of c = search needs
 
--- src/answers.rt:35:38
 mul-code-of : tie.Need-mul-code-of Inv-loop μ-loop
 mul-code-of c = search needs
 
--- src/answers.rt:35:38
 array-read-code-of-2 : tie.Need-array-read-code-of-2 Inv-loop μ-loop
 array-read-code-of-2 c = search needs
 
--- src/answers.rt:35:20
 code-of-requires : tie.Need-code-of-requires Inv-loop μ-loop
 code-of-requires c κs = search needs
 
--- src/answers.rt:35:9
 mul-known : tie.Need-mul-known Inv-loop μ-loop
 mul-known c = search needs
 
--- src/answers.rt:35:9
 array-write-known : tie.Need-array-write-known Inv-loop μ-loop
 array-write-known c = search needs
 
--- src/answers.rt:36:9
 add-v : tie.Need-add-v Inv-loop μ-loop
 add-v c = search needs
 
--- src/answers.rt:34:5
 loop-less : tie.Need-loop-less Inv-loop μ-loop
 loop-less c = search needs
 
--- src/answers.rt:34:5
 loop-again : tie.Need-loop-again Inv-loop μ-loop
 loop-again c = (omega arith, made-variable _ _ _ _ (c .before .before .loop .inv .1) (omega arith) _ (c .code-of .ensures))
 
--- src/answers.rt:29:1
 returns : tie.Need-returns Inv-loop μ-loop
 unfolding knownOf
 returns c = made-variables (knownCode (c .before .before .args .t1) (c .before .before .args .t2)) freeCode (c .before .loop .v) _ (c .before .loop .inv .1) (omega arith) (omega arith)

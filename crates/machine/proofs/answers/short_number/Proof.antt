@@ -6,15 +6,12 @@ use Rattle.machine.proofs.answers.short_number.Tie as tie
 use Rattle.machine.proofs.answers.short_number.Reads as reads
 use Rattle.machine.proofs.answers.short_number.Lts as lts
 
--- src/answers.rt:90:20
 cast-result : tie.Need-cast-result
 cast-result c = search needs
 
--- src/answers.rt:87:1
 returns : tie.Need-returns
 returns c = short-is _ (omega arith)
 
--- src/answers.rt:87:1
 returns-2 : tie.Need-returns-2
 returns-2 c = short-not _ (omega arith)
 

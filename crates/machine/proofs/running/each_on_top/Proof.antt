@@ -11,35 +11,27 @@ use Rattle.machine.proofs.running.each_on_top.Reads as reads
 use Rattle.machine.proofs.running.each_on_top.Lts as lts
 use Rattle.machine.proofs.stack.top.Reads as top-reads
 
--- src/running.rt:92:9
 returns : tie.Need-returns
 returns c = λ w. none-each _ _ _ w (c .if1 .taken)
 
--- src/running.rt:94:9
 top-requires : tie.Need-top-requires
 top-requires c κs = height-low _ _ _ (c .before .before .before .pre) (c .if1 .left)
 
--- src/running.rt:96:14
 cast-at : tie.Need-cast-at
 cast-at c = search needs
 
--- src/running.rt:97:16
 shared-slice-read-kind : tie.Need-shared-slice-read-kind
 shared-slice-read-kind c = item-inside _ _ _ (c .before .before .before .before .before .pre) _ (first-item _ _ _ (c .before .before .before .before .before .pre) (c .before .before .if1 .left) _ (ap (λ (y : SavedItem). y .«at») (c .before .top .ensures)))
 
--- src/running.rt:99:9
 returns-2 : tie.Need-returns-2
 returns-2 c = λ w. not-each _ _ _ w _ (first-item _ _ _ w (c .before .before .before .if1 .left) _ (ap (λ (y : SavedItem). y .«at») (c .before .before .top .ensures))) (c .if2 .taken)
 
--- src/running.rt:101:18
 add-second : tie.Need-add-second
 add-second c = search needs
 
--- src/running.rt:102:16
 shared-slice-read-mode : tie.Need-shared-slice-read-mode
 shared-slice-read-mode c = let t = first-item _ _ _ (c .before .before .before .before .before .before .before .pre) (c .before .before .before .before .if1 .left) _ (ap (λ (y : SavedItem). y .«at») (c .before .before .before .top .ensures)) in let b = blocked _ _ _ _ (onTop (c .before .before .before .before .before .before .before .pre) t) (c .before .if2 .left) in omega (arith, b .reads .reads .room)
 
--- src/running.rt:87:1
 returns-3 : tie.Need-returns-3
 returns-3 c = λ w. each-mode _ _ _ w _ (first-item _ _ _ w (c .before .before .before .before .if1 .left) _ (ap (λ (y : SavedItem). y .«at») (c .before .before .before .top .ensures))) (c .before .if2 .left)
 

@@ -13,35 +13,27 @@ use Rattle.machine.proofs.steps.block_body.Reads as block-body-reads
 use Rattle.machine.proofs.steps.enter_each.Reads as enter-each-reads
 use Rattle.machine.proofs.steps.enter_once.Reads as enter-once-reads
 
--- src/running.rt:40:9
 block-answer-requires : tie.Need-block-answer-requires
 block-answer-requires c κs = search needs
 
--- src/running.rt:43:9
 block-body-requires : tie.Need-block-body-requires
 block-body-requires c κs = blocked _ _ _ _ (onTop (c .before .before .before .before .before .before .pre .0 .0 .here) (c .before .before .before .before .before .before .pre .0 .1)) (c .before .before .before .before .before .before .pre .1) .reads
 
--- src/running.rt:44:18
 add-second : tie.Need-add-second
 add-second c = let b = blocked _ _ _ _ (onTop (c .before .before .before .before .before .before .before .pre .0 .0 .here) (c .before .before .before .before .before .before .before .pre .0 .1)) (c .before .before .before .before .before .before .before .pre .1) in omega (arith, b .reads .reads .room)
 
--- src/running.rt:45:16
 shared-slice-read-mode : tie.Need-shared-slice-read-mode
 shared-slice-read-mode c = let b = blocked _ _ _ _ (onTop (c .before .before .before .before .before .before .before .before .pre .0 .0 .here) (c .before .before .before .before .before .before .before .before .pre .0 .1)) (c .before .before .before .before .before .before .before .before .pre .1) in omega (arith, b .reads .reads .room)
 
--- src/running.rt:47:9
 enter-each-requires : tie.Need-enter-each-requires
 enter-each-requires c κs = search needs
 
--- src/running.rt:47:9
 returns : tie.Need-returns
 returns c = λ w t. each-acts _ _ _ _ _ _ _ _ _ w t (c .before .before .before .before .before .before .before .before .before .before .pre .1) (c .before .before .before .before .before .block-answer .result .found) (c .before .before .before .before .before .block-answer .result .tuple) (c .before .before .before .before .before .block-answer .ensures w t) _ (eq-eqb _ _ (c .before .if1 .taken)) (c .enter-each .ensures (onTop (w .here) t))
 
--- src/running.rt:49:5
 enter-once-requires : tie.Need-enter-once-requires
 enter-once-requires c κs = search needs
 
--- src/running.rt:25:1
 returns-2 : tie.Need-returns-2
 returns-2 c = λ w t. once-acts _ _ _ _ _ _ _ _ _ w t (c .before .before .before .before .before .before .before .before .before .before .pre .1) (c .before .before .before .before .before .block-answer .result .found) (c .before .before .before .before .before .block-answer .result .tuple) (c .before .before .before .before .before .block-answer .ensures w t) _ (ne-eqb _ _ (c .before .if1 .left)) (c .enter-once .ensures (onTop (w .here) t))
 

@@ -8,19 +8,15 @@ use Rattle.machine.proofs.running.look.Lts as lts
 use Rattle.machine.proofs.running.each_on_top.Reads as each-on-top-reads
 use Rattle.machine.proofs.running.step.Reads as step-reads
 
--- src/running.rt:121:8
 each-on-top-requires : tie.Need-each-on-top-requires
 each-on-top-requires c κs = search needs
 
--- src/running.rt:122:9
 returns : tie.Need-returns
 returns c = λ w. look-each _ _ _ _ _ _ _ _ w (sym (c .before .each-on-top .ensures (w .here)) ∙ c .if1 .taken)
 
--- src/running.rt:124:9
 step-requires : tie.Need-step-requires
 step-requires c κs = search needs
 
--- src/running.rt:108:1
 returns-2 : tie.Need-returns-2
 returns-2 c = λ w. look-steps _ _ _ _ _ _ _ _ w (sym (c .before .before .each-on-top .ensures (w .here)) ∙ c .before .if1 .left) _ (c .step .ensures w)
 

@@ -18,35 +18,27 @@ Inv-loop script known table count quads leasts clock budget saved₀ steps₀ sa
 abbrev μ-loop : tie.MeasureT-loop
 μ-loop script known table count quads leasts clock budget saved₀ steps₀ saved steps = budget - steps
 
--- src/running.rt:146:5
 loop-holds : tie.Need-loop-holds Inv-loop μ-loop
 loop-holds c = λ w. sets-out _ _ _ _ _ _ _ _ w _
 
--- src/running.rt:147:13
 step-requires : tie.Need-step-requires Inv-loop μ-loop
 step-requires c κs = lends-now _ _ _ _ _ _ _ _ (c .before .before .before .before .before .before .pre) _ _ _ (c .before .loop .inv (c .before .before .before .before .before .before .pre))
 
--- src/running.rt:150:13
 returns : tie.Need-returns Inv-loop μ-loop
 returns c = λ w. stops-here _ _ _ _ _ _ _ _ w _ _ _ (c .before .before .before .before .loop .inv w) (omega arith) _ (c .before .before .step .ensures (lends-now _ _ _ _ _ _ _ _ w _ _ _ (c .before .before .before .before .loop .inv w))) (not-true _ (c .if1 .taken)) _ refl
 
--- src/running.rt:157:9
 add-steps : tie.Need-add-steps Inv-loop μ-loop
 add-steps c = search needs
 
--- src/running.rt:146:5
 loop-less : tie.Need-loop-less Inv-loop μ-loop
 loop-less c = omega arith
 
--- src/running.rt:146:5
 loop-again : tie.Need-loop-again Inv-loop μ-loop
 loop-again c = λ w. steps-on _ _ _ _ _ _ _ _ w _ _ _ (c .before .before .before .before .before .loop .inv w) (omega arith) _ (c .before .before .before .step .ensures (lends-now _ _ _ _ _ _ _ _ w _ _ _ (c .before .before .before .before .before .loop .inv w))) (not-false _ (c .before .if1 .left))
 
--- src/running.rt:159:9
 look-requires : tie.Need-look-requires Inv-loop μ-loop
 look-requires c κs = lends-now _ _ _ _ _ _ _ _ (c .before .before .before .before .before .before .pre) _ _ _ (c .before .loop .inv (c .before .before .before .before .before .before .pre))
 
--- src/running.rt:130:1
 returns-2 : tie.Need-returns-2 Inv-loop μ-loop
 returns-2 c = λ w. spent-here _ _ _ _ _ _ _ _ w _ _ _ (c .before .before .loop .inv w) (omega arith) _ (c .look .ensures (lends-now _ _ _ _ _ _ _ _ w _ _ _ (c .before .before .loop .inv w))) _ refl
 

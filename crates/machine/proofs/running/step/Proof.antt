@@ -14,55 +14,42 @@ use Rattle.machine.proofs.steps.enter_named.Reads as enter-named-reads
 use Rattle.machine.proofs.steps.enter_sequence.Reads as enter-sequence-reads
 use Rattle.machine.proofs.steps.stands.Reads as stands-reads
 
--- src/running.rt:68:9
 stands-requires : tie.Need-stands-requires
 stands-requires c κs = search needs
 
--- src/running.rt:68:9
 returns : tie.Need-returns
 returns c = λ w. step-ends _ _ _ _ _ _ _ _ w (c .before .if1 .taken) _ (c .stands .ensures)
 
--- src/running.rt:70:9
 top-requires : tie.Need-top-requires
 top-requires c κs = height-low _ _ _ (c .before .before .before .before .before .before .pre .here) (c .if1 .left)
 
--- src/running.rt:72:14
 cast-at : tie.Need-cast-at
 cast-at c = search needs
 
--- src/running.rt:73:16
 shared-slice-read-kind : tie.Need-shared-slice-read-kind
 shared-slice-read-kind c = item-inside _ _ _ (c .before .before .before .before .before .before .before .before .pre .here) _ (first-item _ _ _ (c .before .before .before .before .before .before .before .before .pre .here) (c .before .before .if1 .left) _ (ap (λ (y : SavedItem). y .«at») (c .before .top .ensures)))
 
--- src/running.rt:75:9
 drop-success-requires : tie.Need-drop-success-requires
 drop-success-requires c κs = (onTop (c .before .before .before .before .before .before .before .before .before .pre .here) (first-item _ _ _ (c .before .before .before .before .before .before .before .before .before .pre .here) (c .before .before .before .if1 .left) _ (ap (λ (y : SavedItem). y .«at») (c .before .before .top .ensures))), c .if2 .taken)
 
--- src/running.rt:75:9
 returns-2 : tie.Need-returns-2
 returns-2 c = λ w. let t = first-item _ _ _ (w .here) (c .before .before .before .before .if1 .left) _ (ap (λ (y : SavedItem). y .«at») (c .before .before .before .top .ensures)) in step-acts _ _ _ _ _ _ _ _ w _ t _ (c .drop-success .ensures (onTop (w .here) t) _)
 
--- src/running.rt:78:9
 enter-named-requires : tie.Need-enter-named-requires
 enter-named-requires c κs = (onTop (c .before .before .before .before .before .before .before .before .before .before .pre .here) (first-item _ _ _ (c .before .before .before .before .before .before .before .before .before .before .pre .here) (c .before .before .before .before .if1 .left) _ (ap (λ (y : SavedItem). y .«at») (c .before .before .before .top .ensures))), c .if3 .taken)
 
--- src/running.rt:78:9
 returns-3 : tie.Need-returns-3
 returns-3 c = λ w. let t = first-item _ _ _ (w .here) (c .before .before .before .before .before .if1 .left) _ (ap (λ (y : SavedItem). y .«at») (c .before .before .before .before .top .ensures)) in step-acts _ _ _ _ _ _ _ _ w _ t _ (c .enter-named .ensures (onTop (w .here) t) _)
 
--- src/running.rt:81:9
 enter-sequence-requires : tie.Need-enter-sequence-requires
 enter-sequence-requires c κs = (onTop (c .before .before .before .before .before .before .before .before .before .before .before .pre .here) (first-item _ _ _ (c .before .before .before .before .before .before .before .before .before .before .before .pre .here) (c .before .before .before .before .before .if1 .left) _ (ap (λ (y : SavedItem). y .«at») (c .before .before .before .before .top .ensures))), c .if4 .taken)
 
--- src/running.rt:81:9
 returns-4 : tie.Need-returns-4
 returns-4 c = λ w. let t = first-item _ _ _ (w .here) (c .before .before .before .before .before .before .if1 .left) _ (ap (λ (y : SavedItem). y .«at») (c .before .before .before .before .before .top .ensures)) in step-acts _ _ _ _ _ _ _ _ w _ t _ (c .enter-sequence .ensures (onTop (w .here) t) _)
 
--- src/running.rt:83:5
 enter-block-requires : tie.Need-enter-block-requires
 enter-block-requires c κs = let t = first-item _ _ _ (c .before .before .before .before .before .before .before .before .before .before .before .pre .here) (c .before .before .before .before .before .if1 .left) _ (ap (λ (y : SavedItem). y .«at») (c .before .before .before .before .top .ensures)) in ((c .before .before .before .before .before .before .before .before .before .before .before .pre, t), is-block _ _ _ (c .before .before .before .before .before .before .before .before .before .before .before .pre .here) _ t (c .before .before .if2 .left) (c .before .if3 .left) (c .if4 .left))
 
--- src/running.rt:54:1
 returns-5 : tie.Need-returns-5
 returns-5 c = λ w. let t = first-item _ _ _ (w .here) (c .before .before .before .before .before .before .if1 .left) _ (ap (λ (y : SavedItem). y .«at») (c .before .before .before .before .before .top .ensures)) in step-acts _ _ _ _ _ _ _ _ w _ t _ (c .enter-block .ensures w t)
 

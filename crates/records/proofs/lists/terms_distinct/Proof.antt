@@ -1,70 +1,68 @@
--- `records::lists::terms_distinct` meets its contract. The loop keeps what is asked of the rest equal to what is asked of the whole.
-use Prim.Native.Nat.{_-_}
-use native.Mathlib.Omega.{arith}
-use mathlib.Core.Bool.{true}
-use mathlib.Core.Path.{_≡_, sym, ap, _∙_}
+-- `records::lists::terms_distinct` meets its contract.
+use Prim.Native.Nat.{ℕ}
+use mathlib.Core.Path.{refl, sym, ap, _∙_}
 use borrow.Author.Needs.{needs}
-use lib.ListN.{length}
-use Rattle.definitions.specs.Terms.{sameTerm, readTerm, readTerms}
-use Rattle.records.specs.Answers.{isSome, distinctIn}
-use Rattle.laws.proofs.RecordsAt.{recordsAt, term-forward, terms-at}
-use Rattle.records.proofs.ListLaws.{counted-some, counted-none, good-one, good-after, good-rest, distinct-not, distinct-rest, distinct-end}
+use lib.ListN.{length-replicate}
+use Rattle.definitions.specs.Terms.{sameTerm}
+use Rattle.records.specs.Answers.{distinctIn}
+use Rattle.records.proofs.ListLaws.{counted-some, counted-none}
+use Rattle.records.proofs.NumberingLaws.{listed-holds, listed-same}
 use Rattle.records.proofs.lists.terms_distinct.Statement.{statement}
 use Rattle.records.proofs.lists.terms_distinct.Tie as tie
 
-abbrev Inv-loop : tie.InvT-loop
-Inv-loop s at₀ at = (isSome (recordsAt readTerm s at) ≡ true) × (distinctIn sameTerm (readTerms s) ≡ distinctIn sameTerm (recordsAt readTerm s at))
-
-abbrev μ-loop : tie.MeasureT-loop
-μ-loop s at₀ at = length s - at
-
-count-terms-requires : tie.Need-count-terms-requires Inv-loop μ-loop
+count-terms-requires : tie.Need-count-terms-requires
 count-terms-requires c κs = search needs
 
-enum-told : tie.Need-enum-told Inv-loop μ-loop
+enum-told : tie.Need-enum-told
 enum-told c = search needs
 
-enum-told-2 : tie.Need-enum-told-2 Inv-loop μ-loop
+enum-told-2 : tie.Need-enum-told-2
 enum-told-2 c = search needs
 
-returns : tie.Need-returns Inv-loop μ-loop
+returns : tie.Need-returns
 returns c = sym (counted-none sameTerm _ (sym (c .before .before .count-terms .ensures) ∙ c .enum-told2 .given .1))
 
-loop-holds : tie.Need-loop-holds Inv-loop μ-loop
-loop-holds c = (ap isSome (sym (terms-at (c .before .before .before .before .args .s .now))) ∙ counted-some _ (sym (c .before .before .count-terms .ensures) ∙ c .enum-told .given .1), ap (distinctIn sameTerm) (terms-at (c .before .before .before .before .args .s .now)))
+slice-aggregate-list-terms : tie.Need-slice-aggregate-list-terms
+slice-aggregate-list-terms c = sym (length-replicate {A = ℕ} 25088 0)
 
-term-end-requires : tie.Need-term-end-requires Inv-loop μ-loop
-term-end-requires c κs = good-one readTerm term-forward _ _ (c .before .loop .inv .0) (c .loop-test .taken)
+list-terms-requires : tie.Need-list-terms-requires
+list-terms-requires c κs = ((counted-some _ (sym (c .before .before .before .count-terms .ensures) ∙ c .before .enum-told .given .1)), refl)
 
-term-again-requires : tie.Need-term-again-requires Inv-loop μ-loop
-term-again-requires c κs = (good-one readTerm term-forward _ _ (c .before .before .loop .inv .0) (c .before .loop-test .taken), good-rest readTerm term-forward _ _ (c .before .before .loop .inv .0) (c .before .loop-test .taken) (c .term-end .ensures))
+enum-known-n : tie.Need-enum-known-n
+enum-known-n c = search needs
 
-returns-2 : tie.Need-returns-2 Inv-loop μ-loop
-returns-2 c = sym (c .before .before .before .before .loop .inv .1 ∙ distinct-not readTerm term-forward _ _ (c .before .before .before .before .loop .inv .0) (c .before .before .before .loop-test .taken) (c .before .before .term-end .ensures) _ (sym (c .before .term-again .ensures) ∙ c .if1 .taken))
+enum-told-3 : tie.Need-enum-told-3
+enum-told-3 c = search needs
 
-loop-less : tie.Need-loop-less Inv-loop μ-loop
-loop-less c = omega (arith, good-after readTerm term-forward _ _ (c .before .before .before .before .loop .inv .0) (c .before .before .before .loop-test .taken) (c .before .before .term-end .ensures))
+records-distinct-requires : tie.Need-records-distinct-requires
+records-distinct-requires c κs = (counted-some _ (sym (c .before .before .before .before .before .before .before .count-terms .ensures) ∙ c .before .before .before .before .before .enum-told .given .1))
 
-loop-again : tie.Need-loop-again Inv-loop μ-loop
-loop-again c = (good-rest readTerm term-forward _ _ (c .before .before .before .before .loop .inv .0) (c .before .before .before .loop-test .taken) (c .before .before .term-end .ensures), c .before .before .before .before .loop .inv .1 ∙ distinct-rest readTerm term-forward _ _ (c .before .before .before .before .loop .inv .0) (c .before .before .before .loop-test .taken) (c .before .before .term-end .ensures) _ (sym (c .before .term-again .ensures) ∙ c .if1 .left))
+returns-2 : tie.Need-returns-2
+returns-2 c = c .records-distinct .ensures
 
-returns-3 : tie.Need-returns-3 Inv-loop μ-loop
-returns-3 c = sym (c .before .loop .inv .1 ∙ distinct-end readTerm term-forward _ _ _ (c .loop-test .left))
+slice-aggregate-slots-distinct : tie.Need-slice-aggregate-slots-distinct
+slice-aggregate-slots-distinct c = sym (listed-holds (c .before .before .before .before .before .before .before .before .before .before .before .args .s .now) (counted-some _ (sym (c .before .before .before .before .before .before .before .before .before .count-terms .ensures) ∙ c .before .before .before .before .before .before .before .enum-told .given .1)) (c .before .before .before .before .before .list-terms .ensures .0) (c .before .before .before .before .before .list-terms .ensures .1) (c .before .before .n .given .1) .width)
+
+slots-distinct-requires : tie.Need-slots-distinct-requires
+slots-distinct-requires c κs = listed-holds (c .before .before .before .before .before .before .before .before .before .before .before .args .s .now) (counted-some _ (sym (c .before .before .before .before .before .before .before .before .before .count-terms .ensures) ∙ c .before .before .before .before .before .before .before .enum-told .given .1)) (c .before .before .before .before .before .list-terms .ensures .0) (c .before .before .before .before .before .list-terms .ensures .1) (c .before .before .n .given .1)
+
+returns-3 : tie.Need-returns-3
+returns-3 c = c .slots-distinct .ensures ∙ ap (distinctIn sameTerm) (listed-same (c .before .before .before .before .before .before .before .before .before .before .before .before .args .s .now) (counted-some _ (sym (c .before .before .before .before .before .before .before .before .before .before .count-terms .ensures) ∙ c .before .before .before .before .before .before .before .before .enum-told .given .1)) (c .before .before .before .before .before .before .list-terms .ensures .0) (c .before .before .before .before .before .before .list-terms .ensures .1) (c .before .before .before .n .given .1))
 
 pub terms-distinct-spec : {M : Type 1} → statement M
 terms-distinct-spec =
     tie.close
     (tie.spec
-    Inv-loop
-    μ-loop
     count-terms-requires
     enum-told
     enum-told-2
     returns
-    loop-holds
-    term-end-requires
-    term-again-requires
+    slice-aggregate-list-terms
+    list-terms-requires
+    enum-known-n
+    enum-told-3
+    records-distinct-requires
     returns-2
-    loop-less
-    loop-again
+    slice-aggregate-slots-distinct
+    slots-distinct-requires
     returns-3)

@@ -1,0 +1,12 @@
+// Document 01's type printer: terms, schema and script joined from standard input, their types to standard output.
+mod lines;
+mod printing;
+mod splitting;
+
+fn main() {
+    let mut input = [0u8; 32513];
+    let n = io::read_full(libc::STDIN_FILENO, &mut input);
+    let mut out = [0u8; 512];
+    let end = printing::print(&input[..n], &mut out);
+    io::write_all(libc::STDOUT_FILENO, &out[..end]);
+}

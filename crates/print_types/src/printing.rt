@@ -1,0 +1,55 @@
+// The whole of what is printed.
+ghost use mathlib.Core.Path.{_≡_};
+ghost use Prim.Native.Nat.{_≤_, min};
+ghost use lib.ListN.{length};
+ghost use Rattle.definitions.specs.Limits.{printerLimit};
+ghost use Rattle.definitions.specs.Calls.{check};
+ghost use Rattle.definitions.specs.Printer.{termsPart, schemaPart, scriptPart, printed};
+ghost use Rattle.engine.specs.Check.{cardOf};
+ghost use Rattle.print_types.specs.Lines.{Written};
+use super::lines::put_card;
+use super::splitting::schema_end;
+use super::splitting::terms_end;
+use engine::card::Card;
+use engine::card::check_card;
+
+fn least(a: usize, b: usize) -> usize
+    ensures { λ r. ⌜ r ≡ min a b ⌝ }
+{
+    if a < b { a } else { b }
+}
+
+// The check of the input's three parts.
+fn check_parts(input: &[u8]) -> Card
+    requires { ⌜ length (now input) ≤ printerLimit ⌝ }
+    ensures { λ r. ⌜ r ≡ cardOf (check (termsPart (now (input .entry))) (schemaPart (now (input .entry))) (scriptPart (now (input .entry)))) ⌝ }
+{
+    let n = input.len();
+    let first = terms_end(input);
+    let second = schema_end(input, first);
+    let a = least(first, n);
+    let b = least(second, n);
+    let mut table = [0u8; 25088];
+    let mut leasts = [0u8; 512];
+    check_card(
+        &input[0..a],
+        &input[a..b],
+        &input[b..n],
+        &mut table,
+        &mut leasts,
+    )
+}
+
+// Ruled out: an input of 32,513 bytes checked; a text after what is printed.
+pub fn print(input: &[u8], out: &mut [u8]) -> usize
+    requires { ⌜ length (now out) ≡ 512 ⌝ }
+    ensures { λ r. ⌜ Written (printed (now (input .entry))) (now (out .entry)) (now (out .exit)) 0 r ⌝ }
+    ensures { λ r. ⌜ r ≤ length (now (out .entry)) ⌝ }
+{
+    if 32512 < input.len() {
+        return put_card(6, &[0; 16], out);
+    }
+    let card = check_parts(input);
+    let types = card.types;
+    put_card(card.refusal, &types, out)
+}
