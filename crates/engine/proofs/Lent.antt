@@ -7,17 +7,16 @@ use mathlib.Core.Bool.{Bool, true, false, _&&_, _||_}
 use mathlib.Core.Option.{Option, none, some}
 use lib.Dec.{eqb, leb}
 use lib.ListN.{length, getD, getElem?, length-map}
-use Rattle.definitions.specs.Types.{Ty, range, Datatype, typeCode, typeRows, typeOfCode}
+use Rattle.definitions.specs.Types.{range, Datatype, typeCode}
 use Rattle.definitions.specs.Terms.{Term, Schema, datatypeIn, sortOf, Sort}
 use Rattle.definitions.specs.Evaluate.{isURI}
 use Rattle.definitions.specs.Limits.{termTableWidth, quadTableWidth}
 use Rattle.definitions.specs.Calls.{isGraph, Lent, lengthsFit, tablesFit}
 use borrow.Author.Tests.{eqb-true}
-use Rattle.laws.proofs.Options.{some-is, some-not-none}
-use Rattle.laws.proofs.Reading.{row-keys}
 use Rattle.laws.proofs.Sorts.{least}
 use Rattle.laws.proofs.Bindings.{there-is}
 use Rattle.reader.specs.Fields.{isSome}
+use Rattle.query.proofs.TypeLaws.{code-of}
 use Rattle.soundness.specs.Store.{LeastOf}
 
 -- ── two tests ───────────────────────────────────────────────────────────────────────────────
@@ -45,13 +44,6 @@ pub length-mapped : (A B : Type 0) (f : A → B) (l : List A) (n : ℕ) → leng
 length-mapped A B f l n e = sym (length-map l f) ∙ e
 
 -- ── URIs by the codes of their least types ──────────────────────────────────────────────────
-
-code-of : (n : ℕ) (τ : Ty) → typeOfCode n ≡ some τ → typeCode τ ≡ n
-code-of n τ = row-keys (λ k o. o ≡ some τ → typeCode τ ≡ k) n typeRows none (is, (is, (is, (is, (is, (is, (is, (is, (is, (is, tt))))))))))
-    (λ e. absurd (some-not-none e refl))
-  where
-    is : {σ : Ty} → some σ ≡ some τ → typeCode τ ≡ typeCode σ
-    is e = ap typeCode (sym (some-is e))
 
 abbrev uriCode : ℕ → Bool
 uriCode k = eqb k 1 || leb 9 k

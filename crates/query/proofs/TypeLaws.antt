@@ -22,7 +22,7 @@ use Rattle.query.specs.Found.{codeLeq, skipTypes}
 
 -- ── codes ───────────────────────────────────────────────────────────────────────────────────
 
-code-of : (n : ℕ) (τ : Ty) → typeOfCode n ≡ some τ → typeCode τ ≡ n
+pub code-of : (n : ℕ) (τ : Ty) → typeOfCode n ≡ some τ → typeCode τ ≡ n
 code-of n τ = row-keys (λ k o. o ≡ some τ → typeCode τ ≡ k) n typeRows none (is, (is, (is, (is, (is, (is, (is, (is, (is, (is, tt))))))))))
     (λ e. absurd (some-not-none e refl))
   where
@@ -35,7 +35,7 @@ same-bools true false h = absurd h
 same-bools false true h = absurd h
 same-bools false false h = refl
 
-code-leq : (a b : ℕ) (σ τ : Ty) → typeOfCode a ≡ some σ → typeOfCode b ≡ some τ → codeLeq a b ≡ leq σ τ
+pub code-leq : (a b : ℕ) (σ τ : Ty) → typeOfCode a ≡ some σ → typeOfCode b ≡ some τ → codeLeq a b ≡ leq σ τ
 code-leq a b σ τ ea eb =
     ap₂ codeLeq (sym (code-of a σ ea)) (sym (code-of b τ eb))
     ∙ same-bools (codeLeq (typeCode σ) (typeCode τ)) (leq σ τ) (byType2 (λ σ τ. Bool·beq (codeLeq (typeCode σ) (typeCode τ)) (leq σ τ)) tt σ τ)

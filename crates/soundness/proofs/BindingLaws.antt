@@ -23,7 +23,8 @@ use Rattle.laws.proofs.Every.{every-next, every-stop, every-none}
 use Rattle.laws.proofs.Saved.{at-variable}
 use Rattle.reader.proofs.MarkLaws.{made-same}
 use Rattle.soundness.specs.Store.{LeastOf}
-use Rattle.soundness.specs.Control.{tupleFits, codeLeq, numberFits, bindingFits, bindingsFit, bindingsSound, Lends}
+use Rattle.query.specs.Found.{codeLeq}
+use Rattle.soundness.specs.Control.{tupleFits, numberFits, bindingFits, bindingsFit, bindingsSound, Lends}
 use Rattle.soundness.proofs.TypeLaws.{number-fits, code-not-zero, variable-code, isWritten, written-binds}
 
 -- ── a test of the sixteen variables, one by one ─────────────────────────────────────────────

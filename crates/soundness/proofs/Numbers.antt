@@ -12,26 +12,18 @@ use lib.ListN.{length, getD, getElem?}
 use borrow.Author.Tests.{lt-ltb, le-ltb}
 use Rattle.definitions.specs.Lists.{every, isIn}
 use Rattle.definitions.specs.Machine.{objectFits}
-use Rattle.definitions.specs.Types.{Datatype, Ty, plain, range, leq, typeCode, typeRows, typeOfCode}
+use Rattle.definitions.specs.Types.{Datatype, Ty, plain, range, leq, typeCode}
 use Rattle.definitions.specs.Terms.{Term, Schema, Sort, sortOf, datatypeIn, has}
 use Rattle.definitions.specs.Evaluate.{Quad}
 use Rattle.definitions.specs.Sound.{isURINumber, pairFits, quadSound}
-use Rattle.laws.proofs.Options.{some-is, some-not-none}
 use Rattle.laws.proofs.Agree.{agree, agreed, type-equal}
 use Rattle.laws.proofs.Order.{byType, byDatatype, everyType}
-use Rattle.laws.proofs.Reading.{row-keys}
 use Rattle.laws.proofs.Sorts.{least, has-least}
 use Rattle.laws.proofs.Bindings.{there-is}
+use Rattle.query.proofs.TypeLaws.{code-of}
 use Rattle.soundness.specs.Store.{LeastOf, uriNumber, codeFits, pairNumbers, quadNumbers}
 
 -- ── codes ───────────────────────────────────────────────────────────────────────────────────
-
-code-of : (n : ℕ) (τ : Ty) → typeOfCode n ≡ some τ → n ≡ typeCode τ
-code-of n τ = row-keys (λ k o. o ≡ some τ → k ≡ typeCode τ) n typeRows none (is, (is, (is, (is, (is, (is, (is, (is, (is, (is, tt))))))))))
-    (λ e. absurd (some-not-none e refl))
-  where
-    is : {σ : Ty} → some σ ≡ some τ → typeCode σ ≡ typeCode τ
-    is e = ap typeCode (some-is e)
 
 uri-code : (τ : Ty) → (eqb (typeCode τ) 1 || leb 9 (typeCode τ)) ≡ leq τ (plain Datatype.anyURI)
 uri-code = type-equal (λ τ. eqb (typeCode τ) 1 || leb 9 (typeCode τ)) (λ τ. leq τ (plain Datatype.anyURI)) tt
@@ -74,7 +66,7 @@ no-object S (some (Term.dateTime n)) = refl
 module _ (S : Schema) (terms : List Term) (leasts : List ℕ) (count : ℕ) (size : length terms ≡ count) (each : LeastOf S terms leasts) where
   -- the code of a term
   coded : (i : ℕ) (h : i < length terms) → getD leasts i 0 ≡ typeCode (least (sortOf S (there-is terms i h .0)))
-  coded i h = let t = there-is terms i h in code-of (getD leasts i 0) (least (sortOf S (t .0))) (each i (t .0) (t .1))
+  coded i h = let t = there-is terms i h in sym (code-of (getD leasts i 0) (least (sortOf S (t .0))) (each i (t .0) (t .1)))
 
   pub uri-number : (i : ℕ) → uriNumber leasts count i ≡ isURINumber S terms i
   unfolding uriNumber

@@ -4,14 +4,14 @@ use native.Mathlib.Omega.{arith}
 use mathlib.Core.Path.{_≡_, refl, sym, _∙_, ap, ap₂}
 use mathlib.Core.Logic.{⊎-elim}
 use mathlib.Core.List.{List, [], _∷_}
-use mathlib.Core.Bool.{Bool, true, false, not, _&&_, _||_, Bool·beq}
+use mathlib.Core.Bool.{Bool, true, false, not, _&&_, _||_}
 use mathlib.Core.Option.{Option, none, some}
-use lib.Dec.{T, eqb, ltb}
+use lib.Dec.{eqb, ltb}
 use lib.ListN.{length, getD, getElem?}
 use borrow.Author.Tests.{lt-ltb, le-ltb, eqb-true, eqb-false, eq-eqb, ne-eqb}
 use Rattle.definitions.specs.Limits.{variableLimit}
 use Rattle.definitions.specs.Lists.{isIn}
-use Rattle.definitions.specs.Types.{Ty, leq, typeCode, typeRows, typeOfCode}
+use Rattle.definitions.specs.Types.{Ty, typeCode}
 use Rattle.definitions.specs.Terms.{Term, Schema, sortOf}
 use Rattle.definitions.specs.Tree.{Binder, Script}
 use Rattle.definitions.specs.Scope.{variablesOf, bindersOf}
@@ -19,33 +19,18 @@ use Rattle.definitions.specs.Typing.{Written, unbound, undecided, fixed, annota
 use Rattle.definitions.specs.Sound.{termHas, numberHas}
 use Rattle.definitions.specs.Calls.{reportedType, reportedTypes}
 use Rattle.laws.proofs.Tests.{isTrue}
-use Rattle.laws.proofs.Options.{some-is, some-not-none}
-use Rattle.laws.proofs.Order.{byType, byType2}
+use Rattle.laws.proofs.Options.{some-not-none}
+use Rattle.laws.proofs.Order.{byType, type-of-code}
 use Rattle.laws.proofs.Ranges.{split}
-use Rattle.laws.proofs.Reading.{row-keys}
 use Rattle.laws.proofs.Saved.{at-variable}
 use Rattle.laws.proofs.Sorts.{least, has-least}
 use Rattle.laws.proofs.Bindings.{there-is, is-below}
 use Rattle.soundness.specs.Store.{LeastOf}
-use Rattle.soundness.specs.Control.{codeLeq, numberFits}
+use Rattle.query.specs.Found.{codeLeq}
+use Rattle.query.proofs.TypeLaws.{code-of, code-leq}
+use Rattle.soundness.specs.Control.{numberFits}
 
 -- ── codes ───────────────────────────────────────────────────────────────────────────────────
-
-pub code-of : (n : ℕ) (τ : Ty) → typeOfCode n ≡ some τ → typeCode τ ≡ n
-code-of n τ = row-keys (λ k o. o ≡ some τ → typeCode τ ≡ k) n typeRows none (is, (is, (is, (is, (is, (is, (is, (is, (is, (is, tt))))))))))
-    (λ e. absurd (some-not-none e refl))
-  where
-    is : {σ : Ty} → some σ ≡ some τ → typeCode τ ≡ typeCode σ
-    is e = ap typeCode (sym (some-is e))
-
-same-bools : (a b : Bool) → T (Bool·beq a b) → a ≡ b
-same-bools true true h = refl
-same-bools true false h = absurd h
-same-bools false true h = absurd h
-same-bools false false h = refl
-
-code-leq : (σ τ : Ty) → codeLeq (typeCode σ) (typeCode τ) ≡ leq σ τ
-code-leq σ τ = same-bools (codeLeq (typeCode σ) (typeCode τ)) (leq σ τ) (byType2 (λ σ τ. Bool·beq (codeLeq (typeCode σ) (typeCode τ)) (leq σ τ)) tt σ τ)
 
 pub code-not-zero : (τ : Ty) → not (eqb (typeCode τ) 0) ≡ true
 code-not-zero τ = isTrue (not (eqb (typeCode τ) 0)) (byType (λ τ. not (eqb (typeCode τ) 0)) tt τ)
@@ -65,7 +50,7 @@ module _ (S : Schema) (terms : List Term) (leasts : List ℕ) (codes : LeastOf S
       go (some t) e =
           let σ = least (sortOf S t) in
           ap₂ _&&_ (lt-ltb i (length terms) (is-below terms i t e)) (ap (λ (n : ℕ). codeLeq n (typeCode τ)) (sym (code-of (getD leasts i 0) σ (codes i t e))))
-          ∙ (code-leq σ τ ∙ sym (has-least (sortOf S t) τ))
+          ∙ (code-leq (typeCode σ) (typeCode τ) σ τ (type-of-code σ) (type-of-code τ) ∙ sym (has-least (sortOf S t) τ))
 
 -- ── the reported types ──────────────────────────────────────────────────────────────────────
 

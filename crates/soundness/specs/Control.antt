@@ -18,6 +18,7 @@ use Rattle.definitions.specs.Sound.{stackSound, lastSound, bindingSound}
 use Rattle.definitions.specs.Calls.{Checked, reported}
 use Rattle.definitions.specs.declared.SavedItem.{SavedItem}
 use Rattle.definitions.specs.declared.SavedRun.{SavedRun}
+use Rattle.query.specs.Found.{codeLeq}
 use Rattle.soundness.specs.Store.{passes, LeastOf}
 
 -- ── the clauses ─────────────────────────────────────────────────────────────────────────────
@@ -76,10 +77,6 @@ itemsHeld terms bound items zero root = true
 itemsHeld terms bound items (suc n) root = itemHeld terms bound (suc n) (getD items n noItem) root && itemsHeld terms bound items n root
 
 -- ── the bindings, by codes ──────────────────────────────────────────────────────────────────
-
--- the order of types on their codes
-abbrev pub codeLeq : ℕ → ℕ → Bool
-codeLeq a b = eqb a b || ((eqb a 5 && eqb b 3) || ((leb 9 a && eqb b 1) || (eqb a 11 && eqb b 13)))
 
 -- a number is that of a term whose least type is below a type
 unfoldable pub numberFits : (leasts : List ℕ) → (count number type : ℕ) → Bool

@@ -12,7 +12,8 @@ ghost use Rattle.definitions.specs.Reading.{readScript, parsed};
 ghost use Rattle.laws.proofs.Walking.{Loads};
 ghost use Rattle.reader.specs.Fields.{isSome};
 ghost use Rattle.soundness.specs.Store.{passes};
-ghost use Rattle.soundness.specs.Control.{allBound, tupleFits, lastHeld, itemHeld, itemsHeld, codeLeq, bindingFits, bindingsFit, ControlOf};
+ghost use Rattle.query.specs.Found.{codeLeq};
+ghost use Rattle.soundness.specs.Control.{allBound, tupleFits, lastHeld, itemHeld, itemsHeld, bindingFits, bindingsFit, ControlOf};
 
 // A term's number as an index.
 fn index(x: u16) -> usize
