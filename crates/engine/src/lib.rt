@@ -6,14 +6,12 @@ pub mod page; // page.rt: the page call
 pub mod run; // run.rt: the run call
 pub mod sound; // sound.rt: refusal 10
 
-// Bytes of the lent tables; numbers of the quads in use, four for each; places for the terms.
+// Bytes of the lent tables; places for the quads in numbers, four for each.
 pub const TERM_TABLE: usize = 25088;
 
 pub const QUAD_TABLE: usize = 4096;
 
 pub const ROWS: usize = 2048;
-
-pub const TERMS: usize = 512;
 
 // What refusal 10 finds: whether saved run and tables are sound, how many terms loading numbers, and how many are in use.
 pub struct Lending {

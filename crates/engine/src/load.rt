@@ -4,7 +4,6 @@ ghost use Rattle.definitions.specs.Calls as Calls;
 ghost use Rattle.engine.specs.Saved.{bareRun, refusedLoad, acceptedLoad, lentOf};
 use crate::QUAD_TABLE;
 use crate::TERM_TABLE;
-use crate::TERMS;
 use crate::card::check_card;
 use definitions::LoadAnswer;
 use definitions::Loaded;

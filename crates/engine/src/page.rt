@@ -3,6 +3,7 @@ ghost use mathlib.Core.Path.{_≡_};
 ghost use mathlib.Core.List.{List};
 ghost use Prim.Native.Nat.{_≤_};
 ghost use lib.ListN.{length, getElem?};
+ghost use Rattle.definitions.specs.Limits.{termLimit};
 ghost use Rattle.definitions.specs.Terms.{Term, Schema};
 ghost use Rattle.definitions.specs.Calls.{tablesFit, isGraph, pageIn, pageCall};
 ghost use Rattle.reader.specs.Fields.{isSome};
@@ -13,16 +14,17 @@ ghost use Rattle.engine.specs.Paging.{Passed};
 use crate::QUAD_TABLE;
 use crate::ROWS;
 use crate::TERM_TABLE;
-use crate::TERMS;
 use crate::sound::sound;
 use definitions::PAGE_LIMIT;
 use definitions::PageAnswer;
 use definitions::Paged;
 use definitions::SavedRun;
+use definitions::TERM_LIMIT;
 use machine::canonical::canonical;
 use machine::taking::take_in;
 use records::Counted;
 use records::lists::count_triples;
+use soundness::graphs::is_uri;
 
 fn refused(saved: SavedRun, number: u8) -> Paged
     ensures { λ r. ⌜ r ≡ refusedPaged saved number ⌝ }
@@ -43,13 +45,13 @@ pub fn tables_fit(table: &[u8], store: &[u8]) -> bool
 // Whether a number is that of a URI among the terms in use.
 fn is_graph(leasts: &[u8], count: usize, graph: u64) -> bool
     requires { ⌜ count ≤ length (now leasts) ⌝ }
+    requires { ⌜ count ≤ termLimit ⌝ }
     ensures { λ r. ⌜ ((S : Schema) (terms : List Term) → LeastOf S terms (now (leasts .entry)) → count ≡ length terms → r ≡ isGraph (getElem? terms graph)) ⌝ }
 {
     if (count as u64) <= graph {
         return false;
     }
-    let code = leasts[graph as usize];
-    (code == 1) | (9 <= code)
+    is_uri(leasts, count, graph as u16)
 }
 
 // Whether a page has no more bytes than it may, and good records only.
@@ -106,7 +108,7 @@ pub fn page(
         return refused(saved, 1);
     }
     let mut rows = [0u16; ROWS];
-    let mut leasts = [0u8; TERMS];
+    let mut leasts = [0u8; TERM_LIMIT];
     let lent = sound(
         terms,
         schema,

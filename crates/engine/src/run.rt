@@ -10,13 +10,13 @@ ghost use Rattle.definitions.specs.Calls.{runCall};
 ghost use Rattle.engine.specs.Answered.{refusedRan};
 ghost use Rattle.engine.specs.Saved.{lentOf};
 use crate::ROWS;
-use crate::TERMS;
 use crate::page::tables_fit;
 use crate::sound::sound;
 use definitions::BUDGET_LIMIT;
 use definitions::Ran;
 use definitions::RunAnswer;
 use definitions::SavedRun;
+use definitions::TERM_LIMIT;
 use machine::canonical::canonical;
 use machine::running::run_steps;
 use records::numbers::within;
@@ -71,7 +71,7 @@ pub fn run(
         return refused(saved, 1);
     }
     let mut rows = [0u16; ROWS];
-    let mut leasts = [0u8; TERMS];
+    let mut leasts = [0u8; TERM_LIMIT];
     let lent = sound(
         terms,
         schema,

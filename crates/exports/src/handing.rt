@@ -2,21 +2,21 @@
 ghost use mathlib.Core.Path.{_≡_};
 ghost use Rattle.definitions.specs.Exports.{savedWidth, savedAfter};
 ghost use Rattle.exports.specs.Buffers.{buffersFit};
-use super::QUAD_TABLE_WIDTH;
 use super::SAVED_WIDTH;
-use super::TERM_TABLE_WIDTH;
 use super::writing::write_saved;
 use definitions::SavedRun;
+use engine::QUAD_TABLE;
+use engine::TERM_TABLE;
 
 // Tables, saved run and report have their lengths.
 // Ruled out: a report of another length taken for good; a test of the tables alone.
 pub fn buffers_fit(terms: usize, quads: usize, saved: usize, report: usize, width: usize) -> bool
     ensures { λ r. ⌜ r ≡ buffersFit terms quads saved report width ⌝ }
 {
-    if terms != TERM_TABLE_WIDTH {
+    if terms != TERM_TABLE {
         return false;
     }
-    if quads != QUAD_TABLE_WIDTH {
+    if quads != QUAD_TABLE {
         return false;
     }
     if saved != SAVED_WIDTH {

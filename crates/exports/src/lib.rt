@@ -24,11 +24,7 @@ pub const ITEM_WIDTH: usize = 12;
 
 pub const SAVED_WIDTH: usize = 486;
 
-// The lengths of the lent tables and of the reports.
-pub const TERM_TABLE_WIDTH: usize = 25088;
-
-pub const QUAD_TABLE_WIDTH: usize = 4096;
-
+// The lengths of the reports.
 pub const RUN_REPORT_WIDTH: usize = 8;
 
 pub const PAGE_REPORT_WIDTH: usize = 4;

@@ -1,18 +1,25 @@
--- `engine::page::is_graph` meets its contract.
+-- `engine::page::is_graph` meets its contract, by what soundness proves of the codes of URIs.
 use native.Mathlib.Omega.{arith}
 use borrow.Author.Needs.{needs}
-use Rattle.engine.proofs.Lent.{graph-code, graph-past}
+use Rattle.engine.proofs.Lent.{graph-number, graph-past}
 use Rattle.engine.proofs.page.is_graph.Statement.{statement}
 use Rattle.engine.proofs.page.is_graph.Tie as tie
 
 returns : tie.Need-returns
-returns c = λ S terms codes e. graph-past terms _ (omega (arith, e))
+returns c =
+    let a = c .before .before .args in
+    λ S terms codes e. graph-number (a .leasts .now) (a .count) (a .graph) S terms codes e (graph-past (a .leasts .now) (a .count) (a .graph) (omega arith))
 
-shared-slice-read-code : tie.Need-shared-slice-read-code
-shared-slice-read-code c = search needs
+cast-is-uri : tie.Need-cast-is-uri
+cast-is-uri c = search needs
+
+is-uri-requires : tie.Need-is-uri-requires
+is-uri-requires c κs = search needs
 
 returns-2 : tie.Need-returns-2
-returns-2 c = λ S terms codes e. graph-code S terms (c .before .before .args .leasts .now) codes _ (omega (arith, e))
+returns-2 c =
+    let a = c .before .before .before .args in
+    λ S terms codes e. graph-number (a .leasts .now) (a .count) (a .graph) S terms codes e (c .is-uri .ensures)
 
 pub is-graph-spec : {M : Type 1} → statement M
-is-graph-spec = tie.close (tie.spec returns shared-slice-read-code returns-2)
+is-graph-spec = tie.close (tie.spec returns cast-is-uri is-uri-requires returns-2)

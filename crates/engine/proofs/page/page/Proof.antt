@@ -73,7 +73,7 @@ is-graph-requires : tie.Need-is-graph-requires
 is-graph-requires c κs =
     let c₁ = c .before in
     let c₂ = c₁ .before .before .before .before in
-    let x = some-of _ (sym (c₂ .sound .ensures .sound) ∙ not-false _ (c₁ .if2 .left)) in let f = c₂ .sound .ensures .found (x .0) (x .1) in omega (arith, f .few, f .room)
+    let x = some-of _ (sym (c₂ .sound .ensures .sound) ∙ not-false _ (c₁ .if2 .left)) in let f = c₂ .sound .ensures .found (x .0) (x .1) in (omega (arith, f .few, f .room), f .few)
 
 refused-requires-3 : tie.Need-refused-requires-3
 refused-requires-3 c κs = search needs
