@@ -1,5 +1,5 @@
 -- The whole check, refusals 2 to 9: its tests in the parts in which the code makes them, and what the code finds.
-use Prim.Native.Nat.{ℕ, _≤_}
+use Prim.Native.Nat.{ℕ, _*_, _≤_}
 use native.Mathlib.Omega.{arith}
 use mathlib.Core.Path.{_≡_, refl, sym, ap, subst, fun-ext, _∙_}
 use mathlib.Core.List.{List, map, _++_}
@@ -20,9 +20,12 @@ use Rattle.definitions.specs.Machine.{withProperties}
 use Rattle.definitions.specs.Saved.{termTable, termsIn}
 use Rattle.definitions.specs.Result.{Result, refused, passed, _>>=_, _>>_, require, given}
 use Rattle.definitions.specs.Calls.{Checked, constantsOf, typesOf, sizesFit, check, reported}
+use Rattle.laws.proofs.Check.{Passed, schema-fits}
 use Rattle.laws.proofs.Results.{passed-is, not-refused}
 use Rattle.records.specs.Answers.{isSome}
+use Rattle.records.specs.Marks.{entryWidth}
 use Rattle.records.specs.Table.{HoldsTerms}
+use Rattle.records.proofs.EntryLaws.{schema-length}
 use Rattle.records.proofs.NumberingLaws.{Holding, holding-terms, holds-of}
 use Rattle.reader.specs.Fields as Reader
 use Rattle.typing.specs.Codes.{sortsIn}
@@ -123,6 +126,11 @@ module _ (schema script : List ℕ) where
       ∙ two-then after 2 3 4 5 (readTerms terms) (distinct sameTerm) (readSchema schema) (distinct sameProperty)
       (λ listed S. record { terms = listed; schema = S }))
 
+-- ── the bytes of a schema that passes ───────────────────────────────────────────────────────
+
+pub passed-short : (terms schema script : List ℕ) (c : Checked) → Passed terms schema script c → length schema ≤ entryLimit * entryWidth
+passed-short terms schema script c p = omega (arith, schema-fits terms schema script c p, schema-length schema (c .schema) (p .entries))
+
 -- ── what the code answers ───────────────────────────────────────────────────────────────────
 
 pub card-refused : {m : Result Checked} {n : ℕ} {r : Card} {table leasts : List ℕ} → m ≡ refused n → r ≡ refusedCard n
@@ -202,6 +210,9 @@ module _ (terms schema script : List ℕ) {r : Ready} (er : r ≡ readyOf (readT
     pub schema-reads : isSome (readSchema schema) ≡ true
     unfolding isSome
     schema-reads = rw (reads .entries)
+
+    pub schema-short : length schema ≤ entryLimit * entryWidth
+    schema-short = reads .short
 
     pub leasts-room : (old : List ℕ) → length old ≡ termLimit → count ≤ length old
     leasts-room old e = omega (arith, e, held .few)

@@ -2,8 +2,8 @@
 use Prim.Native.Nat.{ℕ, zero, suc, _+_, _-_, _*_, _≤_, _<_}
 use mathlib.Core.Bool.{true}
 use mathlib.Core.List.{List, [], _∷_, _++_, map}
-use mathlib.Core.Option.{Option, none, some}
-use mathlib.Core.Path.{_≡_, refl, sym, ap, _∙_}
+use mathlib.Core.Option.{some}
+use mathlib.Core.Path.{_≡_, sym, ap, _∙_}
 use native.Mathlib.Omega.{arith}
 use native.Mathlib.Numerals.{add-one}
 use lib.ListN.{length, take, drop, set, getD, length-map}
@@ -14,10 +14,10 @@ use Rattle.definitions.specs.Terms.{Term, Schema, readSchema}
 use Rattle.definitions.specs.Saved.{slotTerm, termsIn}
 use Rattle.laws.proofs.Fill.{write-next}
 use Rattle.records.specs.Answers.{isSome, leastCode}
-use Rattle.records.specs.Table.{HoldsTerms, GoodSlot}
+use Rattle.records.specs.Table.{HoldsTerms}
 use Rattle.records.proofs.OptionLaws.{is-some}
 use Rattle.records.proofs.PartLaws.{some-part}
-use Rattle.records.proofs.TableLaws.{terms, terms-length, slot-there, slot-good}
+use Rattle.records.proofs.TableLaws.{terms, terms-length, slot-there}
 use Rattle.engine.specs.Leasts.{codeOf, leastCodes}
 
 code-at : (f : Term → ℕ) (ts : List Term) (i : ℕ) {t : Term} {rest : List Term} → drop i ts ≡ t ∷ rest → getD (map f ts) i 0 ≡ f t
@@ -46,9 +46,6 @@ module _ (table schema : List ℕ) (count : ℕ) (g : isSome (readSchema schema)
   code-there i l =
       let s = slot-there table count h i l in
       rw (some-part table (i * slotWidth) slotWidth, s .1, entries .1, codes-are) (sym (code-at (codeOf (entries .0)) (terms table count h .0) i (s .2)))
-
-  pub slot-fine : (i : ℕ) → i < count → isSome (slotTerm (part table (i * slotWidth) (i * slotWidth + slotWidth - i * slotWidth))) ≡ true
-  slot-fine i l = slot-good table count h i l .good
 
   module _ (old out : List ℕ) (i : ℕ) (e : out ≡ take i (leastCodes (readSchema schema) (termsIn table)) ++ drop i old) where
     pub least-next : count ≤ length old → i < count → {k : ℕ}

@@ -1,12 +1,12 @@
 -- Refusals 2 to 7 in one: from what the code finds, which one is met, or what is ready to be typed.
-use Prim.Native.Nat.{ℕ, _≤_}
+use Prim.Native.Nat.{ℕ, _*_, _≤_}
 use native.Mathlib.Omega.{arith}
-use mathlib.Core.Path.{_≡_, refl, sym, ap, ap₂, subst, _∙_}
+use mathlib.Core.Path.{_≡_, refl, sym, ap, subst, _∙_}
 use mathlib.Core.List.{List}
-use mathlib.Core.Bool.{Bool, true, false, cond}
-use mathlib.Core.Option.{Option, none, some}
+use mathlib.Core.Bool.{Bool, true, false, _&&_}
+use mathlib.Core.Option.{some}
 use borrow.Author.Tests.{le-leb}
-use lib.Dec.{T, leb, leb→le}
+use lib.Dec.{leb, leb→le}
 use lib.ListN.{length}
 use Rattle.definitions.specs.Limits.{termLimit, entryLimit, scriptLimit}
 use Rattle.definitions.specs.Lists.{distinct}
@@ -20,15 +20,16 @@ use Rattle.definitions.specs.Result.{Result, refused, passed, _>>=_, _>>_, requ
 use Rattle.laws.proofs.All.{All}
 use Rattle.laws.proofs.Numbering.{all-properties}
 use Rattle.laws.proofs.Results.{passed-is, not-refused, bind-inv, given-bind-inv, require-after-inv, require-after, require-refused}
-use Rattle.laws.proofs.Tests.{trueIs}
+use Rattle.laws.proofs.Tests.{andLeft, trueIs}
 use Rattle.laws.proofs.Valid.{Valid, terms-valid, schema-valid}
 use Rattle.records.specs.Answers.{isSome}
+use Rattle.records.specs.Marks.{entryWidth}
 use Rattle.records.specs.Table.{listOf, addedOf, tableOf}
 use Rattle.records.specs.declared.Added.{Added}
 use Rattle.records.specs.declared.Added.the-variants.{Count, Full}
+use Rattle.records.proofs.EntryLaws.{schema-length}
 use Rattle.records.proofs.NumberingLaws.{Holding, holding-added}
 use Rattle.engine.specs.Check.{numberOf, Listed, recordTests, scriptTests, Parsed, readTests, readyOf}
-use Rattle.engine.specs.declared.card.Ready.{Ready}
 use Rattle.engine.specs.declared.card.Ready.the-variants.{Refused, Terms}
 use Rattle.engine.proofs.Numbers.{NotZero, refused-number, passed-number, given-not-zero, require-not-zero, bind-not-zero, after-not-zero, bind-refused, bind-passed}
 
@@ -75,20 +76,29 @@ lists-of terms schema l e =
     let found : Listed = record { terms = i₂ .0; schema = i₄ .0 } in
     subst (Lists terms schema) {x = found} (passed-is {a = found} (i₅ .1)) (record { read = i₂ .1; entries = i₄ .1 })
 
-script-parses : (terms : ℕ) (schema script : List ℕ) (root : Script) → scriptTests terms schema script ≡ passed root → parsed terms script ≡ some root
+-- what a schema and a script that pass are
+record ScriptReads (terms : ℕ) (schema script : List ℕ) (root : Script) : Type 0 where
+  short : length schema ≤ entryLimit * entryWidth
+  parses : parsed terms script ≡ some root
+
+script-reads : (terms : ℕ) (schema script : List ℕ) (root : Script) → scriptTests terms schema script ≡ passed root → ScriptReads terms schema script root
 unfolding scriptTests
-script-parses terms schema script root e =
+script-reads terms schema script root e =
+    let fits : Schema → Bool = λ S. leb (length S) entryLimit in
     let seven : Script → Result Script = λ c. require 7 (inScope c) >> passed c in
-    let six : Schema → Result Script = λ S. require 6 _ >> (given 6 (parsed terms script) >>= seven) in
+    let six : Schema → Result Script = λ S. require 6 (fits S && leb (length script) scriptLimit) >> (given 6 (parsed terms script) >>= seven) in
     let i₁ = given-bind-inv 6 (readSchema schema) six e in
-    let i₂ = require-after-inv 6 _ (given 6 (parsed terms script) >>= seven) (i₁ .2) in
+    let S = i₁ .0 in
+    let i₂ = require-after-inv 6 (fits S && leb (length script) scriptLimit) (given 6 (parsed terms script) >>= seven) (i₁ .2) in
     let i₃ = given-bind-inv 6 (parsed terms script) seven (i₂ .1) in
     let i₄ = require-after-inv 7 (inScope (i₃ .0)) (passed (i₃ .0)) (i₃ .2) in
-    i₃ .1 ∙ ap some (passed-is (i₄ .1))
+    let few = leb→le (length S) entryLimit (andLeft (fits S) (leb (length script) scriptLimit) (i₂ .0)) in
+    record { short = omega (arith, few, schema-length schema S (i₁ .1)); parses = i₃ .1 ∙ ap some (passed-is (i₄ .1)) }
 
 -- what is ready to be typed
 pub record Reads (schema script : List ℕ) (x : Parsed) : Type 0 where
   pub entries : readSchema schema ≡ some (x .schema)
+  pub short : length schema ≤ entryLimit * entryWidth
   pub valid : All Valid (x .terms)
   pub few : length (x .terms) ≤ termLimit
   pub parses : parsed (length (x .terms)) script ≡ some (x .root)
@@ -105,13 +115,15 @@ reads-of terms schema script x e =
     let i₂ = require-after-inv 6 (leb (length (numbered l)) termLimit) (rest l) (i₁ .2) in
     let i₃ = bind-inv (scriptTests (length (numbered l)) schema script) (last l) (i₂ .1) in
     let f = lists-of terms schema l (i₁ .1) in
+    let r = script-reads (length (numbered l)) schema script (i₃ .0) (i₃ .1) in
     let found : Parsed = record { terms = numbered l; schema = l .schema; root = i₃ .0 } in
     subst (Reads schema script) {x = found} (passed-is {a = found} (i₃ .2))
     (record {
       entries = f .entries;
+      short = r .short;
       valid = all-properties Valid (l .schema) (l .terms) (terms-valid terms (l .terms) (f .read)) (schema-valid schema (l .schema) (f .entries));
       few = leb→le (length (numbered l)) termLimit (i₂ .0);
-      parses = script-parses (length (numbered l)) schema script (i₃ .0) (i₃ .1);
+      parses = r .parses;
     })
 
 full-fits : (ts : List Term) → leb (length ts) termLimit ≡ true → Full ≡ addedOf ts → ⊥

@@ -7,7 +7,7 @@ use mathlib.Core.Bool.{Bool, true, false, _&&_, and-false}
 use mathlib.Core.Option.{Option, none, some}
 use lib.Dec.{T, leb}
 use lib.ListN.{length, drop, length-map, length-append, length-drop}
-use Rattle.definitions.specs.Limits.{termLimit, quadLimit, graphLimit, termTableWidth}
+use Rattle.definitions.specs.Limits.{termLimit, entryLimit, quadLimit, graphLimit, termTableWidth}
 use Rattle.definitions.specs.Bytes.{sameBytes, onward}
 use Rattle.definitions.specs.Terms.{Term, Schema, sortOf, readSchema}
 use Rattle.definitions.specs.Reading.{parsed}
@@ -29,6 +29,7 @@ use Rattle.laws.proofs.Saved.{held-inv}
 use Rattle.laws.proofs.SoundIn.{sound-in}
 use Rattle.records.specs.Answers as Records
 use Rattle.records.specs.Answers.{countOf}
+use Rattle.records.specs.Marks.{entryWidth}
 use Rattle.records.specs.Table.{HoldsTerms}
 use Rattle.records.specs.declared.Counted.{Counted}
 use Rattle.records.specs.declared.Counted.the-variants.{Count, Malformed}
@@ -44,7 +45,7 @@ use Rattle.engine.specs.Leasts.{codeOf, leastCodes}
 use Rattle.engine.specs.Lending.{notSound, Lends}
 use Rattle.engine.specs.Saved.{lentOf}
 use Rattle.engine.proofs.Numbers.{refused-number, passed-number}
-use Rattle.engine.proofs.CheckLaws.{card-number, check-not-zero}
+use Rattle.engine.proofs.CheckLaws.{card-number, passed-short, check-not-zero}
 
 -- ── the codes of least types ────────────────────────────────────────────────────────────────
 
@@ -157,6 +158,9 @@ module _ (terms schema script table store : List ℕ) (saved : SavedRun) where
       pub schema-good : Records.isSome (readSchema schema) ≡ true
       unfolding Records.isSome
       schema-good = rw (passes-all .entries) refl
+
+      pub schema-short : length schema ≤ entryLimit * entryWidth
+      schema-short = passed-short terms schema script c passes-all
 
       pub script-good : isSome (parsed (card .count) script) ≡ true
       script-good = rw (known-is, passes-all .parses) refl

@@ -35,6 +35,7 @@ use Rattle.engine.specs.Saved.{lentOf}
 use Rattle.engine.specs.Paging.{Passed}
 use Rattle.engine.proofs.Lent.{and-right, fit-terms, fit-quads}
 use Rattle.engine.proofs.Held.{passed-10, accepted, loads, stack-low, graphs-low, is-saved}
+use Rattle.engine.proofs.CheckLaws.{passed-short}
 use Rattle.engine.proofs.PageLaws.{refused-14, taken-in}
 
 a-term : (o : Option Term) → isGraph o ≡ true → (t : Term) × (o ≡ some t)
@@ -98,7 +99,7 @@ module _ (terms schema script table store : List ℕ) (saved : SavedRun) (n g : 
   schema-is = loads terms schema script table store saved (p .found) (p .sound) .entries
 
   pub schema-read : Reads schema
-  schema-read = (c .schema, schema-is)
+  schema-read = (c .schema, schema-is, passed-short terms schema script c (loads terms schema script table store saved (p .found) (p .sound)))
 
   -- ── the saved run without what means nothing, and the store that is held ──────────────────
 

@@ -5,6 +5,7 @@ pub mod Clean
 pub mod QuadLaws
 pub mod TermLaws
 pub mod TakeLaws
+pub mod PageLaws
 pub mod DoneLaws
 pub mod StepLaws
 pub mod AnswerLaws

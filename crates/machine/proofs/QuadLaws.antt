@@ -5,7 +5,7 @@ use native.Mathlib.Nat.{sub-zero, suc-sub-suc}
 use native.Mathlib.Numerals.{add-one}
 use mathlib.Core.Path.{_≡_, refl, ap, ap₂, sym, _∙_}
 use mathlib.Core.List.{List, [], _∷_, _++_, append-nil, append-assoc}
-use mathlib.Core.Bool.{Bool, true, false, cond, not, _||_}
+use mathlib.Core.Bool.{Bool, true, false, cond, not, _&&_, _||_, and-false, and-true}
 use lib.Dec.{eqb}
 use lib.ListN.{length, take, drop, replicate, length-append, length-take, length-drop}
 use lib.Seq.{take-at, drop-at, take-length, drop-length}
@@ -67,6 +67,16 @@ quad-added l q n e h =
     ∙ (sym (append-assoc b w (replicate (m - quadWidth) 0)) ∙ (λ t. sym (bytes-append l (q ∷ [])) t ++ replicate (left t) 0))
 
 -- ── a look through the quads ────────────────────────────────────────────────────────────────
+
+-- two quads, by their objects first
+module _ (q r : Quad) where
+  pub objects-differ : (q .object ≡ r .object → ⊥) → false ≡ sameQuad q r
+  objects-differ h =
+      rw (ne-eqb (q .object) (r .object) h, and-false (eqb (q .property) (r .property)), and-false (eqb (q .subject) (r .subject)), and-false (eqb (q .graph) (r .graph)))
+
+  pub objects-same : q .object ≡ r .object
+      → (eqb (q .graph) (r .graph) && (eqb (q .subject) (r .subject) && eqb (q .property) (r .property))) ≡ sameQuad q r
+  objects-same e = rw (eq-eqb (q .object) (r .object) e, and-true (eqb (q .property) (r .property)))
 
 -- those from a place on
 module _ (table : List ℕ) (count i : ℕ) (h : i < count) where

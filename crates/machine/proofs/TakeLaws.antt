@@ -17,7 +17,7 @@ use Rattle.definitions.specs.Evaluate.{Quad, stored}
 use Rattle.definitions.specs.Machine.{Taken, skip, store, takeOne, takeAll, numbered, objectFits, wellTyped, withQuad}
 use Rattle.definitions.specs.Saved.{quadTable, quadsFrom, quadsIn}
 use Rattle.laws.proofs.Tests.{isTrue}
-use Rattle.laws.proofs.Options.{some-is, some-not-none, onward-some, onward-inv, provided-inv}
+use Rattle.laws.proofs.Options.{some-is, pair-is, some-not-none, onward-some, onward-inv, provided-inv}
 use Rattle.laws.proofs.All.{All, all-append}
 use Rattle.laws.proofs.Order.{byDatatype, byDatatype2}
 use Rattle.laws.proofs.Reading.{row-keys}
@@ -25,7 +25,9 @@ use Rattle.laws.proofs.RecordsAt.{TripleAt, triple-inv, triple-forward, records
 use Rattle.laws.proofs.Taking.{take-all}
 use Rattle.laws.proofs.Valid.{string-inv, number-inv}
 use Rattle.laws.proofs.Tables.{Small, quads-of, quad-table-length}
-use Rattle.records.specs.Answers.{isSome, codeOf, schemaCode, widthOf}
+use Rattle.records.specs.declared.Read.the-variants as Read
+use Rattle.records.specs.Answers.{isSome, nextOf, codeOf, schemaCode, widthOf}
+use Rattle.records.proofs.OptionLaws.{next-got}
 use Rattle.records.proofs.PartLaws.{some-part, part-length}
 use Rattle.machine.specs.declared.Counts.{Counts}
 use Rattle.machine.specs.declared.Joined.{Joined}
@@ -350,6 +352,7 @@ module _ (page : List ℕ) (S : Schema) (g at : ℕ) (t q : List ℕ) (c : Count
       pub triple : Triple
       pub next : ℕ
       pub others : List Triple
+      pub read : readTriple page at ≡ some (triple, next)
       pub here : TripleAt page at triple next
       pub after : recordsAt readTriple page next ≡ some others
       pub all : l .rest ≡ triple ∷ others
@@ -367,6 +370,7 @@ module _ (page : List ℕ) (S : Schema) (g at : ℕ) (t q : List ℕ) (c : Count
               triple = x;
               next = n;
               others = others;
+              read = e;
               here = triple-inv page at x n e;
               after = f;
               all = some-is (sym (l .reads) ∙ (at-one readTriple triple-forward page at h e ∙ ap (inFront readTriple x) f));
@@ -376,10 +380,14 @@ module _ (page : List ℕ) (S : Schema) (g at : ℕ) (t q : List ℕ) (c : Count
     pub left-one : Next
     left-one = next-of (readTriple page at) refl
 
+    pub left-reads : isSome (readTriple page at) ≡ true
+    unfolding isSome
+    left-reads = ap isSome (left-one .read)
+
     -- its end, as the code finds it
-    module _ (n : ℕ) (end : (x : Triple) (m : ℕ) → TripleAt page at x m → n ≡ m) where
+    module _ (n : ℕ) (end : Read.Next n ≡ nextOf (readTriple page at)) where
       pub end-next : n ≡ left-one .next
-      end-next = end (left-one .triple) (left-one .next) (left-one .here)
+      end-next = let r = next-got (readTriple page at) (sym end) in pair-is (sym (r .1) ∙ left-one .read) .1
 
       pub here-at : TripleAt page at (left-one .triple) n
       here-at = subst (λ (m : ℕ). TripleAt page at (left-one .triple) m) (sym end-next) (left-one .here)
@@ -390,7 +398,7 @@ module _ (page : List ℕ) (S : Schema) (g at : ℕ) (t q : List ℕ) (c : Count
     leads-on = l .leads ∙ ap (λ (rs : List Triple). takeAll S g rs (l .so-far)) (left-one h .all)
 
     -- there was room
-    pub left-next : (n : ℕ) → ((x : Triple) (m : ℕ) → TripleAt page at x m → n ≡ m) → c′ .terms ≤ termLimit → c′ .quads ≤ quadLimit
+    pub left-next : (n : ℕ) → Read.Next n ≡ nextOf (readTriple page at) → c′ .terms ≤ termLimit → c′ .quads ≤ quadLimit
         → Left page S g n t′ q′ c′ final
     left-next n end few room =
         subst (λ (m : ℕ). Left page S g m t′ q′ c′ final) (sym (end-next h n end)) (record { rest = left-one h .others; so-far = takeOne S g (left-one h .triple) (l .so-far); reads = left-one h .after; holds = took .held few room; leads = leads-on })

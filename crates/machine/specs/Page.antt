@@ -1,10 +1,10 @@
 -- What the tables hold while a page is taken in.
-use Prim.Native.Nat.{ℕ, _≤_}
+use Prim.Native.Nat.{ℕ, _*_, _≤_}
 use mathlib.Core.List.{List}
 use mathlib.Core.Option.{some}
 use mathlib.Core.Path.{_≡_}
 use lib.ListN.{length}
-use Rattle.definitions.specs.Limits.{termLimit, termTableWidth, quadLimit, quadTableWidth}
+use Rattle.definitions.specs.Limits.{termLimit, termTableWidth, quadLimit, quadTableWidth, entryLimit}
 use Rattle.definitions.specs.Types.{Datatype}
 use Rattle.definitions.specs.Terms.{Term, Schema, Triple, bodyWidth, termOfBody, ofTermKind, ofPageKind, readSchema, readPage}
 use Rattle.definitions.specs.Evaluate.{Quad}
@@ -14,6 +14,7 @@ use Rattle.laws.proofs.All.{All}
 use Rattle.laws.proofs.Valid.{Valid}
 use Rattle.laws.proofs.Tables.{Small}
 use Rattle.laws.proofs.RecordsAt.{TripleAt}
+use Rattle.records.specs.Marks.{Marked, entryWidth}
 use Rattle.machine.specs.declared.Joined.{Joined}
 use Rattle.machine.specs.declared.Numbers.{Numbers}
 use Rattle.machine.specs.declared.Counts.{Counts}
@@ -29,6 +30,11 @@ pub record HeldTerms (table : List ℕ) (n : ℕ) (ts : List Term) : Type 0 wher
 
 abbrev pub Held : (table : List ℕ) → ℕ → Type 0
 Held table n = (ts : List Term) × HeldTerms table n ts
+
+-- the marks of a table's n slots, where there is room for so many
+pub record HeldMarks (table : List ℕ) (n : ℕ) (marks : List ℕ) : Type 0 where
+  pub room : length marks ≡ termLimit
+  pub each : n ≤ termLimit → Marked table n marks
 
 -- a body of a kind says a term
 pub record BodyIs (k : ℕ) (body : List ℕ) (t : Term) : Type 0 where
@@ -79,14 +85,12 @@ PageKind k = (d : Datatype) × (ofPageKind k ≡ some d)
 abbrev pub RecordAt : List ℕ → (at next : ℕ) → Type 0
 RecordAt page at next = (x : Triple) × TripleAt page at x next
 
-abbrev pub GoodAt : List ℕ → ℕ → Type 0
-GoodAt page at = (x : Triple) × (next : ℕ) × TripleAt page at x next
-
 abbrev pub PageReads : List ℕ → Type 0
 PageReads page = (rs : List Triple) × (readPage page ≡ some rs)
 
+-- a schema of no more entries than there may be
 abbrev pub Reads : List ℕ → Type 0
-Reads schema = (S : Schema) × (readSchema schema ≡ some S)
+Reads schema = (S : Schema) × (readSchema schema ≡ some S) × (length schema ≤ entryLimit * entryWidth)
 
 -- ── quads ───────────────────────────────────────────────────────────────────────────────────
 

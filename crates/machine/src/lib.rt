@@ -2,6 +2,7 @@
 pub mod answers; // answers.rt: a block's answer
 pub mod canonical; // canonical.rt: the saved run without what means nothing
 pub mod page; // page.rt: taking in a page
+pub mod pages; // pages.rt: a page's records one by one
 pub mod quads; // quads.rt: the quad table
 pub mod running; // running.rt: a step and a run
 pub mod stack; // stack.rt: stack and bindings

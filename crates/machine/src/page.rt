@@ -1,11 +1,9 @@
 // Taking in a page: its triples become a graph's quads, and their new terms join the table.
 // A count above its limit says that the table had no room for all.
 ghost use mathlib.Core.Path.{_≡_};
-ghost use mathlib.Core.Bool.{cond};
 ghost use mathlib.Core.List.{List};
 ghost use mathlib.Core.Option.{some};
-ghost use Prim.Native.Nat.{ℕ, _+_, _≤_, _<_};
-ghost use lib.Dec.{ltb};
+ghost use Prim.Native.Nat.{_+_, _≤_};
 ghost use lib.ListN.{length};
 ghost use Rattle.definitions.specs.Limits.{pageLimit};
 ghost use Rattle.definitions.specs.Types.{Datatype, datatypeCode};
@@ -13,29 +11,35 @@ ghost use Rattle.definitions.specs.Terms.{Term, Schema, Triple, ofPageKind, rea
 ghost use Rattle.definitions.specs.Evaluate.{Quad};
 ghost use Rattle.definitions.specs.Machine.{Taken, wellTyped, takeOne, takeAll};
 ghost use Rattle.laws.proofs.RecordsAt.{TripleAt};
+ghost use Rattle.records.specs.Marks.{MarkedEntries};
 ghost use Rattle.machine.specs.Quads.{quad};
-ghost use Rattle.machine.specs.Page.{HeldTerms, Held, BodyIs, Says, Joins, PageKind, RecordAt, Reads, Numbering, HeldQuads, HeldSome, Stores, HeldTaken, HeldBoth, Took, GoodAt, PageReads};
+ghost use Rattle.machine.specs.Page.{HeldTerms, Held, HeldMarks, BodyIs, Says, Joins, PageKind, RecordAt, Reads, Numbering, HeldQuads, HeldSome, Stores, HeldTaken, HeldBoth, Took, PageReads};
 use crate::Counts;
 use crate::Joined;
 use crate::Numbers;
+use crate::pages::next_record;
 use crate::quads::has_quad;
 use crate::quads::put_quad;
 use definitions::QUAD_LIMIT;
 use definitions::TERM_LIMIT;
-use records::bodies::body_width;
+use records::marks::mark_of;
+use records::marks::mark_slots;
 use records::schema::datatype_of;
+use records::schema::mark_entries;
 use records::table::find_term;
-use records::table::put_slot;
+use records::table::put_term;
 use records::table::slot_of;
 
 // The number of a body's term in a table of n terms. A new term joins at the end, where there is room.
-fn number_body(kind: u8, body: &[u8], table: &mut [u8], n: usize) -> Joined
+fn number_body(kind: u8, body: &[u8], table: &mut [u8], n: usize, marks: &mut [u16]) -> Joined
     requires { ⌜ Held (now table) n ⌝ }
+    requires { ⌜ HeldMarks (now table) n (now marks) ⌝ }
     requires { ⌜ Says kind (now body) ⌝ }
     ensures { λ r. ⌜ ((ts : List Term) (t : Term) → HeldTerms (now (table .entry)) n ts → BodyIs kind (now (body .entry)) t → Joins ts t r (now (table .exit))) ⌝ }
+    ensures { λ r. ⌜ HeldMarks (now (table .exit)) (r .terms) (now (marks .exit)) ⌝ }
 {
     let slot = slot_of(kind, body);
-    let found = find_term(table, n, &slot);
+    let found = find_term(table, n, marks, &slot);
     if found < n {
         let number = found as u16;
         return Joined { number, terms: n };
@@ -48,7 +52,7 @@ fn number_body(kind: u8, body: &[u8], table: &mut [u8], n: usize) -> Joined
             terms,
         };
     }
-    put_slot(table, n, &slot);
+    put_term(table, n, marks, &slot);
     Joined {
         number: last,
         terms,
@@ -56,16 +60,25 @@ fn number_body(kind: u8, body: &[u8], table: &mut [u8], n: usize) -> Joined
 }
 
 // The numbers of a record's terms, subject before object.
-fn number_triple(page: &[u8], at: usize, next: usize, table: &mut [u8], n: usize) -> Numbers
+fn number_triple(
+    page: &[u8],
+    at: usize,
+    next: usize,
+    table: &mut [u8],
+    n: usize,
+    marks: &mut [u16],
+) -> Numbers
     requires { ⌜ RecordAt (now page) at next ⌝ }
     requires { ⌜ Held (now table) n ⌝ }
+    requires { ⌜ HeldMarks (now table) n (now marks) ⌝ }
     ensures { λ r. ⌜ ((ts : List Term) (x : Triple) → HeldTerms (now (table .entry)) n ts → TripleAt (now (page .entry)) at x next → Numbering ts x r (now (table .exit))) ⌝ }
+    ensures { λ r. ⌜ HeldMarks (now (table .exit)) (r .terms) (now (marks .exit)) ⌝ }
 {
     let from = at + 1;
     let middle = at + 41;
     let last = at + 81;
     let kind = page[at] - 0x70;
-    let subject = number_body(0x11, &page[from..middle], table, n);
+    let subject = number_body(0x11, &page[from..middle], table, n, marks);
     let one = subject.terms;
     if TERM_LIMIT < one {
         return Numbers {
@@ -75,7 +88,7 @@ fn number_triple(page: &[u8], at: usize, next: usize, table: &mut [u8], n: usize
             terms: one,
         };
     }
-    let property = number_body(0x11, &page[middle..last], table, one);
+    let property = number_body(0x11, &page[middle..last], table, one, marks);
     let two = property.terms;
     if TERM_LIMIT < two {
         return Numbers {
@@ -85,7 +98,7 @@ fn number_triple(page: &[u8], at: usize, next: usize, table: &mut [u8], n: usize
             terms: two,
         };
     }
-    let object = number_body(kind, &page[last..next], table, two);
+    let object = number_body(kind, &page[last..next], table, two, marks);
     Numbers {
         subject: subject.number,
         property: property.number,
@@ -109,14 +122,17 @@ fn object_code(kind: u8) -> u8
 }
 
 // Whether a record's property has a schema entry and its object the entry's datatype; an integer is a decimal too.
-fn well_typed(page: &[u8], at: usize, next: usize, schema: &[u8]) -> bool
+fn well_typed(page: &[u8], at: usize, next: usize, schema: &[u8], entries: &[u16]) -> bool
     requires { ⌜ RecordAt (now page) at next ⌝ }
     requires { ⌜ Reads (now schema) ⌝ }
+    requires { ⌜ MarkedEntries (now schema) (now entries) ⌝ }
     ensures { λ r. ⌜ ((S : Schema) (x : Triple) → readSchema (now (schema .entry)) ≡ some S → TripleAt (now (page .entry)) at x next → r ≡ wellTyped S x) ⌝ }
 {
     let middle = at + 41;
     let last = at + 81;
-    let wanted = datatype_of(schema, &page[middle..last]);
+    let slot = slot_of(0x11, &page[middle..last]);
+    let mark = mark_of(&slot);
+    let wanted = datatype_of(schema, entries, &page[middle..last], mark);
     let given = object_code(page[at]);
     (given == wanted) | ((given == 5) & (wanted == 3))
 }
@@ -149,23 +165,28 @@ fn take_record(
     at: usize,
     next: usize,
     schema: &[u8],
+    entries: &[u16],
     graph: u16,
     terms: &mut [u8],
+    marks: &mut [u16],
     quads: &mut [u8],
     counts: Counts,
 ) -> Counts
     requires { ⌜ RecordAt (now page) at next ⌝ }
     requires { ⌜ Reads (now schema) ⌝ }
+    requires { ⌜ MarkedEntries (now schema) (now entries) ⌝ }
     requires { ⌜ HeldBoth (now terms) (now quads) counts ⌝ }
+    requires { ⌜ HeldMarks (now terms) (counts .terms) (now marks) ⌝ }
     requires { ⌜ counts .skipped ≤ at ⌝ }
     requires { ⌜ at ≤ pageLimit ⌝ }
     ensures { λ r. ⌜ ((S : Schema) (x : Triple) (k : Taken) → readSchema (now (schema .entry)) ≡ some S → TripleAt (now (page .entry)) at x next → HeldTaken (now (terms .entry)) (now (quads .entry)) counts k → Took (now (terms .exit)) (now (quads .exit)) r (takeOne S graph x k)) ⌝ }
+    ensures { λ r. ⌜ HeldMarks (now (terms .exit)) (r .terms) (now (marks .exit)) ⌝ }
     ensures { λ r. ⌜ r .skipped ≤ counts .skipped + 1 ⌝ }
 {
     let n = counts.terms;
     let m = counts.quads;
     let skipped = counts.skipped;
-    if !well_typed(page, at, next, schema) {
+    if !well_typed(page, at, next, schema, entries) {
         let more = skipped + 1;
         return Counts {
             terms: n,
@@ -173,7 +194,7 @@ fn take_record(
             skipped: more,
         };
     }
-    let numbers = number_triple(page, at, next, terms, n);
+    let numbers = number_triple(page, at, next, terms, n, marks);
     let count = numbers.terms;
     if TERM_LIMIT < count {
         return Counts {
@@ -197,16 +218,54 @@ fn take_record(
     }
 }
 
-// The offset after a record.
-fn record_end(page: &[u8], at: usize) -> usize
-    requires { ⌜ GoodAt (now page) at ⌝ }
-    ensures { λ r. ⌜ ((x : Triple) (n : ℕ) → TripleAt (now (page .entry)) at x n → r ≡ n) ⌝ }
+// Takes in the records of a page, one by one, as long as there is room.
+fn take_records(
+    page: &[u8],
+    schema: &[u8],
+    entries: &[u16],
+    graph: u16,
+    terms: &mut [u8],
+    marks: &mut [u16],
+    quads: &mut [u8],
+    start: Counts,
+) -> Counts
+    requires { ⌜ PageReads (now page) ⌝ }
+    requires { ⌜ length (now page) ≤ pageLimit ⌝ }
+    requires { ⌜ Reads (now schema) ⌝ }
+    requires { ⌜ MarkedEntries (now schema) (now entries) ⌝ }
+    requires { ⌜ HeldBoth (now terms) (now quads) start ⌝ }
+    requires { ⌜ HeldMarks (now terms) (start .terms) (now marks) ⌝ }
+    requires { ⌜ start .skipped ≡ 0 ⌝ }
+    ensures { λ r. ⌜ ((S : Schema) (rs : List Triple) (k : Taken) → readSchema (now (schema .entry)) ≡ some S → readPage (now (page .entry)) ≡ some rs → HeldTaken (now (terms .entry)) (now (quads .entry)) start k → Took (now (terms .exit)) (now (quads .exit)) r (takeAll S graph rs k)) ⌝ }
 {
-    let kind = page[at] - 0x70;
-    at + 81 + body_width(kind)
+    let mut counts = start;
+    let mut at = 0;
+    while at < page.len() {
+        let next = next_record(page, at);
+        counts = take_record(
+            page,
+            at,
+            next,
+            schema,
+            entries,
+            graph,
+            terms,
+            marks,
+            quads,
+            counts,
+        );
+        if TERM_LIMIT < counts.terms {
+            return counts;
+        }
+        if QUAD_LIMIT < counts.quads {
+            return counts;
+        }
+        at = next;
+    }
+    counts
 }
 
-// Takes in the records of a page, one by one, as long as there is room.
+// Takes a page in. Terms and properties are looked up by marks, made once for the page.
 // Ruled out: a page of which only the first record is taken; skipped records that add terms.
 pub fn take_page(
     page: &[u8],
@@ -223,18 +282,16 @@ pub fn take_page(
     requires { ⌜ start .skipped ≡ 0 ⌝ }
     ensures { λ r. ⌜ ((S : Schema) (rs : List Triple) (k : Taken) → readSchema (now (schema .entry)) ≡ some S → readPage (now (page .entry)) ≡ some rs → HeldTaken (now (terms .entry)) (now (quads .entry)) start k → Took (now (terms .exit)) (now (quads .exit)) r (takeAll S graph rs k)) ⌝ }
 {
-    let mut counts = start;
-    let mut at = 0;
-    while at < page.len() {
-        let next = record_end(page, at);
-        counts = take_record(page, at, next, schema, graph, terms, quads, counts);
-        if TERM_LIMIT < counts.terms {
-            return counts;
-        }
-        if QUAD_LIMIT < counts.quads {
-            return counts;
-        }
-        at = next;
-    }
-    counts
+    let entries = mark_entries(schema);
+    let mut marks = mark_slots(terms, start.terms);
+    take_records(
+        page,
+        schema,
+        &entries,
+        graph,
+        terms,
+        &mut marks,
+        quads,
+        start,
+    )
 }

@@ -64,16 +64,19 @@ pub fn number_at(table: &[u8], at: usize) -> u16
     word_at(table, at) as u16
 }
 
-// Whether a quad is the one at an offset.
+// Whether a quad is the one at an offset; their objects differ most often.
 fn is_quad_at(table: &[u8], at: usize, graph: u16, subject: u16, property: u16, object: u16) -> bool
     requires { ⌜ at + quadWidth ≤ length (now table) ⌝ }
     ensures { λ r. ⌜ r ≡ sameQuad (quad graph subject property object) (quadAt (now (table .entry)) at) ⌝ }
 {
+    let o = number_at(table, at + 6);
+    if object != o {
+        return false;
+    }
     let g = number_at(table, at);
     let s = number_at(table, at + 2);
     let p = number_at(table, at + 4);
-    let o = number_at(table, at + 6);
-    (graph == g) & ((subject == s) & ((property == p) & (object == o)))
+    (graph == g) & ((subject == s) & (property == p))
 }
 
 // Whether a quad is among the first of a table.

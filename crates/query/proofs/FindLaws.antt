@@ -9,7 +9,7 @@ use mathlib.Core.Option.{Option, none, some}
 use lib.Dec.{T, eqb, ltb, eqb→eq}
 use lib.ListN.{length, getD, set, length-set}
 use lib.Seq.{getD-set-same, getD-set-other}
-use borrow.Author.Tests.{eq-eqb, ne-eqb, lt-ltb}
+use borrow.Author.Tests.{eq-eqb, ne-eqb, lt-ltb, le-ltb}
 use Rattle.definitions.specs.Bytes.{signed}
 use Rattle.definitions.specs.Limits.{variableLimit}
 use Rattle.definitions.specs.Tree.{Query}
@@ -34,6 +34,7 @@ use Rattle.query.proofs.Outcomes.{ok-passes}
 use Rattle.query.proofs.TermLaws.{few}
 use Rattle.query.proofs.TypeLaws.{skip-is, skip-low}
 use Rattle.query.proofs.ReadyLaws.{ready-sure, ready-fine, ready-set}
+use Rattle.query.proofs.Reaches.{seek-floor}
 use Rattle.query.proofs.Fast.{next-floor, next-holds}
 use Rattle.query.proofs.Level.{level-past, level-none, level-found, level-on, numbers-none, numbers-more, start-of, rest-of, ahead-of, tuple-set}
 
@@ -176,6 +177,16 @@ module _ (script : List ℕ) (loaded : ℕ) (block : Block) (table leasts known 
           → HopeAt script loaded block table leasts known clock rows k (ltb b count)
       hope-is {a} x y w vs r =
           ap₂ ltb (seek-is v a y w vs r ∙ ap (seek (w .schema) (signed clock) (w .terms) rows γ v (w .tree)) (seek-is v 0 x w vs r)) (counted w)
+
+      -- the first pass finds none, so the second finds none
+      pub hope-none : {a m : ℕ} → Walked (SeekOf table known count clock rows v 0 a) (readQuery script loaded (block .left) (block .«at»)) m → count ≤ a
+          → HopeAt script loaded block table leasts known clock rows k false
+      hope-none {a} x h w vs r =
+          let e = seek-is v 0 x w vs r in
+          let n = counted w in
+          let i = seek (w .schema) (signed clock) (w .terms) rows γ v (w .tree) 0 in
+          let f = seek-floor (w .schema) (signed clock) (w .terms) rows γ v (length (w .terms)) (omega arith) (w .tree) i (omega arith) in
+          sym (le-ltb (seek (w .schema) (signed clock) (w .terms) rows γ v (w .tree) i) (length (w .terms)) f)
 
     -- ── the later variables ───────────────────────────────────────────────────────────────────
 

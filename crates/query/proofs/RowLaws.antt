@@ -10,9 +10,10 @@ use Rattle.definitions.specs.Evaluate.{Quad}
 use Rattle.laws.proofs.Tests.{isFalse, falseIs}
 use Rattle.laws.proofs.All.{All, conj, conj-all}
 use Rattle.query.specs.Seek.{Places, agrees, candidate, fits, better, scan}
-use Rattle.query.specs.Codes.{placeAt, placesAt, quadOf, rowAt, rowsFrom}
+use Rattle.query.specs.Codes.{soughtCode, placeAt, placesAt, quadOf, rowAt, rowsFrom, FixedAt, GivenAt}
 use Rattle.query.specs.declared.Four.{Four}
-use Rattle.query.proofs.Rows.{scan-top, scan-floor}
+use Rattle.query.proofs.CodeLaws.{at-sought, pick-other, miss}
+use Rattle.query.proofs.Rows.{scan-top, scan-floor, better-far}
 
 -- ── the quads that are left ─────────────────────────────────────────────────────────────────
 
@@ -30,11 +31,11 @@ module _ (P : Places) (lo : ℕ) (f : List ℕ) (n whole : ℕ) where
     unfolding rowsFrom scan
     scan-ends h = let m : n - i ≡ 0 = omega arith in sym (so-far ∙ rw m refl)
 
--- the floor is the least of all
-pub scan-done : (P : Places) (lo best whole : ℕ) (rs : List Quad) → whole ≡ scan P lo best rs → best ≡ lo → best ≡ whole
-scan-done P lo best whole rs so-far e =
+-- nothing is below the floor
+pub scan-done : (P : Places) (lo best whole : ℕ) (rs : List Quad) → whole ≡ scan P lo best rs → best ≤ lo → best ≡ whole
+scan-done P lo best whole rs so-far h =
     let a = scan-top P lo best rs in
-    let c = scan-floor P lo best best rs (omega arith) (omega arith) in
+    let c = scan-floor P lo best best rs h (omega arith) in
     omega arith
 
 -- ── one quad ────────────────────────────────────────────────────────────────────────────────
@@ -84,6 +85,9 @@ module _ (codes : Four) (lo best : ℕ) (f : List ℕ) (at : ℕ) where
     apart : (code y : ℕ) → x ≡ y → ((c : ℕ) → agrees (placeAt code) c x ≡ false) → T (agrees (placeAt code) c₀ y) → ⊥
     apart code y e h t = T-not (agrees (placeAt code) c₀ x) (falseIs (agrees (placeAt code) c₀ x) (h c₀)) (rw e t)
 
+    pub miss-graph : x ≡ getD f at 0 → ((c : ℕ) → agrees (placeAt (codes .graph)) c x ≡ false) → best ≡ result
+    miss-graph e h = none-fits (λ t. apart (codes .graph) (getD f at 0) e h (t .1 .0))
+
     pub miss-subject : x ≡ getD f (at + 1) 0 → ((c : ℕ) → agrees (placeAt (codes .subject)) c x ≡ false) → best ≡ result
     miss-subject e h = none-fits (λ t. apart (codes .subject) (getD f (at + 1) 0) e h (t .1 .1 .0))
 
@@ -92,3 +96,52 @@ module _ (codes : Four) (lo best : ℕ) (f : List ℕ) (at : ℕ) where
 
     pub miss-object : x ≡ getD f (at + 3) 0 → ((c : ℕ) → agrees (placeAt (codes .object)) c x ≡ false) → best ≡ result
     miss-object e h = none-fits (λ t. apart (codes .object) (getD f (at + 3) 0) e h (t .1 .1 .1 .1 .0))
+
+-- what a quad gives is too small, or not small enough
+pub too-far : (codes : Four) (lo best : ℕ) (f : List ℕ) (at place : ℕ) → GivenAt codes place
+    → (place < 4) × (lo ≤ getD f (at + place) 0 → getD f (at + place) 0 < best → ⊥) → best ≡ better (placesAt codes) lo best (rowAt f at)
+too-far codes lo best f at place g far =
+    let s = g lo f at (far .0) in
+    better-far (placesAt codes) lo best (rowAt f at) (λ a b. far .1 (omega arith) (omega arith))
+
+-- ── the places ──────────────────────────────────────────────────────────────────────────────
+
+module _ (codes : Four) where
+  pub fixed-graph : codes .graph < soughtCode → FixedAt codes 0 (codes .graph)
+  fixed-graph h = λ lo best f at d.
+      let e : at + 0 ≡ at = omega arith in
+      miss-graph codes lo best f at (getD f at 0) refl (miss (codes .graph) (getD f at 0) h (λ k. d (ap (λ i. getD f i 0) e ∙ sym k)))
+
+  pub fixed-subject : codes .subject < soughtCode → FixedAt codes 1 (codes .subject)
+  fixed-subject h = λ lo best f at d. miss-subject codes lo best f at (getD f (at + 1) 0) refl (miss (codes .subject) _ h (λ k. d (sym k)))
+
+  pub fixed-property : codes .property < soughtCode → FixedAt codes 2 (codes .property)
+  fixed-property h = λ lo best f at d. miss-property codes lo best f at (getD f (at + 2) 0) refl (miss (codes .property) _ h (λ k. d (sym k)))
+
+  pub fixed-object : codes .object < soughtCode → FixedAt codes 3 (codes .object)
+  fixed-object h = λ lo best f at d. miss-object codes lo best f at (getD f (at + 3) 0) refl (miss (codes .object) _ h (λ k. d (sym k)))
+
+  pub given-graph : codes .graph ≡ soughtCode → GivenAt codes 0
+  unfolding candidate
+  given-graph e = λ lo f at p. let z : at + 0 ≡ at = omega arith in rw (at-sought (codes .graph) e, z) refl
+
+  module _ (g : codes .graph ≡ soughtCode → ⊥) where
+    pub given-subject : codes .subject ≡ soughtCode → GivenAt codes 1
+    unfolding candidate
+    given-subject e = λ lo f at p. rw (at-sought (codes .subject) e) (pick-other (codes .graph) _ _ g)
+
+    module _ (s : codes .subject ≡ soughtCode → ⊥) where
+      pub given-property : codes .property ≡ soughtCode → GivenAt codes 2
+      unfolding candidate
+      given-property e = λ lo f at p.
+          rw (at-sought (codes .property) e) (pick-other (codes .subject) _ _ s ∙ pick-other (codes .graph) _ _ g)
+
+      module _ (p : codes .property ≡ soughtCode → ⊥) where
+        pub given-object : codes .object ≡ soughtCode → GivenAt codes 3
+        unfolding candidate
+        given-object e = λ lo f at q.
+            rw (at-sought (codes .object) e)
+            (pick-other (codes .property) _ _ p ∙ (pick-other (codes .subject) _ _ s ∙ pick-other (codes .graph) _ _ g))
+
+  pub given-nowhere : GivenAt codes 4
+  given-nowhere = λ lo f at p. absurd (omega arith)

@@ -6,7 +6,7 @@ use mathlib.Core.List.{List, [], _∷_}
 use mathlib.Core.Bool.{Bool, true, false, cond, not, _&&_, _||_}
 use lib.Dec.{T, eqb, leb, ltb, eqb-refl, le→leb, nltb→le, leb→le, ltb→lt}
 use Rattle.definitions.specs.Evaluate.{Quad, sameQuad, stored}
-use Rattle.laws.proofs.Tests.{andLeft, andMake, by-test}
+use Rattle.laws.proofs.Tests.{andLeft, andRight, andMake, by-test}
 use Rattle.laws.proofs.Same.{same-quad}
 use Rattle.query.specs.Seek.{Place, fixed, sought, free, Places, agrees, pick, candidate, fits, better, scan}
 
@@ -122,6 +122,17 @@ module _ (P : Places) (lo : ℕ) where
   better-floor m best r l h =
       by-test (λ x. m ≤ x) (fits P lo r && ltb (candidate P lo r) best) (candidate P lo r) best
       (λ k. omega (arith, fits-floor r (andLeft (fits P lo r) (ltb (candidate P lo r) best) k))) (λ k. h)
+
+  -- what a quad gives is below the floor, or not below the best
+  pub better-far : (best : ℕ) (r : Quad) → (lo ≤ candidate P lo r → candidate P lo r < best → ⊥) → best ≡ better P lo best r
+  unfolding better
+  better-far best r far =
+      by-test (λ x. best ≡ x) (fits P lo r && ltb (candidate P lo r) best) (candidate P lo r) best
+      (λ k.
+      let a = fits-floor r (andLeft (fits P lo r) (ltb (candidate P lo r) best) k) in
+      let b = ltb→lt (candidate P lo r) best (andRight (fits P lo r) (ltb (candidate P lo r) best) k) in
+      absurd (far a b))
+      (λ k. refl)
 
   pub scan-top : (best : ℕ) (rs : List Quad) → scan P lo best rs ≤ best
   unfolding scan

@@ -5,6 +5,7 @@ use mathlib.Core.Path.{_≡_, refl, sym, _∙_, ap, ap₂}
 use mathlib.Core.List.{List}
 use mathlib.Core.Bool.{Bool, true, false, cond}
 use mathlib.Core.Option.{some}
+use mathlib.Core.Logic.{_⊎_, inl, inr}
 use lib.Dec.{T}
 use lib.ListN.{length}
 use Rattle.definitions.specs.Bytes.{signed}
@@ -24,6 +25,7 @@ use Rattle.query.specs.declared.Four.{Four}
 use Rattle.query.proofs.Outcomes.{ok-passes}
 use Rattle.query.proofs.CodeLaws.{code-place}
 use Rattle.query.proofs.Rows.{scan-floor}
+use Rattle.query.proofs.Reaches.{seek-floor}
 
 module _ (table known : List ℕ) (count clock : ℕ) (l : Lent table known count clock) (rows : List Quad) (v : ℕ) where
   counted : (terms : List Term) → termsIn table ≡ some terms → count ≡ length terms
@@ -58,10 +60,23 @@ module _ (table known : List ℕ) (count clock : ℕ) (l : Lent table known coun
         k .1 S terms t (sure .1) ∙ ap (seek S (signed clock) terms rows (bindingsOf known) v r) (h .1 S terms t (sure .0)),
   )
 
-  pub union-seeks : (q r : Query) (lo a b least : ℕ) → least ≡ min a b → SeekOf table known count clock rows v lo a q → SeekOf table known count clock rows v lo b r
-      → SeekOf table known count clock rows v lo least (Query.union q r)
+  -- the second part is sought from lo on; or else the first gives lo, which is the least of all
+  pub union-seeks : (q r : Query) (lo a from b least : ℕ) → least ≡ min a b → (from ≡ lo) ⊎ ((from ≡ count) × (a ≡ lo) × (lo ≤ count))
+      → SeekOf table known count clock rows v lo a q → SeekOf table known count clock rows v from b r → SeekOf table known count clock rows v lo least (Query.union q r)
   unfolding seek
-  union-seeks q r lo a b least e h k = (omega (arith, h .0, k .0), λ S terms t sure. e ∙ ap₂ min (h .1 S terms t (sure .0)) (k .1 S terms t (sure .1)))
+  union-seeks q r lo a from b least e (inl f) h k = (
+    omega (arith, h .0, k .0),
+    λ S terms t sure.
+        let s = seek S (signed clock) terms rows (bindingsOf known) v r in
+        e ∙ ap₂ min (h .1 S terms t (sure .0)) (k .1 S terms t (sure .1) ∙ ap s f),
+  )
+  union-seeks q r lo a from b least e (inr f) h k = (
+    omega (arith, h .0, k .0, f),
+    λ S terms t sure.
+        let n = counted terms t in
+        let d = seek-floor S (signed clock) terms rows (bindingsOf known) v lo (omega (arith, f)) r lo (omega arith) in
+        omega (arith, e, f, h .1 S terms t (sure .0), k .0, d),
+  )
 
   pub empty-seeks : (lo : ℕ) → SeekOf table known count clock rows v lo lo Query.empty
   unfolding seek
@@ -69,6 +84,16 @@ module _ (table known : List ℕ) (count clock : ℕ) (l : Lent table known coun
 
   -- a filter: not known, or known and true, or known and false
   module _ (c : Cond) (lo : ℕ) {k : Bool} (ek : k ≡ condKnown (bindingsOf known) c) where
+    -- with nothing left to find it does not matter
+    pub ended-seeks : lo ≡ count → SeekOf table known count clock rows v lo lo (Query.filter c)
+    unfolding seek
+    ended-seeks e = (omega arith, λ S terms t sure. go (condKnown (bindingsOf known) c) (passes (condition S (signed clock) terms rows (bindingsOf known) c)) (e ∙ counted terms t))
+      where
+        go : (a b : Bool) {n : ℕ} → lo ≡ n → lo ≡ cond a (cond b lo n) lo
+        go true true h = refl
+        go true false h = h
+        go false b h = refl
+
     pub unknown-seeks : k ≡ false → SeekOf table known count clock rows v lo lo (Query.filter c)
     unfolding seek
     unknown-seeks e = (omega arith, λ S terms t sure. rw (sym ek ∙ e) refl)

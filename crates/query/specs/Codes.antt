@@ -1,6 +1,6 @@
 -- Numbers as the code has them. A place of a pattern: a number below 65,536 is fixed, 65,536 is sought, any other is free. What is known of a variable:
 -- a number below 65,536 is its term's, any other says that it is not known. The quads: four numbers each, one quad after the other.
-use Prim.Native.Nat.{ℕ, zero, suc, _+_}
+use Prim.Native.Nat.{ℕ, zero, suc, _+_, _<_}
 use mathlib.Core.Path.{_≡_}
 use mathlib.Core.List.{List, [], _∷_}
 use mathlib.Core.Bool.{Bool, true, false, cond}
@@ -10,7 +10,7 @@ use lib.ListN.{getD}
 use Rattle.definitions.specs.Tree.{Name, var, const, Query}
 use Rattle.definitions.specs.Evaluate.{Quad, Bindings}
 use Rattle.laws.proofs.Sound.{QueryBounded}
-use Rattle.query.specs.Seek.{Place, fixed, sought, free, Places}
+use Rattle.query.specs.Seek.{Place, fixed, sought, free, Places, candidate, better}
 use Rattle.query.specs.declared.Four.{Four}
 
 abbrev pub soughtCode : ℕ
@@ -39,6 +39,15 @@ rowAt f at = record { graph = getD f at 0; subject = getD f (at + 1) 0; property
 unfoldable pub rowsFrom : (count : ℕ) → List ℕ → (at : ℕ) → List Quad
 rowsFrom zero f at = []
 rowsFrom (suc count) f at = rowAt f at ∷ rowsFrom count f (at + 4)
+
+-- only a quad that has the number at an offset can be better than the best so far
+abbrev pub FixedAt : Four → (place number : ℕ) → Type 0
+FixedAt codes place number =
+    (lo best : ℕ) (f : List ℕ) (at : ℕ) → (getD f (at + place) 0 ≡ number → ⊥) → best ≡ better (placesAt codes) lo best (rowAt f at)
+
+-- what a quad gives the variable stands at an offset, where that is one of a quad's four
+abbrev pub GivenAt : Four → (place : ℕ) → Type 0
+GivenAt codes place = (lo : ℕ) (f : List ℕ) (at : ℕ) → place < 4 → getD f (at + place) 0 ≡ candidate (placesAt codes) lo (rowAt f at)
 
 -- ── what is known ───────────────────────────────────────────────────────────────────────────
 

@@ -111,6 +111,9 @@ fn hope(
         w,
         0,
     );
+    if count <= a.least {
+        return false;
+    }
     let b = seek(
         script,
         loaded,

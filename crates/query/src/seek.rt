@@ -1,5 +1,6 @@
 // The least number from which on a query could still hold for some choice of the variables that are not known.
 ghost use mathlib.Core.Path.{_≡_};
+ghost use mathlib.Core.Logic.{_⊎_};
 ghost use lib.ListN.{length};
 ghost use Prim.Native.Nat.{_*_, _≤_, min};
 ghost use Rattle.definitions.specs.Tree.{Query};
@@ -21,6 +22,18 @@ fn smaller(a: usize, b: usize) -> usize
     if a <= b { a } else { b }
 }
 
+// Where the second part of a union is sought from: once the first gives lo, nothing less is left to find.
+fn second_from(least: usize, lo: usize, count: usize) -> usize
+    ensures { λ r. ⌜ (r ≡ lo) ⊎ ((r ≡ count) × (least ≡ lo) × (lo ≤ count)) ⌝ }
+{
+    if least == lo {
+        if lo <= count {
+            return count;
+        }
+    }
+    lo
+}
+
 // A filter: lo, or count where all its variables are known and it does not hold.
 fn seek_filter(
     script: &[u8],
@@ -39,6 +52,12 @@ fn seek_filter(
 {
     let k = known_cond(script, terms, at, left, known);
     if !k.holds {
+        return Sought {
+            next: k.next,
+            least: lo,
+        };
+    }
+    if lo == count {
         return Sought {
             next: k.next,
             least: lo,
@@ -135,6 +154,7 @@ pub fn seek(
                 v,
                 lo,
             );
+            let from = second_from(a.least, lo, count);
             let b = seek(
                 script,
                 terms,
@@ -147,7 +167,7 @@ pub fn seek(
                 quads,
                 n,
                 v,
-                lo,
+                from,
             );
             let least = smaller(a.least, b.least);
             Sought {

@@ -7,6 +7,7 @@ pub mod ReadLaws
 pub mod ListLaws
 pub mod SameLaws
 pub mod SchemaLaws
+pub mod EntryLaws
 pub mod TableLaws
 pub mod NumberingLaws
 pub mod MarkLaws

@@ -1,36 +1,72 @@
--- Laws of marks: the loop that makes one, and slots compared by their marks first.
-use Prim.Native.Nat.{ℕ, _+_, _-_, _*_, _%_, _≤_, _<_}
+-- Laws of marks: the loop that makes one, a mark among others, the marks of a table, and a slot looked for by its mark first.
+use Prim.Native.Nat.{ℕ, zero, suc, _+_, _-_, _*_, _%_, _≤_, _<_}
 use native.Mathlib.Numerals.{add-one}
 use native.Mathlib.Omega.{arith}
-use mathlib.Core.Bool.{Bool, true, false}
-use mathlib.Core.List.{List}
-use mathlib.Core.Path.{_≡_, sym, ap, _∙_}
-use lib.ListN.{length, getD, set, drop, drop-of-length-le}
-use lib.Seq.{drop-cons, getD-set-same, getD-set-other}
+use mathlib.Core.Bool.{Bool, true, false, not, _||_, or-assoc, or-false}
+use mathlib.Core.List.{List, _++_}
+use mathlib.Core.Path.{_≡_, refl, sym, ap, _∙_}
+use lib.Dec.{eqb, eqb→eq, eqb-refl}
+use lib.ListN.{length, getD, set, take, drop, length-drop, take-append-drop, drop-of-length-le}
+use lib.Seq.{drop-cons, drop-drop, drop-append-le, take-append-le, take-at, drop-at, length-take-le, getD-set-same, getD-set-other}
 use borrow.Author.Count.{below-more}
-use Rattle.definitions.specs.Limits.{slotWidth}
-use Rattle.definitions.specs.Bytes.{part}
+use borrow.Author.Tests.{eqb-true, eqb-false, eq-eqb, not-true}
+use Rattle.definitions.specs.Limits.{slotWidth, termLimit, termTableWidth}
+use Rattle.definitions.specs.Lists.{some?}
+use Rattle.definitions.specs.Bytes.{part, little}
 use Rattle.definitions.specs.Saved.{slotTerm, termsIn}
 use Rattle.laws.proofs.Tests.{trueIs}
-use Rattle.laws.proofs.Bytes.{AreBytes, part-bytes}
-use Rattle.records.specs.Marks.{markFrom, slotAt, Marked}
-use Rattle.records.specs.Table.{HoldsTerms, GoodSlot, numberFrom}
+use Rattle.laws.proofs.Bytes.{AreBytes}
+use Rattle.records.specs.Marks.{markFrom, markOf, slotAt, Marked}
+use Rattle.records.specs.Table.{HoldsTerms, GoodSlot, numberFrom, slotSet}
 use Rattle.records.proofs.PartLaws.{some-part}
-use Rattle.records.proofs.SameLaws.{Compared}
-use Rattle.records.proofs.TableLaws.{slot-good, number-end, number-here, number-next, distinctFrom, slots-again, slots-next}
+use Rattle.records.proofs.SameLaws.{Compared, test-is}
+use Rattle.records.proofs.TableLaws.{holds-few, number-end, number-next}
 
 -- ── a mark ──────────────────────────────────────────────────────────────────────────────────
 
-module _ (s : List ℕ) (k m : ℕ) (far : markFrom 0 s ≡ markFrom m (drop k s)) where
-  pub mark-next : k < length s → {b : ℕ} → b ≡ getD s k 0 → markFrom 0 s ≡ markFrom ((m * 31 + b) % 65536) (drop (k + 1) s)
-  unfolding markFrom
-  mark-next h e =
-      far ∙ ap (markFrom m) (drop-cons s k 0 h)
-      ∙ λ t. markFrom ((m * 31 + sym e t) % 65536) (drop (sym (add-one k) t) s)
+-- the mark of the words before an offset, and how many are left
+pub record Marking (s : List ℕ) (at m : ℕ) : Type 0 where
+  pub left : ℕ
+  pub place : at + 8 * left ≡ 48
+  pub whole : markOf s ≡ markFrom left m (drop at s)
 
-  pub mark-end : length s ≤ k → m ≡ markFrom 0 s
-  unfolding markFrom
-  mark-end h = sym (far ∙ ap (markFrom m) (drop-of-length-le s h))
+pub mark-start : (s : List ℕ) → Marking s 0 0
+unfolding markOf
+mark-start s = record { left = 6; place = refl; whole = refl }
+
+module _ (s : List ℕ) (at m : ℕ) (i : Marking s at m) where
+  pub mark-next : at < 48 → {w : ℕ} → w ≡ little (part s at 8) → Marking s (at + 8) ((m * 31 + w % 65521) % 65536)
+  mark-next h {w} e = go (i .left) (i .place) (i .whole)
+    where
+      go : (k : ℕ) → at + 8 * k ≡ 48 → markOf s ≡ markFrom k m (drop at s) → Marking s (at + 8) ((m * 31 + w % 65521) % 65536)
+      go zero p q = absurd (omega arith)
+      go (suc k) p q =
+          record {
+            left = k;
+            place = omega arith;
+            whole = q ∙ unfold markFrom in λ t. markFrom k ((m * 31 + sym e t % 65521) % 65536) (drop-drop 8 at s t);
+          }
+
+  pub mark-end : 48 ≤ at → m ≡ markOf s
+  mark-end h = go (i .left) (i .place) (i .whole)
+    where
+      go : (k : ℕ) → at + 8 * k ≡ 48 → markOf s ≡ markFrom k m (drop at s) → m ≡ markOf s
+      go zero p q = unfold markFrom in sym q
+      go (suc k) p q = absurd (omega arith)
+
+-- ── a mark among others ─────────────────────────────────────────────────────────────────────
+
+swapped : (a b : ℕ) → eqb a b ≡ eqb b a
+swapped a b = test-is (eqb a b) (eqb b a) (λ t. rw (eqb-true a b t) (eqb-refl b)) (λ t. eq-eqb a b (sym (eqb→eq b a t)))
+
+module _ (marks : List ℕ) (m i : ℕ) (seen : Bool) (far : some? (eqb m) marks ≡ (seen || some? (eqb m) (drop i marks))) where
+  pub seen-next : i < length marks → some? (eqb m) marks ≡ (seen || eqb (getD marks i 0) m || some? (eqb m) (drop (i + 1) marks))
+  seen-next h =
+      far ∙ ap (λ b. seen || b) (rw (drop-cons marks i 0 h, add-one i, swapped (getD marks i 0) m))
+      ∙ sym (or-assoc seen (eqb (getD marks i 0) m) (some? (eqb m) (drop (i + 1) marks)))
+
+  pub seen-end : length marks ≤ i → seen ≡ some? (eqb m) marks
+  seen-end h = sym (far ∙ rw (drop-of-length-le marks {i = i} h) (or-false seen))
 
 -- ── the marks of a table ────────────────────────────────────────────────────────────────────
 
@@ -39,52 +75,83 @@ none-marked table marks i h = absurd (omega arith)
 
 -- the next slot, as the code hands it on
 pub one-marked : (table marks : List ℕ) (i x : ℕ) → i < length marks → Marked table i marks
-    → x ≡ markFrom 0 (part table (i * slotWidth) (i * slotWidth + slotWidth - i * slotWidth)) → Marked table (i + 1) (set marks i x)
+    → x ≡ markOf (part table (i * slotWidth) (i * slotWidth + slotWidth - i * slotWidth)) → Marked table (i + 1) (set marks i x)
 one-marked table marks i x h w e =
-    below-more (λ j. getD (set marks i x) j 0 ≡ markFrom 0 (slotAt table j)) i
+    below-more (λ j. getD (set marks i x) j 0 ≡ markOf (slotAt table j)) i
     (λ j l. getD-set-other marks i j x 0 (λ q. omega arith) ∙ w j l)
-    (getD-set-same marks i x 0 h ∙ (e ∙ ap (markFrom 0) (some-part table (i * slotWidth) slotWidth)))
+    (getD-set-same marks i x 0 h ∙ (e ∙ ap markOf (some-part table (i * slotWidth) slotWidth)))
 
 pub all-marked : (table marks : List ℕ) (n i : ℕ) → n ≤ i → Marked table i marks → Marked table n marks
 all-marked table marks n i h w j l = w j (omega arith)
 
--- ── two slots ───────────────────────────────────────────────────────────────────────────────
+-- a part does not see what comes after it
+part-front : (xs ys : List ℕ) (at n : ℕ) → at + n ≤ length xs → part (xs ++ ys) at n ≡ part xs at n
+part-front xs ys at n h =
+    ap (take n) (drop-append-le at xs ys (omega arith)) ∙ take-append-le n (drop at xs) ys (omega (arith, length-drop at xs))
 
-pub marks-differ : (table marks : List ℕ) (n i j : ℕ) → Marked table n marks → i < n → j < n → (getD marks i 0 ≡ getD marks j 0 → ⊥)
-    → Compared (slotAt table i) (slotAt table j) false
-marks-differ table marks n i j w hi hj d = (λ t. absurd (trueIs false t), λ e. absurd (d (w i hi ∙ ap (markFrom 0) e ∙ sym (w j hj))))
+module _ (table slot : List ℕ) (n : ℕ) (l : n < termLimit) (h : length table ≡ termTableWidth) where
+  front : List ℕ
+  front = take (n * slotWidth) table
 
--- as the code hands them on
-pub slots-compared : (table : List ℕ) (i j : ℕ) {r : Bool}
-    → Compared (part table (i * slotWidth) (i * slotWidth + slotWidth - i * slotWidth)) (part table (j * slotWidth) (j * slotWidth + slotWidth - j * slotWidth)) r
-    → Compared (slotAt table i) (slotAt table j) r
-slots-compared table i j c = rw (some-part table (i * slotWidth) slotWidth, some-part table (j * slotWidth) slotWidth) at c
+  front-length : length front ≡ n * slotWidth
+  unfolding front
+  front-length = length-take-le (n * slotWidth) table (omega arith)
 
--- ── a slot among those after it ─────────────────────────────────────────────────────────────
+  put-before : (j : ℕ) → j < n → slotAt (slotSet table n slot) j ≡ slotAt table j
+  unfolding slotSet front
+  put-before j k =
+      let fits : j * slotWidth + slotWidth ≤ length front = omega (arith, front-length) in
+      part-front front (slot ++ drop slotWidth (drop (n * slotWidth) table)) (j * slotWidth) slotWidth fits
+      ∙ sym (part-front front (drop (n * slotWidth) table) (j * slotWidth) slotWidth fits)
+      ∙ ap (λ s. part s (j * slotWidth) slotWidth) (take-append-drop (n * slotWidth) table)
 
-module _ (table : List ℕ) (n : ℕ) (h : HoldsTerms table n) (i : ℕ) (l : i < n) where
-  good : GoodSlot (slotAt table i)
-  good = rw (some-part table (i * slotWidth) slotWidth) at (slot-good table n h i l)
+  put-here : length slot ≡ slotWidth → slotAt (slotSet table n slot) n ≡ slot
+  unfolding slotSet front
+  put-here k =
+      let rest : List ℕ = drop slotWidth (drop (n * slotWidth) table) in
+      ap (take slotWidth) (drop-at front (slot ++ rest) (n * slotWidth) front-length) ∙ take-at slot rest slotWidth k
 
-  pub none-again : (j : ℕ) → j ≤ n → n ≤ j → n ≡ numberFrom j (slotTerm (slotAt table i)) (termsIn table)
-  none-again j a b = number-end table (slotAt table i) n h good j a b
+  -- a slot is written, and its mark
+  pub put-marked : length slot ≡ slotWidth → (marks : List ℕ) → length marks ≡ termLimit → Marked table n marks
+      → {after : List ℕ} → after ≡ slotSet table n slot → {x : ℕ} → x ≡ markOf slot → Marked after (n + 1) (set marks n x)
+  put-marked k marks m w {after} e {x} q =
+      rw e
+      (below-more (λ j. getD (set marks n x) j 0 ≡ markOf (slotAt (slotSet table n slot) j)) n
+      (λ j t. getD-set-other marks n j x 0 (λ r. omega arith) ∙ w j t ∙ ap markOf (sym (put-before j t)))
+      (getD-set-same marks n x 0 (omega arith) ∙ q ∙ ap markOf (sym (put-here k))))
 
-  module _ (a : AreBytes table) (j : ℕ) (k : j < n) {r : Bool} (c : Compared (slotAt table i) (slotAt table j) r) where
-    compared : Compared (slotAt table i) (part table (j * slotWidth) (j * slotWidth + slotWidth - j * slotWidth)) r
-    compared = rw (some-part table (j * slotWidth) slotWidth) c
+-- ── a slot looked for ───────────────────────────────────────────────────────────────────────
 
-    pub again-here : r ≡ true → j ≡ numberFrom j (slotTerm (slotAt table i)) (termsIn table)
-    again-here q = number-here table (slotAt table i) n h good a (part-bytes table (i * slotWidth) slotWidth a) j k compared q
+neither : (a b : Bool) → (a || b) ≡ false → (a ≡ false) × (b ≡ false)
+neither true b e = absurd (trueIs false (sym e))
+neither false b e = (refl, e)
 
-    pub again-later : r ≡ false → numberFrom j (slotTerm (slotAt table i)) (termsIn table) ≡ numberFrom (j + 1) (slotTerm (slotAt table i)) (termsIn table)
-    again-later q = number-next table (slotAt table i) n h good a (part-bytes table (i * slotWidth) slotWidth a) j k compared q
+module _ (table slot : List ℕ) (n : ℕ) (h : HoldsTerms table n) (g : GoodSlot slot) (a : AreBytes table) (b : AreBytes slot)
+    (marks : List ℕ) (long : length marks ≡ termLimit) (w : Marked table n marks) (m : ℕ) (e : m ≡ markOf slot) where
+  marks-differ : (i : ℕ) → i < n → (getD marks i 0 ≡ m → ⊥) → Compared slot (part table (i * slotWidth) (i * slotWidth + slotWidth - i * slotWidth)) false
+  marks-differ i l d =
+      (λ t. absurd (trueIs false t), λ q. absurd (d (w i l ∙ ap markOf (sym (q ∙ some-part table (i * slotWidth) slotWidth)) ∙ sym e)))
 
-  module _ {f : ℕ} (e : f ≡ numberFrom (i + 1) (slotTerm (slotAt table i)) (termsIn table)) where
-    handed : f ≡ numberFrom (i + 1) (slotTerm (part table (i * slotWidth) (i * slotWidth + slotWidth - i * slotWidth))) (termsIn table)
-    handed = rw (some-part table (i * slotWidth) slotWidth) e
+  pub number-skip : (i : ℕ) → i < n → (getD marks i 0 ≡ m → ⊥) → numberFrom i (slotTerm slot) (termsIn table) ≡ numberFrom (i + 1) (slotTerm slot) (termsIn table)
+  number-skip i l d = number-next table slot n h g a b i l (marks-differ i l d) refl
 
-    pub marked-again : f < n → distinctFrom i (termsIn table) ≡ false
-    marked-again q = slots-again table n h i l handed q
+  none-from : (k i : ℕ) → i + k ≡ n → some? (eqb m) (part marks i k) ≡ false → n ≡ numberFrom i (slotTerm slot) (termsIn table)
+  none-from zero i s q = number-end table slot n h g i (omega arith) (omega arith)
+  none-from (suc k) i s q =
+      let c = drop-cons marks i 0 (omega (arith, holds-few table n h)) in
+      let p = neither (eqb m (getD marks i 0)) (some? (eqb m) (part marks (suc i) k)) (rw c at q) in
+      none-from k (i + 1) (omega arith) (rw (add-one i) (p .1)) ∙ sym (number-skip i (omega arith) (λ r. eqb-false m (getD marks i 0) (p .0) (sym r)))
 
-    pub marked-next : n ≤ f → distinctFrom i (termsIn table) ≡ distinctFrom (i + 1) (termsIn table)
-    marked-next q = slots-next table n h i l handed q
+  -- no mark from a number on is the slot's
+  pub number-none : (i : ℕ) → i ≤ n → {r : Bool} → r ≡ some? (eqb m) (part marks i (n - i)) → not r ≡ true → n ≡ numberFrom i (slotTerm slot) (termsIn table)
+  number-none i l {r} f q = none-from (n - i) i (omega arith) (sym f ∙ not-true r q)
+
+-- a slot among those after it, as the code hands it on
+pub slot-mark : (table marks : List ℕ) (n i : ℕ) → Marked table n marks → i < n
+    → getD marks i 0 ≡ markOf (part table (i * slotWidth) (i * slotWidth + slotWidth - i * slotWidth))
+slot-mark table marks n i w l = w i l ∙ ap markOf (sym (some-part table (i * slotWidth) slotWidth))
+
+pub slot-after : (table : List ℕ) (i : ℕ) {f : ℕ}
+    → f ≡ numberFrom (i + 1) (slotTerm (part table (i * slotWidth) (i * slotWidth + slotWidth - i * slotWidth))) (termsIn table)
+    → f ≡ numberFrom (i + 1) (slotTerm (slotAt table i)) (termsIn table)
+slot-after table i e = rw (some-part table (i * slotWidth) slotWidth) at e

@@ -28,6 +28,7 @@ use Rattle.records.specs.declared.Added.the-variants.{Count, Full}
 use Rattle.records.specs.declared.Counted.the-variants as Counts
 use Rattle.records.specs.declared.Read.the-variants.{Next}
 use Rattle.records.specs.Answers.{isSome, nextOf, countOf}
+use Rattle.records.specs.Marks.{Marked}
 use Rattle.records.specs.Table.{HoldsTerms, GoodSlot, numberIn, slotSet, withTerm, listOf, addedOf, tableOf}
 use Rattle.records.proofs.ListLaws.{good-one, good-rest, here, rest, all-of}
 use Rattle.records.proofs.OptionLaws.{is-some, next-some}
@@ -104,6 +105,13 @@ put-one table ts n h l t v slot e =
       count = length-append ts (t ∷ []) ∙ ap (λ (k : ℕ). k + 1) (h .count);
       few = omega arith;
     }
+
+-- the marks of so many as there then are
+pub count-marked : (table marks : List ℕ) (n : ℕ) → Marked table n marks → (k : ℕ) → Count n ≡ Count k → Marked table k marks
+count-marked table marks n w k e i l = let q : n ≡ k = cc in w i (omega arith)
+
+pub full-marked : (table marks : List ℕ) (k : ℕ) → Full ≡ Count k → Marked table k marks
+full-marked table marks k e = absurd (let z : _≡_ {A = ℕ} 0 1 = cc in omega arith)
 
 -- ── a term joins ────────────────────────────────────────────────────────────────────────────
 

@@ -8,18 +8,20 @@ use native.Mathlib.Omega.{arith}
 use lib.Dec.{eqb}
 use lib.ListN.{length, drop}
 use borrow.Author.Tests.{ne-eqb}
-use Rattle.definitions.specs.Limits.{textWidth}
+use Rattle.definitions.specs.Limits.{textWidth, slotWidth}
 use Rattle.definitions.specs.Bytes.{byte, part, sameBytes, allZero, provided}
 use Rattle.definitions.specs.Types.{Datatype, datatypeCode, datatypeOfCode, datatypeRows, typeCode}
-use Rattle.definitions.specs.Terms.{Text, Term, Entry, Schema, Sort, termKind, bodyWidth, uriText, ofTermKind, termOfBody, readTerm, readEntry, datatypeIn, sortOf, isInteger, isDecimal, isDateTime}
+use Rattle.definitions.specs.Terms.{Text, Term, Entry, Schema, Sort, termKind, bodyWidth, uriText, ofTermKind, termOfBody, bodyOf, slotOf, readTerm, readEntry, datatypeIn, sortOf, isInteger, isDecimal, isDateTime}
 use Rattle.definitions.specs.Saved.{slotTerm}
 use Rattle.laws.proofs.Options.{some-is, some-not-none, onward-inv, provided-inv}
+use Rattle.laws.proofs.Bytes.{AreBytes}
 use Rattle.laws.proofs.Reading.{row-keys}
 use Rattle.laws.proofs.Sorts.{least}
-use Rattle.laws.proofs.Slots.{kind-inv}
-use Rattle.laws.proofs.Valid.{string-inv, number-inv}
+use Rattle.laws.proofs.Slots.{kind-inv, slot-inv}
+use Rattle.laws.proofs.Valid.{uri-inv, string-inv, number-inv}
 use Rattle.laws.proofs.RecordsAt.{EntryAt, entry-inv, TermAt, term-inv, entry-forward, recordsAt, at-end}
 use Rattle.records.specs.Answers.{isSome, codeOf, schemaCode, leastCode}
+use Rattle.records.specs.Marks.{uriSlot}
 use Rattle.records.proofs.OptionLaws.{is-some}
 use Rattle.records.proofs.PartLaws.{some-part}
 use Rattle.records.proofs.ListLaws.{good-one, here, rest, all-of}
@@ -93,9 +95,6 @@ module _ (slot : List ℕ) (g : isSome (slotTerm slot) ≡ true) where
   kind-is : termKind (slot-holds .1 .datatype) ≡ byte slot 0
   kind-is = kind-inv (byte slot 0) (slot-holds .1 .datatype) (slot-holds .1 .kind)
 
-  pub slot-not-empty : 0 < length slot
-  slot-not-empty = omega (arith, slot-holds .1 .ends, slot-holds .1 .fits)
-
   -- at a datatype
   of-datatype : (d : Datatype) → slot-holds .1 .datatype ≡ d → termOfBody d (part slot 1 (bodyWidth d)) ≡ some (term .0)
   of-datatype d e = subst (λ (d : Datatype). termOfBody d (part slot 1 (bodyWidth d)) ≡ some (term .0)) e (slot-holds .1 .body)
@@ -161,11 +160,13 @@ module _ (o : Option Schema) (f : isSome o ≡ true) (slot : List ℕ) (g : isSo
     unfolding isSome
     uri-field = rw (uri-of .1)
 
-    pub uri-fits : 41 ≤ length slot
-    uri-fits =
-        let h = slot-holds slot g .1 in
-        let w : bodyWidth (h .datatype) ≡ 40 = ap bodyWidth (datatype-at slot g 0x11 Datatype.anyURI refl q) in
-        omega (arith, h .ends, h .fits, w)
+    -- the slot is that of its field
+    pub uri-slot : length slot ≡ slotWidth → AreBytes slot → slot ≡ uriSlot (part slot 1 textWidth)
+    unfolding slotOf bodyOf
+    uri-slot l b =
+        sym (slot-inv slot (term slot g .0) l b (term slot g .1) .0)
+        ∙ ap slotOf (uri-of .2)
+        ∙ ap uriSlot (uri-inv (part slot 1 textWidth) (uri-of .0) (uri-of .1) .0 .whole)
 
     uri-least : leastCode o (slotTerm slot) ≡ cond (eqb (schemaCode o (uriText (part slot 1 textWidth))) 0) 1 (8 + schemaCode o (uriText (part slot 1 textWidth)))
     uri-least = least-is ∙ uri-type (schema .0) (uri-of .0) (uri-of .2) (schema .1) (uri-of .1)

@@ -215,7 +215,7 @@ module _ (table : List ℕ) (n : ℕ) (h : HoldsTerms table n) (i : ℕ) where
       ap (distinctFrom i) (terms table n h .1)
       ∙ ap (distinct sameTerm) (drop-of-length-le (terms table n h .0) {i = i} (omega (arith, terms-length table n h)))
 
-  module _ (l : i < n) {f : ℕ} (e : f ≡ numberFrom (i + 1) (slotTerm (part table (i * slotWidth) (i * slotWidth + slotWidth - i * slotWidth))) (termsIn table)) where
+  module _ (l : i < n) {f : ℕ} (e : f ≡ numberFrom (i + 1) (slotTerm (part table (i * slotWidth) slotWidth)) (termsIn table)) where
     t : Term
     t = slot-there table n h i l .0
 
@@ -224,7 +224,7 @@ module _ (table : List ℕ) (n : ℕ) (h : HoldsTerms table n) (i : ℕ) where
 
     found : f ≡ i + 1 + numbered t rest .number
     unfolding numberFrom t rest
-    found = (rw (some-part table (i * slotWidth) slotWidth) at e) ∙ ap₂ (numberFrom (i + 1)) (slot-there table n h i l .1) (terms table n h .1)
+    found = e ∙ ap₂ (numberFrom (i + 1)) (slot-there table n h i l .1) (terms table n h .1)
 
     rest-length : length rest ≡ n - (i + 1)
     unfolding rest

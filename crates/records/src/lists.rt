@@ -3,11 +3,13 @@ use crate::Added;
 use crate::Counted;
 use crate::Read;
 use crate::bodies::body_width;
+use crate::marks::is_in;
 use crate::numbering::list_terms;
 use crate::reading::ENTRY_WIDTH;
 use crate::reading::read_entry;
 use crate::reading::read_term;
 use crate::reading::read_triple;
+use crate::schema::mark_entries;
 use crate::table::slots_distinct;
 use definitions::TEXT_WIDTH;
 ghost use mathlib.Core.Path.{_≡_};
@@ -15,9 +17,13 @@ ghost use mathlib.Core.Bool.{true};
 ghost use Rattle.definitions.specs.Terms.{sameTerm, sameProperty, readTerm, readEntry, readTerms, readSchema, readPage};
 ghost use Rattle.laws.proofs.RecordsAt.{recordsAt};
 ghost use Rattle.records.specs.Answers.{isSome, nextOf, countOf, sameIn, againIn, distinctIn};
+ghost use Rattle.records.specs.Marks.{MarkedEntries};
 
 // The bytes of a term table.
 const TABLE_WIDTH: usize = 25088;
+
+// The bytes of the longest schema.
+const SCHEMA_WIDTH: usize = 5376;
 
 // How many term, schema or page records there are. Ruled out: the count up to the first bad record; one more for bytes left over.
 pub fn count_terms(s: &[u8]) -> Counted
@@ -159,13 +165,11 @@ fn property_again(s: &[u8], at: usize, from: usize) -> bool
     false
 }
 
-// Whether schema records are good and of different properties. Ruled out: a property twice with two datatypes let pass; neighbours alone compared.
-pub fn properties_distinct(s: &[u8]) -> bool
+// Whether good schema records are of different properties, record by record.
+fn entries_distinct(s: &[u8]) -> bool
+    requires { ⌜ isSome (readSchema (now s)) ≡ true ⌝ }
     ensures { λ r. ⌜ r ≡ distinctIn sameProperty (readSchema (now (s .entry))) ⌝ }
 {
-    let Counted::Count(_) = count_entries(s) else {
-        return false;
-    };
     let mut at = 0;
     while at < s.len() {
         let next = at + ENTRY_WIDTH;
@@ -175,4 +179,40 @@ pub fn properties_distinct(s: &[u8]) -> bool
         at = next;
     }
     true
+}
+
+// Whether good schema records are of different properties: records are compared only where their URIs' marks are the same.
+fn marked_distinct(s: &[u8], marks: &[u16]) -> bool
+    requires { ⌜ isSome (readSchema (now s)) ≡ true ⌝ }
+    requires { ⌜ MarkedEntries (now s) (now marks) ⌝ }
+    ensures { λ r. ⌜ r ≡ distinctIn sameProperty (readSchema (now (s .entry))) ⌝ }
+{
+    let entries = s.len() / ENTRY_WIDTH;
+    let mut i = 0;
+    while i < entries {
+        let next = i + 1;
+        if is_in(&marks[next..entries], marks[i]) {
+            let at = i * ENTRY_WIDTH;
+            if property_again(s, at, at + ENTRY_WIDTH) {
+                return false;
+            }
+        }
+        i = next;
+    }
+    true
+}
+
+// Whether schema records are good and of different properties: by their URIs' marks, where there are no more than a schema may have.
+// Ruled out: a property twice with two datatypes let pass; neighbours alone compared.
+pub fn properties_distinct(s: &[u8]) -> bool
+    ensures { λ r. ⌜ r ≡ distinctIn sameProperty (readSchema (now (s .entry))) ⌝ }
+{
+    let Counted::Count(_) = count_entries(s) else {
+        return false;
+    };
+    if SCHEMA_WIDTH < s.len() {
+        return entries_distinct(s);
+    }
+    let marks = mark_entries(s);
+    marked_distinct(s, &marks)
 }

@@ -1,34 +1,43 @@
 // Marks of slots, 16 bits each: slots whose marks differ are told apart without a look at their bytes.
 ghost use mathlib.Core.Path.{_≡_};
-ghost use mathlib.Core.Bool.{true};
 ghost use Prim.Native.Nat.{_+_, _≤_, _<_};
 ghost use lib.ListN.{length};
-ghost use Rattle.definitions.specs.Limits.{termLimit, termTableWidth};
+ghost use Rattle.definitions.specs.Limits.{slotWidth, termLimit, termTableWidth};
+ghost use Rattle.definitions.specs.Lists.{isIn};
 ghost use Rattle.definitions.specs.Saved.{slotTerm, termsIn};
-ghost use Rattle.records.specs.Marks.{markFrom, slotAt, Marked};
-ghost use Rattle.records.specs.Table.{HoldsTerms, numberFrom};
+ghost use Rattle.records.specs.Marks.{markOf, slotAt, Marked};
+ghost use Rattle.records.specs.Table.{HoldsTerms, GoodSlot, numberFrom};
+use crate::numbers::long_at;
 use definitions::SLOT_WIDTH;
 use definitions::TERM_LIMIT;
 
-fn wider(b: u8) -> u32
-    ensures { λ r. ⌜ (r ≡ b) × (r < 256) ⌝ }
+// The mark of a slot: 16 bits of its words. Ruled out: the first word alone; the words in another order.
+pub fn mark_of(slot: &[u8]) -> u16
+    requires { ⌜ length (now slot) ≡ slotWidth ⌝ }
+    ensures { λ r. ⌜ r ≡ markOf (now (slot .entry)) ⌝ }
 {
-    b as u32
-}
-
-// The mark of a slot.
-fn mark_of(slot: &[u8]) -> u16
-    ensures { λ r. ⌜ r ≡ markFrom 0 (now (slot .entry)) ⌝ }
-{
-    let mut m: u32 = 0;
-    let mut k = 0;
-    while k < slot.len() {
-        let b = wider(slot[k]);
-        let sum = m * 31 + b;
-        m = sum % 65536;
-        k += 1;
+    let mut m: u64 = 0;
+    let mut at = 0;
+    while at < 48 {
+        let word = long_at(slot, at);
+        m = (m * 31 + word % 65521) % 65536;
+        at += 8;
     }
     m as u16
+}
+
+// Whether a number is in a list. All are looked at, so that the compiler takes many at once.
+// Ruled out: the last left out; the first alone compared.
+pub fn is_in(list: &[u16], x: u16) -> bool
+    ensures { λ r. ⌜ r ≡ isIn x (now (list .entry)) ⌝ }
+{
+    let mut seen = false;
+    let mut i = 0;
+    while i < list.len() {
+        seen = seen | (list[i] == x);
+        i += 1;
+    }
+    seen
 }
 
 // The marks of a table's first slots. Ruled out: the mark of the slot beside it; the last slot left out.
@@ -48,38 +57,52 @@ pub fn mark_slots(table: &[u8], n: usize) -> [u16; TERM_LIMIT]
     marks
 }
 
-// Whether two slots have the same bytes.
-fn same_slots(table: &[u8], n: usize, marks: &[u16; TERM_LIMIT], i: usize, j: usize) -> bool
+// The number of a slot's term among those from a number on, or the number of all. Bytes are compared only where marks are the same.
+// Ruled out: slots with the same mark taken for the same; the last slot left out.
+pub fn find_slot(
+    table: &[u8],
+    n: usize,
+    marks: &[u16],
+    slot: &[u8],
+    mark: u16,
+    from: usize,
+) -> usize
     requires { ⌜ HoldsTerms (now table) n ⌝ }
+    requires { ⌜ length (now marks) ≡ termLimit ⌝ }
     requires { ⌜ Marked (now table) n (now marks) ⌝ }
-    requires { ⌜ i < n ⌝ }
-    requires { ⌜ j < n ⌝ }
-    ensures { λ r. ⌜ (r ≡ true → slotAt (now (table .entry)) i ≡ slotAt (now (table .entry)) j) × (slotAt (now (table .entry)) i ≡ slotAt (now (table .entry)) j → r ≡ true) ⌝ }
+    requires { ⌜ GoodSlot (now slot) ⌝ }
+    requires { ⌜ mark ≡ markOf (now slot) ⌝ }
+    requires { ⌜ from ≤ n ⌝ }
+    ensures { λ r. ⌜ r ≡ numberFrom from (slotTerm (now (slot .entry))) (termsIn (now (table .entry))) ⌝ }
 {
-    if marks[i] != marks[j] {
-        return false;
+    if !is_in(&marks[from..n], mark) {
+        return n;
     }
-    let a = i * SLOT_WIDTH;
-    let a_end = a + SLOT_WIDTH;
-    let b = j * SLOT_WIDTH;
-    let b_end = b + SLOT_WIDTH;
-    check::same(&table[a..a_end], &table[b..b_end])
+    let mut i = from;
+    while i < n {
+        if marks[i] == mark {
+            let at = i * SLOT_WIDTH;
+            let end = at + SLOT_WIDTH;
+            if check::same(slot, &table[at..end]) {
+                return i;
+            }
+        }
+        i += 1;
+    }
+    n
 }
 
 // The number of a slot's term among those after it, or the number of all.
 // Ruled out: the slot's own number; slots with the same mark taken for the same.
-pub fn slot_again(table: &[u8], n: usize, marks: &[u16; TERM_LIMIT], i: usize) -> usize
+pub fn slot_again(table: &[u8], n: usize, marks: &[u16], i: usize) -> usize
     requires { ⌜ HoldsTerms (now table) n ⌝ }
+    requires { ⌜ length (now marks) ≡ termLimit ⌝ }
     requires { ⌜ Marked (now table) n (now marks) ⌝ }
     requires { ⌜ i < n ⌝ }
     ensures { λ r. ⌜ r ≡ numberFrom (i + 1) (slotTerm (slotAt (now (table .entry)) i)) (termsIn (now (table .entry))) ⌝ }
 {
-    let mut j = i + 1;
-    while j < n {
-        if same_slots(table, n, marks, i, j) {
-            return j;
-        }
-        j += 1;
-    }
-    n
+    let at = i * SLOT_WIDTH;
+    let end = at + SLOT_WIDTH;
+    let next = i + 1;
+    find_slot(table, n, marks, &table[at..end], marks[i], next)
 }

@@ -1,38 +1,46 @@
 // Terms that join a term table, and the table that loading numbers.
 use crate::Added;
 use crate::lists::term_end;
+use crate::marks::mark_slots;
 use crate::reading::ENTRY_WIDTH;
 use crate::table::find_term;
 use crate::table::put_slot;
+use crate::table::put_term;
 use crate::table::slot_of;
 use definitions::TERM_LIMIT;
 use definitions::TEXT_WIDTH;
 ghost use mathlib.Core.Path.{_≡_};
 ghost use mathlib.Core.Bool.{true};
-ghost use lib.ListN.{replicate};
-ghost use Rattle.definitions.specs.Limits.{termTableWidth};
+ghost use Prim.Native.Nat.{ℕ};
+ghost use lib.ListN.{length, replicate};
+ghost use Rattle.definitions.specs.Limits.{termLimit, termTableWidth};
 ghost use Rattle.definitions.specs.Terms.{readTerms, readSchema};
 ghost use Rattle.definitions.specs.Machine.{withProperties};
 ghost use Rattle.definitions.specs.Saved.{slotTerm, termsIn};
+ghost use Rattle.records.specs.declared.Added.the-variants.{Count};
 ghost use Rattle.records.specs.Answers.{isSome};
+ghost use Rattle.records.specs.Marks.{Marked};
 ghost use Rattle.records.specs.Table.{HoldsTerms, GoodSlot, listOf, withTerm, addedOf, tableOf};
 
 // A slot's term joins a table of n terms, where it is not there.
 // Ruled out: a second number for a term that is there; a refusal where a full table has it.
-pub fn add_term(table: &mut [u8], n: usize, slot: &[u8]) -> Added
+pub fn add_term(table: &mut [u8], n: usize, marks: &mut [u16], slot: &[u8]) -> Added
     requires { ⌜ HoldsTerms (now table) n ⌝ }
+    requires { ⌜ length (now marks) ≡ termLimit ⌝ }
+    requires { ⌜ Marked (now table) n (now marks) ⌝ }
     requires { ⌜ GoodSlot (now slot) ⌝ }
-    ensures { λ r. ⌜ (r ≡ addedOf (withTerm (slotTerm (now (slot .entry))) (termsIn (now (table .entry))))) × (now (table .exit) ≡ tableOf (withTerm (slotTerm (now (slot .entry))) (termsIn (now (table .entry))))) ⌝ }
+    ensures { λ r. ⌜ (r ≡ addedOf (withTerm (slotTerm (now (slot .entry))) (termsIn (now (table .entry))))) × (now (table .exit) ≡ tableOf (withTerm (slotTerm (now (slot .entry))) (termsIn (now (table .entry))))) × ((k : ℕ) → r ≡ Count k → Marked (now (table .exit)) k (now (marks .exit))) ⌝ }
 {
-    let number = find_term(table, n, slot);
+    let number = find_term(table, n, marks, slot);
     if number < n {
         return Added::Count(n);
     }
     if TERM_LIMIT <= n {
         return Added::Full;
     }
-    put_slot(table, n, slot);
-    Added::Count(n + 1)
+    put_term(table, n, marks, slot);
+    let more = n + 1;
+    Added::Count(more)
 }
 
 // Writes listed terms into a table of zeros. Ruled out: one of them left out; bytes left over in a slot.
@@ -59,10 +67,12 @@ pub fn list_terms(terms: &[u8], table: &mut [u8]) -> Added
 
 // Schema URIs join a table of n terms, those that are not there, in schema order.
 // Ruled out: another order; a URI written twice.
-pub fn add_properties(schema: &[u8], table: &mut [u8], n: usize) -> Added
+pub fn add_properties(schema: &[u8], table: &mut [u8], n: usize, marks: &mut [u16]) -> Added
     requires { ⌜ isSome (readSchema (now schema)) ≡ true ⌝ }
     requires { ⌜ HoldsTerms (now table) n ⌝ }
-    ensures { λ r. ⌜ (r ≡ addedOf (withProperties (listOf (readSchema (now (schema .entry)))) (listOf (termsIn (now (table .entry)))))) × (now (table .exit) ≡ tableOf (withProperties (listOf (readSchema (now (schema .entry)))) (listOf (termsIn (now (table .entry)))))) ⌝ }
+    requires { ⌜ length (now marks) ≡ termLimit ⌝ }
+    requires { ⌜ Marked (now table) n (now marks) ⌝ }
+    ensures { λ r. ⌜ (r ≡ addedOf (withProperties (listOf (readSchema (now (schema .entry)))) (listOf (termsIn (now (table .entry)))))) × (now (table .exit) ≡ tableOf (withProperties (listOf (readSchema (now (schema .entry)))) (listOf (termsIn (now (table .entry)))))) × ((k : ℕ) → r ≡ Count k → Marked (now (table .exit)) k (now (marks .exit))) ⌝ }
 {
     let mut used = n;
     let mut at = 0;
@@ -70,7 +80,7 @@ pub fn add_properties(schema: &[u8], table: &mut [u8], n: usize) -> Added
         let field = at + 1;
         let end = field + TEXT_WIDTH;
         let slot = slot_of(0x11, &schema[field..end]);
-        let Added::Count(more) = add_term(table, used, &slot) else {
+        let Added::Count(more) = add_term(table, used, marks, &slot) else {
             return Added::Full;
         };
         used = more;
@@ -90,5 +100,6 @@ pub fn number_terms(terms: &[u8], schema: &[u8], table: &mut [u8]) -> Added
     let Added::Count(listed) = list_terms(terms, table) else {
         return Added::Full;
     };
-    add_properties(schema, table, listed)
+    let mut marks = mark_slots(table, listed);
+    add_properties(schema, table, listed, &mut marks)
 }

@@ -1,42 +1,81 @@
-// The schema's datatype of a URI, and the least type of a term.
+// The marks of a schema's URIs, the schema's datatype of a URI, and the least type of a term.
+use crate::marks::is_in;
+use crate::marks::mark_of;
 use crate::reading::ENTRY_WIDTH;
+use crate::table::slot_of;
+use definitions::ENTRY_LIMIT;
 use definitions::TEXT_WIDTH;
 ghost use mathlib.Core.Path.{_≡_};
 ghost use mathlib.Core.Bool.{true};
+ghost use Prim.Native.Nat.{_*_, _≤_};
+ghost use lib.ListN.{length};
+ghost use Rattle.definitions.specs.Limits.{entryLimit};
 ghost use Rattle.definitions.specs.Terms.{uriText, readSchema};
 ghost use Rattle.definitions.specs.Saved.{slotTerm};
 ghost use Rattle.records.specs.Answers.{isSome, schemaCode, leastCode};
+ghost use Rattle.records.specs.Marks.{markOf, uriSlot, entryWidth, MarkedEntries};
+ghost use Rattle.records.specs.Table.{GoodSlot};
 
-// The code of the datatype of the property that a URI field names, 0 for no property.
-// Ruled out: the datatype of the next property; the last entry's where several match.
-pub fn datatype_of(schema: &[u8], uri: &[u8]) -> u8
+// The mark of each entry's URI. Ruled out: the mark of the entry beside it; the last entry left out.
+pub fn mark_entries(schema: &[u8]) -> [u16; ENTRY_LIMIT]
     requires { ⌜ isSome (readSchema (now schema)) ≡ true ⌝ }
-    requires { ⌜ isSome (uriText (now uri)) ≡ true ⌝ }
-    ensures { λ r. ⌜ r ≡ schemaCode (readSchema (now (schema .entry))) (uriText (now (uri .entry))) ⌝ }
+    requires { ⌜ length (now schema) ≤ entryLimit * entryWidth ⌝ }
+    ensures { λ r. ⌜ MarkedEntries (now (schema .entry)) r ⌝ }
 {
-    let mut at = 0;
-    while at < schema.len() {
+    let entries = schema.len() / ENTRY_WIDTH;
+    let mut marks = [0u16; ENTRY_LIMIT];
+    let mut i = 0;
+    while i < entries {
+        let at = i * ENTRY_WIDTH;
         let field = at + 1;
         let end = field + TEXT_WIDTH;
-        if check::same(&schema[field..end], uri) {
-            return schema[end];
+        let slot = slot_of(0x11, &schema[field..end]);
+        marks[i] = mark_of(&slot);
+        i += 1;
+    }
+    marks
+}
+
+// The code of the datatype of the property that a URI field of that mark names, 0 for no property.
+// Ruled out: the datatype of the next property; that of another property with the same mark.
+pub fn datatype_of(schema: &[u8], marks: &[u16], uri: &[u8], mark: u16) -> u8
+    requires { ⌜ isSome (readSchema (now schema)) ≡ true ⌝ }
+    requires { ⌜ isSome (uriText (now uri)) ≡ true ⌝ }
+    requires { ⌜ MarkedEntries (now schema) (now marks) ⌝ }
+    requires { ⌜ mark ≡ markOf (uriSlot (now uri)) ⌝ }
+    ensures { λ r. ⌜ r ≡ schemaCode (readSchema (now (schema .entry))) (uriText (now (uri .entry))) ⌝ }
+{
+    let entries = schema.len() / ENTRY_WIDTH;
+    if !is_in(&marks[..entries], mark) {
+        return 0;
+    }
+    let mut i = 0;
+    while i < entries {
+        if marks[i] == mark {
+            let at = i * ENTRY_WIDTH;
+            let field = at + 1;
+            let end = field + TEXT_WIDTH;
+            if check::same(&schema[field..end], uri) {
+                return schema[end];
+            }
         }
-        at += ENTRY_WIDTH;
+        i += 1;
     }
     0
 }
 
 // The code of the least type of a slot's term: it has exactly the types above it.
 // Ruled out: anyURI for every URI; a decimal's type for an integer.
-pub fn least_type(schema: &[u8], slot: &[u8]) -> u8
+pub fn least_type(schema: &[u8], marks: &[u16], slot: &[u8]) -> u8
     requires { ⌜ isSome (readSchema (now schema)) ≡ true ⌝ }
-    requires { ⌜ isSome (slotTerm (now slot)) ≡ true ⌝ }
+    requires { ⌜ MarkedEntries (now schema) (now marks) ⌝ }
+    requires { ⌜ GoodSlot (now slot) ⌝ }
     ensures { λ r. ⌜ r ≡ leastCode (readSchema (now (schema .entry))) (slotTerm (now (slot .entry))) ⌝ }
 {
     let kind = slot[0];
     match kind {
         0x11 => {
-            let datatype = datatype_of(schema, &slot[1..41]);
+            let datatype = datatype_of(schema, marks, &slot[1..41], mark_of(slot));
             if datatype == 0 {
                 return 1;
             }

@@ -1,7 +1,8 @@
 // The term table: a record and zeros in each 49 bytes, zeros after the last.
-use crate::Added;
 use crate::Counted;
 use crate::Read;
+use crate::marks::find_slot;
+use crate::marks::mark_of;
 use crate::marks::mark_slots;
 use crate::marks::slot_again;
 use crate::numbers::is_zero;
@@ -10,14 +11,15 @@ use definitions::SLOT_WIDTH;
 use definitions::TERM_LIMIT;
 ghost use mathlib.Core.Path.{_≡_};
 ghost use mathlib.Core.List.{_∷_};
-ghost use Prim.Native.Nat.{_≤_, _<_};
+ghost use Prim.Native.Nat.{_+_, _<_};
 ghost use lib.ListN.{length};
 ghost use Rattle.definitions.specs.Limits.{slotWidth, termLimit, termTableWidth};
 ghost use Rattle.definitions.specs.Bytes.{filled};
 ghost use Rattle.definitions.specs.Terms.{sameTerm};
 ghost use Rattle.definitions.specs.Saved.{slotTerm, termsIn};
 ghost use Rattle.records.specs.Answers.{isSome, countOf, distinctIn};
-ghost use Rattle.records.specs.Table.{HoldsTerms, GoodSlot, numberFrom, numberIn, slotSet, withTerm, addedOf, tableOf};
+ghost use Rattle.records.specs.Marks.{Marked};
+ghost use Rattle.records.specs.Table.{HoldsTerms, GoodSlot, numberIn, slotSet};
 
 // Whether a slot holds a term. Ruled out: bytes after the record that are not zero; a slot of zeros.
 pub fn slot_ok(slot: &[u8]) -> bool
@@ -53,33 +55,17 @@ pub fn used_terms(table: &[u8]) -> Counted
     Counted::Count(n)
 }
 
-// The number of a slot's term among those from a number on, or the number of all.
-fn find_slot(table: &[u8], n: usize, slot: &[u8], from: usize) -> usize
-    requires { ⌜ HoldsTerms (now table) n ⌝ }
-    requires { ⌜ GoodSlot (now slot) ⌝ }
-    requires { ⌜ from ≤ n ⌝ }
-    ensures { λ r. ⌜ r ≡ numberFrom from (slotTerm (now (slot .entry))) (termsIn (now (table .entry))) ⌝ }
-{
-    let mut i = from;
-    while i < n {
-        let at = i * SLOT_WIDTH;
-        let end = at + SLOT_WIDTH;
-        if check::same(slot, &table[at..end]) {
-            return i;
-        }
-        i += 1;
-    }
-    n
-}
-
 // The number of a slot's term, or the number of terms where it is not there.
 // Ruled out: 0 for a term that is not there; the number of one like it.
-pub fn find_term(table: &[u8], n: usize, slot: &[u8]) -> usize
+pub fn find_term(table: &[u8], n: usize, marks: &[u16], slot: &[u8]) -> usize
     requires { ⌜ HoldsTerms (now table) n ⌝ }
+    requires { ⌜ length (now marks) ≡ termLimit ⌝ }
+    requires { ⌜ Marked (now table) n (now marks) ⌝ }
     requires { ⌜ GoodSlot (now slot) ⌝ }
     ensures { λ r. ⌜ r ≡ numberIn (slotTerm (now (slot .entry))) (termsIn (now (table .entry))) ⌝ }
 {
-    find_slot(table, n, slot, 0)
+    let mark = mark_of(slot);
+    find_slot(table, n, marks, slot, mark, 0)
 }
 
 // Whether the terms of a table are all different. Ruled out: neighbours alone compared; a slot compared with itself.
@@ -119,4 +105,17 @@ pub fn put_slot(table: &mut [u8], n: usize, slot: &[u8])
     let at = n * SLOT_WIDTH;
     let end = at + SLOT_WIDTH;
     bytes::copy(slot, &mut table[at..end]);
+}
+
+// Writes a slot and its mark. Ruled out: another slot's mark changed; the mark of the slot that was there.
+pub fn put_term(table: &mut [u8], n: usize, marks: &mut [u16], slot: &[u8])
+    requires { ⌜ length (now table) ≡ termTableWidth ⌝ }
+    requires { ⌜ n < termLimit ⌝ }
+    requires { ⌜ length (now marks) ≡ termLimit ⌝ }
+    requires { ⌜ Marked (now table) n (now marks) ⌝ }
+    requires { ⌜ length (now slot) ≡ slotWidth ⌝ }
+    ensures { λ _. ⌜ (now (table .exit) ≡ slotSet (now (table .entry)) n (now (slot .entry))) × Marked (now (table .exit)) (n + 1) (now (marks .exit)) ⌝ }
+{
+    put_slot(table, n, slot);
+    marks[n] = mark_of(slot);
 }

@@ -1,6 +1,7 @@
 pub mod Begins
 pub mod Looks
 pub mod Numbers
+pub mod MarkLaws
 pub mod QuadLaws
 pub mod StoreLaws
 pub mod Whole

@@ -1,2 +1,3 @@
+pub mod Marks
 pub mod Store
 pub mod Control

@@ -4,22 +4,9 @@ ghost use mathlib.Core.Bool.{_&&_};
 ghost use Prim.Native.Nat.{_≤_};
 ghost use lib.Dec.{eqb};
 ghost use lib.ListN.{length};
-ghost use Rattle.definitions.specs.Lists.{every, distinct, isIn};
+ghost use Rattle.definitions.specs.Lists.{every, distinct};
 ghost use Rattle.soundness.specs.Store.{uriNumber};
-
-// Whether a number is in a list. Ruled out: the last left out; the first alone compared.
-pub fn is_in(list: &[u16], x: u16) -> bool
-    ensures { λ r. ⌜ r ≡ isIn x (now (list .entry)) ⌝ }
-{
-    let mut i = 0;
-    while i < list.len() {
-        if list[i] == x {
-            return true;
-        }
-        i += 1;
-    }
-    false
-}
+use records::marks::is_in;
 
 // Whether the numbers of a list are all different.
 fn numbers_distinct(list: &[u16]) -> bool

@@ -9,11 +9,12 @@ ghost use Rattle.definitions.specs.Evaluate.{sameQuad};
 ghost use Rattle.definitions.specs.Saved.{quadsFrom, quadsIn};
 ghost use Rattle.records.specs.Answers.{isSome};
 ghost use Rattle.query.specs.Codes.{rowAt, rowsFrom};
+ghost use Rattle.soundness.specs.Marks.{quadMark, MarkedQuads};
 ghost use Rattle.soundness.specs.Store.{codeFits, pairNumbers, quadNumbers};
-use crate::graphs::is_in;
 use crate::graphs::is_uri;
 use definitions::QUAD_LIMIT;
 use definitions::QUAD_WIDTH;
+use records::marks::is_in;
 use records::numbers::is_zero;
 use records::numbers::word_at;
 
@@ -71,14 +72,53 @@ fn same_row(rows: &[u16], a: usize, b: usize) -> bool
     (rows[a] == rows[b]) & ((rows[a1] == rows[b1]) & (rows[a2] == rows[b2]))
 }
 
-// Whether a quad comes again after its place.
-fn quad_again(rows: &[u16], n: usize, i: usize) -> bool
+fn wider(x: u16) -> u32
+    ensures { λ r. ⌜ (r ≡ x) × (r < 65536) ⌝ }
+{
+    x as u32
+}
+
+// The mark of the quad at an offset: 16 bits of its numbers.
+fn mark_at(rows: &[u16], at: usize) -> u16
+    requires { ⌜ at + 4 ≤ length (now rows) ⌝ }
+    ensures { λ r. ⌜ r ≡ quadMark (rowAt (now (rows .entry)) at) ⌝ }
+{
+    let s = wider(rows[at + 1]);
+    let p = wider(rows[at + 2]);
+    let o = wider(rows[at + 3]);
+    let sum = (s * 31 + p) * 31 + o;
+    (sum % 65536) as u16
+}
+
+// The marks of the first quads: quads whose marks differ are told apart by them.
+fn mark_quads(rows: &[u16], n: usize) -> [u16; QUAD_LIMIT]
     requires { ⌜ 4 * n ≤ length (now rows) ⌝ }
+    requires { ⌜ n ≤ quadLimit ⌝ }
+    ensures { λ r. ⌜ MarkedQuads (now (rows .entry)) n r ⌝ }
+{
+    let mut marks = [0u16; QUAD_LIMIT];
+    let mut i = 0;
+    while i < n {
+        let at = 4 * i;
+        marks[i] = mark_at(rows, at);
+        i += 1;
+    }
+    marks
+}
+
+// Whether a quad comes again after its place.
+fn quad_again(rows: &[u16], n: usize, marks: &[u16], i: usize) -> bool
+    requires { ⌜ 4 * n ≤ length (now rows) ⌝ }
+    requires { ⌜ n ≤ length (now marks) ⌝ }
+    requires { ⌜ MarkedQuads (now rows) n (now marks) ⌝ }
     requires { ⌜ i < n ⌝ }
     ensures { λ r. ⌜ r ≡ some? (sameQuad (rowAt (now (rows .entry)) (4 * i))) (rowsFrom (n - (i + 1)) (now (rows .entry)) (4 * (i + 1))) ⌝ }
 {
-    let from = 4 * i;
     let mut j = i + 1;
+    if !is_in(&marks[j..n], marks[i]) {
+        return false;
+    }
+    let from = 4 * i;
     while j < n {
         let at = 4 * j;
         if same_row(rows, from, at) {
@@ -92,11 +132,13 @@ fn quad_again(rows: &[u16], n: usize, i: usize) -> bool
 // Whether the quads are all different. Ruled out: neighbours alone compared; quads that differ in their graph taken for one.
 pub fn quads_distinct(rows: &[u16], n: usize) -> bool
     requires { ⌜ 4 * n ≤ length (now rows) ⌝ }
+    requires { ⌜ n ≤ quadLimit ⌝ }
     ensures { λ r. ⌜ r ≡ distinct sameQuad (rowsFrom n (now (rows .entry)) 0) ⌝ }
 {
+    let marks = mark_quads(rows, n);
     let mut i = 0;
     while i < n {
-        if quad_again(rows, n, i) {
+        if quad_again(rows, n, &marks, i) {
             return false;
         }
         i += 1;

@@ -3,8 +3,25 @@ ghost use mathlib.Core.Path.{_≡_};
 ghost use Rattle.definitions.specs.Saved.{termsIn};
 ghost use Rattle.records.specs.Table.{HoldsTerms};
 ghost use Rattle.soundness.specs.Store.{beginsIn, termsSound};
+ghost use Rattle.definitions.specs.Bytes.{sameBytes};
 use definitions::SLOT_WIDTH;
 use records::table::slots_distinct;
+
+// Whether two slices have the same bytes. All are looked at, so that the compiler takes many at once.
+fn same_bytes(a: &[u8], b: &[u8]) -> bool
+    ensures { λ r. ⌜ r ≡ sameBytes (now (a .entry)) (now (b .entry)) ⌝ }
+{
+    if a.len() != b.len() {
+        return false;
+    }
+    let mut same = true;
+    let mut i = 0;
+    while i < a.len() {
+        same = same & (a[i] == b[i]);
+        i += 1;
+    }
+    same
+}
 
 // Whether a table begins with the terms of another.
 fn begins_with(loading: &[u8], known: usize, table: &[u8], count: usize) -> bool
@@ -16,7 +33,7 @@ fn begins_with(loading: &[u8], known: usize, table: &[u8], count: usize) -> bool
         return false;
     }
     let end = known * SLOT_WIDTH;
-    check::same(&loading[..end], &table[..end])
+    same_bytes(&loading[..end], &table[..end])
 }
 
 // Whether a table's terms are different ones that begin with those of loading.

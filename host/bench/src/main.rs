@@ -2,7 +2,7 @@
 //!
 //! Build for release. Each call is timed alone on a fresh copy of its buffers, made just before it, so inputs and tables
 //! are warm; the engines take turns, and the least of the repetitions is given, which other work on the machine
-//! disturbs least.
+//! disturbs least. An argument leaves out the workloads whose name does not have it in it.
 
 mod calls;
 mod stock;
@@ -17,6 +17,8 @@ struct Bench {
     engines: Vec<Box<dyn Engine>>,
     /// How long one workload may take for each engine.
     patience: Duration,
+    /// What a workload's name has in it.
+    only: String,
 }
 
 impl Bench {
@@ -42,6 +44,9 @@ impl Bench {
     }
 
     fn row(&self, name: &str, size: &str, station: &Station, call: &Call) {
+        if !name.contains(&self.only) {
+            return;
+        }
         let (times, answer) = self.time(station, call);
         assert_eq!(answer.code, 0, "{name}");
         // An each block over success: two steps for each answer, one for the end.
@@ -77,7 +82,8 @@ fn main() {
         println!("the archive is not linked: the second engine alone");
     }
     println!("least of the repetitions; buffers are fresh copies, warm\n{head}");
-    let bench = Bench { engines, patience: Duration::from_millis(250) };
+    let only = std::env::args().nth(1).unwrap_or_default();
+    let bench = Bench { engines, patience: Duration::from_millis(250), only };
     let reference = fast();
     for bytes in [512, 1024, 1536, 2048] {
         let station = calls::before_load(bytes);

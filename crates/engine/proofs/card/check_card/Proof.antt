@@ -1,6 +1,6 @@
 -- `engine::card::check_card` meets its contract.
 use borrow.Author.Needs.{needs}
-use Rattle.engine.proofs.CheckLaws.{card-refused, read-refused, holds, schema-reads, leasts-room, codes-fit, sorts-length, script-reads, types-refused, types-found}
+use Rattle.engine.proofs.CheckLaws.{card-refused, read-refused, holds, schema-reads, schema-short, leasts-room, codes-fit, sorts-length, script-reads, types-refused, types-found}
 use Rattle.engine.proofs.card.check_card.Statement.{statement}
 use Rattle.engine.proofs.card.check_card.Tie as tie
 
@@ -17,7 +17,7 @@ enum-known-ready-2 : tie.Need-enum-known-ready-2
 enum-known-ready-2 c = search needs
 
 least-codes-requires : tie.Need-least-codes-requires
-least-codes-requires c κs = (schema-reads _ _ _ (c .before .before .before .before .before .before .before .read-card .ensures .0) (c .before .before .before .ready2 .given .1) (c .before .before .before .before .before .before .before .read-card .ensures .1), (holds _ _ _ (c .before .before .before .before .before .before .before .read-card .ensures .0) (c .before .before .before .ready2 .given .1) (c .before .before .before .before .before .before .before .read-card .ensures .1), leasts-room _ _ _ (c .before .before .before .before .before .before .before .read-card .ensures .0) (c .before .before .before .ready2 .given .1) (c .before .before .before .before .before .before .before .read-card .ensures .1) (c .before .before .before .before .before .before .before .before .before .before .before .before .before .before .args .leasts .now) (c .before .before .before .before .before .before .before .before .before .before .before .before .before .before .pre .1)))
+least-codes-requires c κs = (schema-reads _ _ _ (c .before .before .before .before .before .before .before .read-card .ensures .0) (c .before .before .before .ready2 .given .1) (c .before .before .before .before .before .before .before .read-card .ensures .1), (schema-short _ _ _ (c .before .before .before .before .before .before .before .read-card .ensures .0) (c .before .before .before .ready2 .given .1) (c .before .before .before .before .before .before .before .read-card .ensures .1), (holds _ _ _ (c .before .before .before .before .before .before .before .read-card .ensures .0) (c .before .before .before .ready2 .given .1) (c .before .before .before .before .before .before .before .read-card .ensures .1), leasts-room _ _ _ (c .before .before .before .before .before .before .before .read-card .ensures .0) (c .before .before .before .ready2 .given .1) (c .before .before .before .before .before .before .before .read-card .ensures .1) (c .before .before .before .before .before .before .before .before .before .before .before .before .before .before .args .leasts .now) (c .before .before .before .before .before .before .before .before .before .before .before .before .before .before .pre .1))))
 
 slice-reshare-prefix-work-out : tie.Need-slice-reshare-prefix-work-out
 slice-reshare-prefix-work-out c = codes-fit _ _ _ (c .before .before .before .before .before .before .before .before .before .before .read-card .ensures .0) (c .before .before .before .before .before .before .ready2 .given .1) (c .before .before .before .before .before .before .before .before .before .before .read-card .ensures .1) (c .before .before .before .before .before .before .before .before .before .before .before .before .before .before .before .before .before .args .leasts .now) (c .before .before .least-codes .ensures)

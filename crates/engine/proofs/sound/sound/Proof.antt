@@ -4,7 +4,7 @@ use mathlib.Core.Path.{_≡_, sym}
 use lib.ListN.{length}
 use borrow.Author.Tests.{not-true, not-false}
 use Rattle.records.proofs.TableLaws.{holds-few}
-use Rattle.engine.proofs.SoundLaws.{not-checked, no-terms, other-types, schema-good, script-good, loading-holds, table-holds, no-store, lends}
+use Rattle.engine.proofs.SoundLaws.{not-checked, no-terms, other-types, schema-good, schema-short, script-good, loading-holds, table-holds, no-store, lends}
 use borrow.Author.Needs.{needs}
 use Rattle.engine.proofs.sound.sound.Statement.{statement}
 use Rattle.engine.proofs.sound.sound.Tie as tie
@@ -86,7 +86,7 @@ least-codes-requires c κs =
     let c₄ = c₃ .before .before .before in
     let c₅ = c₄ .before .before in
     let c₆ = c₅ .before .before .before .before .before .before .before .before .before .before in
-    let e = c₅ .check-card .ensures .0 in let h = table-holds _ _ _ _ (c₆ .args .store .now) (c₆ .args .saved) e (c₃ .if1 .left) (c₆ .pre .0) (c₂ .used-terms .ensures) (c₁ .count .given .1) in (schema-good _ _ _ (c₆ .args .table .now) (c₆ .args .store .now) (c₆ .args .saved) e (c₃ .if1 .left), (h, omega (arith, holds-few _ _ h, c₄ .leasts .given, c₆ .pre .1 .1 .1)))
+    let e = c₅ .check-card .ensures .0 in let h = table-holds _ _ _ _ (c₆ .args .store .now) (c₆ .args .saved) e (c₃ .if1 .left) (c₆ .pre .0) (c₂ .used-terms .ensures) (c₁ .count .given .1) in (schema-good _ _ _ (c₆ .args .table .now) (c₆ .args .store .now) (c₆ .args .saved) e (c₃ .if1 .left), (schema-short _ _ _ (c₆ .args .table .now) (c₆ .args .store .now) (c₆ .args .saved) e (c₃ .if1 .left), (h, omega (arith, holds-few _ _ h, c₄ .leasts .given, c₆ .pre .1 .1 .1))))
 
 slice-aggregate-store-sound : tie.Need-slice-aggregate-store-sound
 slice-aggregate-store-sound c = search needs

@@ -5,11 +5,6 @@ use Rattle.machine.proofs.TakeLaws.{take-skipped, take-over, take-store
 use borrow.Author.Needs.{needs}
 use Rattle.machine.proofs.page.take_record.Statement.{statement}
 use Rattle.machine.proofs.page.take_record.Tie as tie
-use Rattle.machine.proofs.page.take_record.Reads as reads
-use Rattle.machine.proofs.page.take_record.Lts as lts
-use Rattle.machine.proofs.page.number_triple.Reads as number-triple-reads
-use Rattle.machine.proofs.page.store_quad.Reads as store-quad-reads
-use Rattle.machine.proofs.page.well_typed.Reads as well-typed-reads
 
 well-typed-requires : tie.Need-well-typed-requires
 well-typed-requires c κs = search needs
@@ -18,7 +13,7 @@ add-more : tie.Need-add-more
 add-more c = search needs
 
 returns : tie.Need-returns
-returns c = ((λ S x k e r h. take-skipped S (c .before .before .before .before .before .before .args .graph) x k (c .before .before .before .before .before .before .args .counts) (c .before .before .before .before .before .before .args .terms .now) (c .before .before .before .before .before .before .args .quads .now) h (sym (c .before .well-typed .ensures S x e r) ∙ not-true _ (c .if1 .taken))), omega arith)
+returns c = ((λ S x k e r h. take-skipped S (c .before .before .before .before .before .before .before .before .args .graph) x k (c .before .before .before .before .before .before .before .before .args .counts) (c .before .before .before .before .before .before .before .before .args .terms .now) (c .before .before .before .before .before .before .before .before .args .quads .now) h (sym (c .before .well-typed .ensures S x e r) ∙ not-true _ (c .if1 .taken))), (c .before .before .before .before .before .before .before .before .pre .1 .1 .1 .1 .0, omega arith))
 
 number-triple-requires : tie.Need-number-triple-requires
 number-triple-requires c κs = search needs
@@ -26,20 +21,26 @@ number-triple-requires c κs = search needs
 same-length : tie.Need-same-length
 same-length c = search needs
 
-returns-2 : tie.Need-returns-2
-returns-2 c = ((λ S x k e r h. take-over S (c .before .before .before .before .before .before .before .before .before .before .before .args .graph) x k (c .before .before .before .before .before .before .before .before .before .before .before .args .counts) (c .before .before .before .before .before .before .before .before .before .before .before .args .terms .now) (c .before .before .before .before .before .before .before .before .before .before .before .args .quads .now) h (sym (c .before .before .before .before .before .before .well-typed .ensures S x e r) ∙ not-false _ (c .before .before .before .before .before .if1 .left)) (c .before .before .before .number-triple .result) _ (c .before .before .before .number-triple .ensures (k .terms) x (h .terms) r) (c .if2 .taken)), omega arith)
-
-store-quad-requires : tie.Need-store-quad-requires
-store-quad-requires c κs = search needs
-
 same-length-2 : tie.Need-same-length-2
 same-length-2 c = search needs
+
+returns-2 : tie.Need-returns-2
+returns-2 c = ((λ S x k e r h. take-over S (c .before .before .before .before .before .before .before .before .before .before .before .before .before .before .before .before .args .graph) x k (c .before .before .before .before .before .before .before .before .before .before .before .before .before .before .before .before .args .counts) (c .before .before .before .before .before .before .before .before .before .before .before .before .before .before .before .before .args .terms .now) (c .before .before .before .before .before .before .before .before .before .before .before .before .before .before .before .before .args .quads .now) h (sym (c .before .before .before .before .before .before .before .before .before .well-typed .ensures S x e r) ∙ not-false _ (c .before .before .before .before .before .before .before .before .if1 .left)) (c .before .before .before .before .before .number-triple .result) _ (c .before .before .before .before .before .number-triple .ensures .0 (k .terms) x (h .terms) r) (c .if2 .taken)), (c .before .before .before .before .before .number-triple .ensures .1, omega arith))
+
+store-quad-requires : tie.Need-store-quad-requires
+store-quad-requires c κs = (_, c .before .before .before .before .before .before .before .before .before .before .before .before .before .before .before .before .before .pre .1 .1 .1 .0 .1 .quads)
 
 same-length-3 : tie.Need-same-length-3
 same-length-3 c = search needs
 
+same-length-4 : tie.Need-same-length-4
+same-length-4 c = search needs
+
+same-length-5 : tie.Need-same-length-5
+same-length-5 c = search needs
+
 returns-3 : tie.Need-returns-3
-returns-3 c = ((λ S x k e r h. take-stored S (c .before .before .before .before .before .before .before .before .before .before .before .before .before .before .before .args .graph) x k (c .before .before .before .before .before .before .before .before .before .before .before .before .before .before .before .args .counts) (c .before .before .before .before .before .before .before .before .before .before .before .before .before .before .before .args .terms .now) (c .before .before .before .before .before .before .before .before .before .before .before .before .before .before .before .args .quads .now) h (sym (c .before .before .before .before .before .before .before .before .before .before .well-typed .ensures S x e r) ∙ not-false _ (c .before .before .before .before .before .before .before .before .before .if1 .left)) (c .before .before .before .before .before .before .before .number-triple .result) _ (c .before .before .before .before .before .before .before .number-triple .ensures (k .terms) x (h .terms) r) (c .before .before .before .before .if2 .left) (c .before .before .store-quad .result) _ (c .before .before .store-quad .ensures (k .quads) (h .quads))), omega arith)
+returns-3 c = ((λ S x k e r h. take-stored S (c .before .before .before .before .before .before .before .before .before .before .before .before .before .before .before .before .before .before .before .before .args .graph) x k (c .before .before .before .before .before .before .before .before .before .before .before .before .before .before .before .before .before .before .before .before .args .counts) (c .before .before .before .before .before .before .before .before .before .before .before .before .before .before .before .before .before .before .before .before .args .terms .now) (c .before .before .before .before .before .before .before .before .before .before .before .before .before .before .before .before .before .before .before .before .args .quads .now) h (sym (c .before .before .before .before .before .before .before .before .before .before .before .before .before .well-typed .ensures S x e r) ∙ not-false _ (c .before .before .before .before .before .before .before .before .before .before .before .before .if1 .left)) (c .before .before .before .before .before .before .before .before .before .number-triple .result) _ (c .before .before .before .before .before .before .before .before .before .number-triple .ensures .0 (k .terms) x (h .terms) r) (c .before .before .before .before .if2 .left) (c .before .before .store-quad .result) _ (c .before .before .store-quad .ensures (k .quads) (h .quads))), (c .before .before .before .before .before .before .before .before .before .number-triple .ensures .1, omega arith))
 
 pub take-record-spec : {M : Type 1} → statement M
 take-record-spec =
@@ -50,8 +51,10 @@ take-record-spec =
     returns
     number-triple-requires
     same-length
+    same-length-2
     returns-2
     store-quad-requires
-    same-length-2
     same-length-3
+    same-length-4
+    same-length-5
     returns-3)

@@ -1,20 +1,34 @@
-use native.Mathlib.Omega.{arith}
-use mathlib.Core.Path.{ap}
+use mathlib.Core.Path.{ap, _∙_}
 use Rattle.records.specs.Answers.{isSome}
-use Rattle.machine.proofs.TakeLaws.{record-ends, property-uri, typed-is}
+use Rattle.records.specs.Marks.{markOf}
+use Rattle.machine.proofs.TakeLaws.{property-uri, typed-is}
 use borrow.Author.Needs.{needs}
 use Rattle.machine.proofs.page.well_typed.Statement.{statement}
 use Rattle.machine.proofs.page.well_typed.Tie as tie
-use Rattle.machine.proofs.page.well_typed.Reads as reads
-use Rattle.machine.proofs.page.well_typed.Lts as lts
-use Rattle.machine.proofs.page.object_code.Reads as object-code-reads
-use Rattle.records.proofs.schema.datatype_of.Reads as datatype-of-reads
 
 add-middle : tie.Need-add-middle
 add-middle c = search needs
 
 add-last : tie.Need-add-last
 add-last c = search needs
+
+sub-slot-of : tie.Need-sub-slot-of
+sub-slot-of c = search needs
+
+part-slot-of-start : tie.Need-part-slot-of-start
+part-slot-of-start c = search needs
+
+part-slot-of-end : tie.Need-part-slot-of-end
+part-slot-of-end c = search needs
+
+slot-of-requires : tie.Need-slot-of-requires
+slot-of-requires c κs = search needs
+
+slice-aggregate-mark-of : tie.Need-slice-aggregate-mark-of
+slice-aggregate-mark-of c = search needs
+
+mark-of-requires : tie.Need-mark-of-requires
+mark-of-requires c κs = search needs
 
 sub-datatype-of : tie.Need-sub-datatype-of
 sub-datatype-of c = search needs
@@ -27,7 +41,7 @@ part-datatype-of-end c = search needs
 
 datatype-of-requires : tie.Need-datatype-of-requires
 unfolding isSome
-datatype-of-requires c κs = (ap isSome (c .before .before .before .pre .1 .1), property-uri (c .before .before .before .args .page .now) (c .before .before .before .args .at) (c .before .before .before .args .next) (c .before .before .before .pre .0 .0) (c .before .before .before .pre .0 .1))
+datatype-of-requires c κs = (ap isSome (c .before .before .before .before .before .before .before .before .pre .1 .0 .1), (property-uri (c .before .before .before .before .before .before .before .before .args .page .now) (c .before .before .before .before .before .before .before .before .args .at) (c .before .before .before .before .before .before .before .before .args .next) (c .before .before .before .before .before .before .before .before .pre .0 .0) (c .before .before .before .before .before .before .before .before .pre .0 .1), (c .before .before .before .before .before .before .before .before .pre .1 .1, c .before .mark-of .ensures ∙ ap markOf (c .before .before .before .slot-of .ensures))))
 
 shared-slice-read-object-code : tie.Need-shared-slice-read-object-code
 shared-slice-read-object-code c = search needs
@@ -36,7 +50,7 @@ object-code-requires : tie.Need-object-code-requires
 object-code-requires c κs = search needs
 
 returns : tie.Need-returns
-returns c = λ S x e r. typed-is (c .before .before .before .before .before .before .args .schema .now) (c .before .before .before .before .before .before .args .page .now) S (c .before .before .before .before .before .before .args .at) (c .before .before .before .before .before .before .args .next) x e r _ _ (c .before .before .datatype-of .ensures) (c .object-code .ensures (r .datatype) (r .kind))
+returns c = λ S x e r. typed-is (c .before .before .before .before .before .before .before .before .before .before .before .args .schema .now) (c .before .before .before .before .before .before .before .before .before .before .before .args .page .now) S (c .before .before .before .before .before .before .before .before .before .before .before .args .at) (c .before .before .before .before .before .before .before .before .before .before .before .args .next) x e r _ _ (c .before .before .datatype-of .ensures) (c .object-code .ensures (r .datatype) (r .kind))
 
 pub well-typed-spec : {M : Type 1} → statement M
 well-typed-spec =
@@ -44,6 +58,12 @@ well-typed-spec =
     (tie.spec
     add-middle
     add-last
+    sub-slot-of
+    part-slot-of-start
+    part-slot-of-end
+    slot-of-requires
+    slice-aggregate-mark-of
+    mark-of-requires
     sub-datatype-of
     part-datatype-of-start
     part-datatype-of-end

@@ -1,5 +1,5 @@
 -- `scan::better` meets its contract: one law for each way through. Assumes nothing.
-use Rattle.query.proofs.RowLaws.{row-taken, row-left, miss-subject, miss-property, miss-object}
+use Rattle.query.proofs.RowLaws.{row-taken, row-left, miss-graph, miss-subject, miss-property, miss-object}
 use borrow.Author.Needs.{needs}
 use Rattle.query.proofs.scan.better.Statement.{statement}
 use Rattle.query.proofs.scan.better.Tie as tie
@@ -67,17 +67,23 @@ shared-slice-read-wide-4 c = search needs
 wide-requires-4 : tie.Need-wide-requires-4
 wide-requires-4 c κs = search needs
 
+misses-requires-4 : tie.Need-misses-requires-4
+misses-requires-4 c κs = search needs
+
+returns-4 : tie.Need-returns-4
+returns-4 c = miss-graph _ _ _ (c .before .before .before .before .before .before .before .before .before .before .before .before .before .before .before .before .before .args .quads .now) (c .before .before .before .before .before .before .before .before .before .before .before .before .before .before .before .before .before .args .at) _ (c .before .before .wide4 .ensures) (c .before .misses4 .ensures (c .if4 .taken))
+
 candidate-requires : tie.Need-candidate-requires
 candidate-requires c κs = search needs
 
 row-stands-requires : tie.Need-row-stands-requires
 row-stands-requires c κs = search needs
 
-returns-4 : tie.Need-returns-4
-returns-4 c = row-taken _ _ _ (c .before .before .before .before .before .before .before .before .before .before .before .before .before .before .before .before .before .before .args .quads .now) (c .before .before .before .before .before .before .before .before .before .before .before .before .before .before .before .before .before .before .args .at) _ (c .before .before .before .wide4 .ensures) (c .before .before .before .before .before .before .before .before .before .before .before .before .before .before .before .wide .ensures) (c .before .before .before .before .before .before .before .wide3 .ensures) (c .before .before .before .before .before .before .before .before .before .before .before .wide2 .ensures) _ (c .before .before .candidate .ensures) _ (c .before .row-stands .ensures) (c .if4 .taken)
-
 returns-5 : tie.Need-returns-5
-returns-5 c = row-left _ _ _ (c .before .before .before .before .before .before .before .before .before .before .before .before .before .before .before .before .before .before .args .quads .now) (c .before .before .before .before .before .before .before .before .before .before .before .before .before .before .before .before .before .before .args .at) _ (c .before .before .before .wide4 .ensures) (c .before .before .before .before .before .before .before .before .before .before .before .before .before .before .before .wide .ensures) (c .before .before .before .before .before .before .before .wide3 .ensures) (c .before .before .before .before .before .before .before .before .before .before .before .wide2 .ensures) _ (c .before .before .candidate .ensures) _ (c .before .row-stands .ensures) (c .if4 .left)
+returns-5 c = row-taken _ _ _ (c .before .before .before .before .before .before .before .before .before .before .before .before .before .before .before .before .before .before .before .before .args .quads .now) (c .before .before .before .before .before .before .before .before .before .before .before .before .before .before .before .before .before .before .before .before .args .at) _ (c .before .before .before .before .before .wide4 .ensures) (c .before .before .before .before .before .before .before .before .before .before .before .before .before .before .before .before .before .wide .ensures) (c .before .before .before .before .before .before .before .before .before .wide3 .ensures) (c .before .before .before .before .before .before .before .before .before .before .before .before .before .wide2 .ensures) _ (c .before .before .candidate .ensures) _ (c .before .row-stands .ensures) (c .if5 .taken)
+
+returns-6 : tie.Need-returns-6
+returns-6 c = row-left _ _ _ (c .before .before .before .before .before .before .before .before .before .before .before .before .before .before .before .before .before .before .before .before .args .quads .now) (c .before .before .before .before .before .before .before .before .before .before .before .before .before .before .before .before .before .before .before .before .args .at) _ (c .before .before .before .before .before .wide4 .ensures) (c .before .before .before .before .before .before .before .before .before .before .before .before .before .before .before .before .before .wide .ensures) (c .before .before .before .before .before .before .before .before .before .wide3 .ensures) (c .before .before .before .before .before .before .before .before .before .before .before .before .before .wide2 .ensures) _ (c .before .before .candidate .ensures) _ (c .before .row-stands .ensures) (c .if5 .left)
 
 pub better-spec : {M : Type 1} → statement M
 better-spec =
@@ -104,7 +110,9 @@ better-spec =
     mul-wide-4
     shared-slice-read-wide-4
     wide-requires-4
+    misses-requires-4
+    returns-4
     candidate-requires
     row-stands-requires
-    returns-4
-    returns-5)
+    returns-5
+    returns-6)

@@ -1,55 +1,76 @@
--- `scan::scan` meets its contract. The loop's invariant: what is left, from the best so far, gives what the whole gives. Assumes nothing.
-use mathlib.Core.Path.{_≡_, refl}
-use Prim.Native.Nat.{_*_, _-_, _≤_}
+-- `scan::scan` meets its contract: one of the two loops, at a place that is fixed. Assumes nothing.
+use mathlib.Core.Path.{refl}
 use native.Mathlib.Omega.{arith}
-use Rattle.query.specs.Seek.{scan as isScan}
-use Rattle.query.specs.Codes.{placesAt, rowsFrom}
-use Rattle.query.proofs.RowLaws.{scan-start, scan-turn, scan-ends, scan-done}
+use Rattle.query.proofs.RowLaws.{scan-done, fixed-graph, fixed-subject, fixed-property, fixed-object}
+use borrow.Author.Needs.{needs}
 use Rattle.query.proofs.scan.scan.Statement.{statement}
 use Rattle.query.proofs.scan.scan.Tie as tie
 
-abbrev Inv-loop : tie.InvT-loop
-Inv-loop quads n codes lo end best₀ i₀ at₀ best i at =
-    (at ≡ 4 * i) × (i ≤ n) × (isScan (placesAt codes) lo end (rowsFrom n quads 0) ≡ isScan (placesAt codes) lo best (rowsFrom (n - i) quads at))
+returns : tie.Need-returns
+returns c = scan-done _ _ _ _ _ refl (c .if1 .taken)
 
-abbrev μ-loop : tie.MeasureT-loop
-μ-loop quads n codes lo end best₀ i₀ at₀ best i at = n - i
+sought-at-requires : tie.Need-sought-at-requires
+sought-at-requires c κs = search needs
 
-loop-holds : tie.Need-loop-holds Inv-loop μ-loop
-loop-holds c = (refl, omega arith, scan-start _ _ _ _ 0 _)
+cast-scan-fixed : tie.Need-cast-scan-fixed
+cast-scan-fixed c = search needs
 
-returns : tie.Need-returns Inv-loop μ-loop
-returns c = scan-done _ _ _ _ _ (c .before .before .loop .inv .2) (c .if1 .taken)
+scan-fixed-requires : tie.Need-scan-fixed-requires
+scan-fixed-requires c κs = (c .before .before .before .before .before .before .pre, (omega arith, (fixed-subject _ (c .before .if2 .taken), c .before .before .before .sought-at .ensures)))
 
-better-requires : tie.Need-better-requires Inv-loop μ-loop
-better-requires c κs = omega arith
+returns-2 : tie.Need-returns-2
+returns-2 c = search needs
 
-add-at : tie.Need-add-at Inv-loop μ-loop
-add-at c = omega arith
+cast-scan-fixed-2 : tie.Need-cast-scan-fixed-2
+cast-scan-fixed-2 c = search needs
 
-add-i : tie.Need-add-i Inv-loop μ-loop
-add-i c = omega arith
+scan-fixed-requires-2 : tie.Need-scan-fixed-requires-2
+scan-fixed-requires-2 c κs = (c .before .before .before .before .before .before .before .before .pre, (omega arith, (fixed-object _ (c .before .if3 .taken), c .before .before .before .before .before .sought-at .ensures)))
 
-loop-less : tie.Need-loop-less Inv-loop μ-loop
-loop-less c = omega arith
+returns-3 : tie.Need-returns-3
+returns-3 c = search needs
 
-loop-again : tie.Need-loop-again Inv-loop μ-loop
-loop-again c = (omega arith, omega arith, scan-turn _ _ _ _ _ _ _ _ (c .before .before .before .loop .inv .2) (c .before .before .loop-test .taken) _ (c .better .ensures))
+cast-scan-fixed-3 : tie.Need-cast-scan-fixed-3
+cast-scan-fixed-3 c = search needs
 
-returns-2 : tie.Need-returns-2 Inv-loop μ-loop
-returns-2 c = scan-ends _ _ _ _ _ _ _ _ (c .before .loop .inv .2) (c .loop-test .left)
+scan-fixed-requires-3 : tie.Need-scan-fixed-requires-3
+scan-fixed-requires-3 c κs = (c .before .before .before .before .before .before .before .before .before .before .pre, (omega arith, (fixed-property _ (c .before .if4 .taken), c .before .before .before .before .before .before .before .sought-at .ensures)))
+
+returns-4 : tie.Need-returns-4
+returns-4 c = search needs
+
+cast-scan-fixed-4 : tie.Need-cast-scan-fixed-4
+cast-scan-fixed-4 c = search needs
+
+scan-fixed-requires-4 : tie.Need-scan-fixed-requires-4
+scan-fixed-requires-4 c κs = (c .before .before .before .before .before .before .before .before .before .before .before .before .pre, (omega arith, (fixed-graph _ (c .before .if5 .taken), c .before .before .before .before .before .before .before .before .before .sought-at .ensures)))
+
+returns-5 : tie.Need-returns-5
+returns-5 c = search needs
+
+scan-all-requires : tie.Need-scan-all-requires
+scan-all-requires c κs = search needs
+
+returns-6 : tie.Need-returns-6
+returns-6 c = search needs
 
 pub scan-spec : {M : Type 1} → statement M
 scan-spec =
     tie.close
     (tie.spec
-    Inv-loop
-    μ-loop
-    loop-holds
     returns
-    better-requires
-    add-at
-    add-i
-    loop-less
-    loop-again
-    returns-2)
+    sought-at-requires
+    cast-scan-fixed
+    scan-fixed-requires
+    returns-2
+    cast-scan-fixed-2
+    scan-fixed-requires-2
+    returns-3
+    cast-scan-fixed-3
+    scan-fixed-requires-3
+    returns-4
+    cast-scan-fixed-4
+    scan-fixed-requires-4
+    returns-5
+    scan-all-requires
+    returns-6)

@@ -14,6 +14,7 @@ use Rattle.query.proofs.seek.seek.Kinds as seek-kinds
 use Rattle.query.proofs.seek.+seek.Lts-seek as seek-lts
 use Rattle.query.proofs.names.names_at.Reads as names-at-reads
 use Rattle.query.proofs.scan.scan.Reads as scan-reads
+use Rattle.query.proofs.seek.second_from.Reads as second-from-reads
 use Rattle.query.proofs.seek.seek_filter.Reads as seek-filter-reads
 use Rattle.query.proofs.seek.smaller.Reads as smaller-reads
 use Rattle.query.proofs.seek.+seek.{statement}
@@ -35,6 +36,8 @@ seek-shared-slice-read-kind : (t : ℕ) → seek-lts.Need-shared-slice-read-kind
   scan-reads.Learnt,
   seek-below t,
   seek.Post,
+  second-from-reads.Asked,
+  second-from-reads.Learnt,
   smaller-reads.Asked,
   smaller-reads.Learnt,
   seek-filter-reads.Asked,
@@ -49,6 +52,8 @@ seek-add-first : (t : ℕ) → seek-lts.Need-add-first (
   scan-reads.Learnt,
   seek-below t,
   seek.Post,
+  second-from-reads.Asked,
+  second-from-reads.Learnt,
   smaller-reads.Asked,
   smaller-reads.Learnt,
   seek-filter-reads.Asked,
@@ -63,6 +68,8 @@ seek-sub-below : (t : ℕ) → seek-lts.Need-sub-below (
   scan-reads.Learnt,
   seek-below t,
   seek.Post,
+  second-from-reads.Asked,
+  second-from-reads.Learnt,
   smaller-reads.Asked,
   smaller-reads.Learnt,
   seek-filter-reads.Asked,
@@ -77,6 +84,8 @@ seek-names-at-requires : (t : ℕ) → seek-lts.Need-names-at-requires (
   scan-reads.Learnt,
   seek-below t,
   seek.Post,
+  second-from-reads.Asked,
+  second-from-reads.Learnt,
   smaller-reads.Asked,
   smaller-reads.Learnt,
   seek-filter-reads.Asked,
@@ -91,6 +100,8 @@ seek-scan-requires : (t : ℕ) → seek-lts.Need-scan-requires (
   scan-reads.Learnt,
   seek-below t,
   seek.Post,
+  second-from-reads.Asked,
+  second-from-reads.Learnt,
   smaller-reads.Asked,
   smaller-reads.Learnt,
   seek-filter-reads.Asked,
@@ -105,6 +116,8 @@ seek-seek-requires : (t : ℕ) → seek-lts.Need-seek-requires (
   scan-reads.Learnt,
   seek-below t,
   seek.Post,
+  second-from-reads.Asked,
+  second-from-reads.Learnt,
   smaller-reads.Asked,
   smaller-reads.Learnt,
   seek-filter-reads.Asked,
@@ -119,6 +132,8 @@ seek-seek-requires-2 : (t : ℕ) → seek-lts.Need-seek-requires-2 (
   scan-reads.Learnt,
   seek-below t,
   seek.Post,
+  second-from-reads.Asked,
+  second-from-reads.Learnt,
   smaller-reads.Asked,
   smaller-reads.Learnt,
   seek-filter-reads.Asked,
@@ -133,12 +148,30 @@ seek-seek-requires-3 : (t : ℕ) → seek-lts.Need-seek-requires-3 (
   scan-reads.Learnt,
   seek-below t,
   seek.Post,
+  second-from-reads.Asked,
+  second-from-reads.Learnt,
   smaller-reads.Asked,
   smaller-reads.Learnt,
   seek-filter-reads.Asked,
   seek-filter-reads.Learnt,
 ) (seek-at t) seek.Post
 seek-seek-requires-3 t c κs = (omega (arith, (query-left _ _ _ _ (c .before .before .before .before .before .before .pre .1 .0))), (first-loads _ _ _ _ (query-is _ _ _ _ (query-left _ _ _ _ (c .before .before .before .before .before .before .pre .1 .0)) 0x63 (c .match .keys3)) (c .before .before .before .before .before .before .pre .1 .0), ((c .before .before .before .before .before .before .pre .1 .1 .0), (c .before .before .before .before .before .before .pre .1 .1 .1))))
+
+seek-second-from-requires : (t : ℕ) → seek-lts.Need-second-from-requires (
+  names-at-reads.Asked,
+  names-at-reads.Learnt,
+  scan-reads.Asked,
+  scan-reads.Learnt,
+  seek-below t,
+  seek.Post,
+  second-from-reads.Asked,
+  second-from-reads.Learnt,
+  smaller-reads.Asked,
+  smaller-reads.Learnt,
+  seek-filter-reads.Asked,
+  seek-filter-reads.Learnt,
+) (seek-at t) seek.Post
+seek-second-from-requires t c κs = tt
 
 seek-seek-requires-4 : (t : ℕ) → seek-lts.Need-seek-requires-4 (
   names-at-reads.Asked,
@@ -147,12 +180,14 @@ seek-seek-requires-4 : (t : ℕ) → seek-lts.Need-seek-requires-4 (
   scan-reads.Learnt,
   seek-below t,
   seek.Post,
+  second-from-reads.Asked,
+  second-from-reads.Learnt,
   smaller-reads.Asked,
   smaller-reads.Learnt,
   seek-filter-reads.Asked,
   seek-filter-reads.Learnt,
 ) (seek-at t) seek.Post
-seek-seek-requires-4 t c κs = (omega (arith, (query-left _ _ _ _ (c .before .before .before .before .before .before .before .pre .1 .0))), (second-walks _ _ _ _ (query-is _ _ _ _ (query-left _ _ _ _ (c .before .before .before .before .before .before .before .pre .1 .0)) 0x63 (c .before .match .keys3)) (c .seek3 .ensures) (c .before .before .before .before .before .before .before .pre .1 .0), ((c .before .before .before .before .before .before .before .pre .1 .1 .0), (c .before .before .before .before .before .before .before .pre .1 .1 .1))))
+seek-seek-requires-4 t c κs = (omega (arith, (query-left _ _ _ _ (c .before .before .before .before .before .before .before .before .pre .1 .0))), (second-walks _ _ _ _ (query-is _ _ _ _ (query-left _ _ _ _ (c .before .before .before .before .before .before .before .before .pre .1 .0)) 0x63 (c .before .before .match .keys3)) (c .before .seek3 .ensures) (c .before .before .before .before .before .before .before .before .pre .1 .0), ((c .before .before .before .before .before .before .before .before .pre .1 .1 .0), (c .before .before .before .before .before .before .before .before .pre .1 .1 .1))))
 
 seek-smaller-requires : (t : ℕ) → seek-lts.Need-smaller-requires (
   names-at-reads.Asked,
@@ -161,6 +196,8 @@ seek-smaller-requires : (t : ℕ) → seek-lts.Need-smaller-requires (
   scan-reads.Learnt,
   seek-below t,
   seek.Post,
+  second-from-reads.Asked,
+  second-from-reads.Learnt,
   smaller-reads.Asked,
   smaller-reads.Learnt,
   seek-filter-reads.Asked,
@@ -175,6 +212,8 @@ seek-seek-filter-requires : (t : ℕ) → seek-lts.Need-seek-filter-requires (
   scan-reads.Learnt,
   seek-below t,
   seek.Post,
+  second-from-reads.Asked,
+  second-from-reads.Learnt,
   smaller-reads.Asked,
   smaller-reads.Learnt,
   seek-filter-reads.Asked,
@@ -189,6 +228,8 @@ seek-returns : (t : ℕ) → seek-lts.Need-returns (
   scan-reads.Learnt,
   seek-below t,
   seek.Post,
+  second-from-reads.Asked,
+  second-from-reads.Learnt,
   smaller-reads.Asked,
   smaller-reads.Learnt,
   seek-filter-reads.Asked,
@@ -203,6 +244,8 @@ seek-returns-2 : (t : ℕ) → seek-lts.Need-returns-2 (
   scan-reads.Learnt,
   seek-below t,
   seek.Post,
+  second-from-reads.Asked,
+  second-from-reads.Learnt,
   smaller-reads.Asked,
   smaller-reads.Learnt,
   seek-filter-reads.Asked,
@@ -217,12 +260,14 @@ seek-returns-3 : (t : ℕ) → seek-lts.Need-returns-3 (
   scan-reads.Learnt,
   seek-below t,
   seek.Post,
+  second-from-reads.Asked,
+  second-from-reads.Learnt,
   smaller-reads.Asked,
   smaller-reads.Learnt,
   seek-filter-reads.Asked,
   seek-filter-reads.Learnt,
 ) (seek-at t) seek.Post
-seek-returns-3 t c = two-walked _ _ _ _ (query-is _ _ _ _ (query-left _ _ _ _ (c .before .before .before .before .before .before .before .before .before .pre .1 .0)) 0x63 (c .before .before .before .match .keys3)) (c .before .before .seek3 .ensures) (c .before .seek4 .ensures) (λ q r h k. union-seeks _ _ _ _ (c .before .before .before .before .before .before .before .before .before .pre .1 .1 .0) _ _ q r _ _ _ _ (c .smaller .ensures) h k)
+seek-returns-3 t c = two-walked _ _ _ _ (query-is _ _ _ _ (query-left _ _ _ _ (c .before .before .before .before .before .before .before .before .before .before .pre .1 .0)) 0x63 (c .before .before .before .before .match .keys3)) (c .before .before .before .seek3 .ensures) (c .before .seek4 .ensures) (λ q r h k. union-seeks _ _ _ _ (c .before .before .before .before .before .before .before .before .before .before .pre .1 .1 .0) _ _ q r _ _ _ _ _ (c .smaller .ensures) (c .before .before .second-from .ensures) h k)
 
 seek-returns-4 : (t : ℕ) → seek-lts.Need-returns-4 (
   names-at-reads.Asked,
@@ -231,6 +276,8 @@ seek-returns-4 : (t : ℕ) → seek-lts.Need-returns-4 (
   scan-reads.Learnt,
   seek-below t,
   seek.Post,
+  second-from-reads.Asked,
+  second-from-reads.Learnt,
   smaller-reads.Asked,
   smaller-reads.Learnt,
   seek-filter-reads.Asked,
@@ -245,6 +292,8 @@ seek-returns-5 : (t : ℕ) → seek-lts.Need-returns-5 (
   scan-reads.Learnt,
   seek-below t,
   seek.Post,
+  second-from-reads.Asked,
+  second-from-reads.Learnt,
   smaller-reads.Asked,
   smaller-reads.Learnt,
   seek-filter-reads.Asked,
@@ -260,6 +309,8 @@ pub +seek-spec : {M : Type 1} → statement M
   scan-reads.Learnt,
   seek-below t,
   seek.Post,
+  second-from-reads.Asked,
+  second-from-reads.Learnt,
   smaller-reads.Asked,
   smaller-reads.Learnt,
   seek-filter-reads.Asked,
@@ -275,6 +326,7 @@ pub +seek-spec : {M : Type 1} → statement M
     (seek-seek-requires t)
     (seek-seek-requires-2 t)
     (seek-seek-requires-3 t)
+    (seek-second-from-requires t)
     (seek-seek-requires-4 t)
     (seek-smaller-requires t)
     (seek-seek-filter-requires t)

@@ -1,71 +1,53 @@
--- `records::lists::properties_distinct` meets its contract. The loop keeps what is asked of the rest equal to what is asked of the whole.
-use Prim.Native.Nat.{_-_}
+-- `records::lists::properties_distinct` meets its contract.
 use native.Mathlib.Omega.{arith}
-use mathlib.Core.Bool.{true}
-use mathlib.Core.Path.{_≡_, sym, ap, _∙_}
+use mathlib.Core.Path.{sym, _∙_}
 use borrow.Author.Needs.{needs}
-use lib.ListN.{length}
-use Rattle.definitions.specs.Terms.{sameProperty, readEntry, readSchema}
-use Rattle.records.specs.Answers.{isSome, distinctIn}
-use Rattle.laws.proofs.RecordsAt.{recordsAt, entry-forward, schema-at}
-use Rattle.records.proofs.ListLaws.{counted-some, counted-none, good-one, good-after, good-rest, distinct-not, distinct-rest, distinct-end}
-use Rattle.records.proofs.SameLaws.{entry-inside, entry-ends}
+use Rattle.definitions.specs.Terms.{sameProperty}
+use Rattle.records.proofs.ListLaws.{counted-some, counted-none}
 use Rattle.records.proofs.lists.properties_distinct.Statement.{statement}
 use Rattle.records.proofs.lists.properties_distinct.Tie as tie
 
-abbrev Inv-loop : tie.InvT-loop
-Inv-loop s at₀ at = (isSome (recordsAt readEntry s at) ≡ true) × (distinctIn sameProperty (readSchema s) ≡ distinctIn sameProperty (recordsAt readEntry s at))
-
-abbrev μ-loop : tie.MeasureT-loop
-μ-loop s at₀ at = length s - at
-
-count-entries-requires : tie.Need-count-entries-requires Inv-loop μ-loop
+count-entries-requires : tie.Need-count-entries-requires
 count-entries-requires c κs = search needs
 
-enum-told : tie.Need-enum-told Inv-loop μ-loop
+enum-told : tie.Need-enum-told
 enum-told c = search needs
 
-enum-told-2 : tie.Need-enum-told-2 Inv-loop μ-loop
+enum-told-2 : tie.Need-enum-told-2
 enum-told-2 c = search needs
 
-returns : tie.Need-returns Inv-loop μ-loop
+returns : tie.Need-returns
 returns c = sym (counted-none sameProperty _ (sym (c .before .before .count-entries .ensures) ∙ c .enum-told2 .given .1))
 
-loop-holds : tie.Need-loop-holds Inv-loop μ-loop
-loop-holds c = (ap isSome (sym (schema-at (c .before .before .before .before .args .s .now))) ∙ counted-some _ (sym (c .before .before .count-entries .ensures) ∙ c .enum-told .given .1), ap (distinctIn sameProperty) (schema-at (c .before .before .before .before .args .s .now)))
+entries-distinct-requires : tie.Need-entries-distinct-requires
+entries-distinct-requires c κs = counted-some _ (sym (c .before .before .before .count-entries .ensures) ∙ c .before .enum-told .given .1)
 
-add-next : tie.Need-add-next Inv-loop μ-loop
-add-next c = omega (arith, entry-inside _ _ (good-one readEntry entry-forward _ _ (c .before .loop .inv .0) (c .loop-test .taken)))
+returns-2 : tie.Need-returns-2
+returns-2 c = search needs
 
-property-again-requires : tie.Need-property-again-requires Inv-loop μ-loop
-property-again-requires c κs = (good-one readEntry entry-forward _ _ (c .before .loop .inv .0) (c .loop-test .taken), good-rest readEntry entry-forward _ _ (c .before .loop .inv .0) (c .loop-test .taken) (entry-ends _ _ (good-one readEntry entry-forward _ _ (c .before .loop .inv .0) (c .loop-test .taken))))
+mark-entries-requires : tie.Need-mark-entries-requires
+mark-entries-requires c κs = (counted-some _ (sym (c .before .before .before .count-entries .ensures) ∙ c .before .enum-told .given .1), omega arith)
 
-returns-2 : tie.Need-returns-2 Inv-loop μ-loop
-returns-2 c = sym (c .before .before .before .loop .inv .1 ∙ distinct-not readEntry entry-forward _ _ (c .before .before .before .loop .inv .0) (c .before .before .loop-test .taken) (entry-ends _ _ (good-one readEntry entry-forward _ _ (c .before .before .before .loop .inv .0) (c .before .before .loop-test .taken))) _ (sym (c .before .property-again .ensures) ∙ c .if1 .taken))
+slice-aggregate-marked-distinct : tie.Need-slice-aggregate-marked-distinct
+slice-aggregate-marked-distinct c = search needs
 
-loop-less : tie.Need-loop-less Inv-loop μ-loop
-loop-less c = omega (arith, good-after readEntry entry-forward _ _ (c .before .before .before .loop .inv .0) (c .before .before .loop-test .taken) (entry-ends _ _ (good-one readEntry entry-forward _ _ (c .before .before .before .loop .inv .0) (c .before .before .loop-test .taken))))
+marked-distinct-requires : tie.Need-marked-distinct-requires
+marked-distinct-requires c κs = (counted-some _ (sym (c .before .before .before .before .before .count-entries .ensures) ∙ c .before .before .before .enum-told .given .1), c .before .mark-entries .ensures)
 
-loop-again : tie.Need-loop-again Inv-loop μ-loop
-loop-again c = (good-rest readEntry entry-forward _ _ (c .before .before .before .loop .inv .0) (c .before .before .loop-test .taken) (entry-ends _ _ (good-one readEntry entry-forward _ _ (c .before .before .before .loop .inv .0) (c .before .before .loop-test .taken))), c .before .before .before .loop .inv .1 ∙ distinct-rest readEntry entry-forward _ _ (c .before .before .before .loop .inv .0) (c .before .before .loop-test .taken) (entry-ends _ _ (good-one readEntry entry-forward _ _ (c .before .before .before .loop .inv .0) (c .before .before .loop-test .taken))) _ (sym (c .before .property-again .ensures) ∙ c .if1 .left))
-
-returns-3 : tie.Need-returns-3 Inv-loop μ-loop
-returns-3 c = sym (c .before .loop .inv .1 ∙ distinct-end readEntry entry-forward _ _ _ (c .loop-test .left))
+returns-3 : tie.Need-returns-3
+returns-3 c = search needs
 
 pub properties-distinct-spec : {M : Type 1} → statement M
 properties-distinct-spec =
     tie.close
     (tie.spec
-    Inv-loop
-    μ-loop
     count-entries-requires
     enum-told
     enum-told-2
     returns
-    loop-holds
-    add-next
-    property-again-requires
+    entries-distinct-requires
     returns-2
-    loop-less
-    loop-again
+    mark-entries-requires
+    slice-aggregate-marked-distinct
+    marked-distinct-requires
     returns-3)

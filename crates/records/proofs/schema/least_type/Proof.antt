@@ -1,16 +1,17 @@
 -- `records::schema::least_type` meets its contract.
 use native.Mathlib.Omega.{arith}
-use mathlib.Core.Path.{refl}
+use mathlib.Core.Path.{refl, ap, _∙_}
 use borrow.Author.Needs.{needs}
 use Rattle.definitions.specs.Bytes.{part}
 use Rattle.definitions.specs.Terms.{uriText, readSchema}
 use Rattle.definitions.specs.Types.{Datatype}
-use Rattle.records.proofs.SchemaLaws.{slot-not-empty, uri-field, uri-fits, no-schema-uri, schema-uri, least-literal, least-last, code-small}
+use Rattle.records.specs.Marks.{markOf}
+use Rattle.records.proofs.SchemaLaws.{uri-field, uri-slot, no-schema-uri, schema-uri, least-literal, least-last, code-small}
 use Rattle.records.proofs.schema.least_type.Statement.{statement}
 use Rattle.records.proofs.schema.least_type.Tie as tie
 
 shared-slice-read-kind : tie.Need-shared-slice-read-kind
-shared-slice-read-kind c = slot-not-empty _ (c .before .before .before .pre .1)
+shared-slice-read-kind c = search needs
 
 sub-datatype-of : tie.Need-sub-datatype-of
 sub-datatype-of c = search needs
@@ -19,31 +20,34 @@ part-datatype-of-start : tie.Need-part-datatype-of-start
 part-datatype-of-start c = search needs
 
 part-datatype-of-end : tie.Need-part-datatype-of-end
-part-datatype-of-end c = uri-fits _ (c .before .before .before .before .pre .0) (c .before .before .before .before .args .slot .now) (c .before .before .before .before .pre .1) (c .match .keys1)
+part-datatype-of-end c = search needs
+
+mark-of-requires : tie.Need-mark-of-requires
+mark-of-requires c κs = search needs
 
 datatype-of-requires : tie.Need-datatype-of-requires
-datatype-of-requires c κs = (c .before .before .before .before .before .pre .0, uri-field _ (c .before .before .before .before .before .pre .0) (c .before .before .before .before .before .args .slot .now) (c .before .before .before .before .before .pre .1) (c .before .match .keys1))
+datatype-of-requires c κs = (c .before .before .before .before .before .before .before .pre .0, (uri-field _ (c .before .before .before .before .before .before .before .pre .0) (c .before .before .before .before .before .before .before .args .slot .now) (c .before .before .before .before .before .before .before .pre .1 .1 .good) (c .before .before .match .keys1), (c .before .before .before .before .before .before .before .pre .1 .0, c .mark-of .ensures ∙ ap markOf (uri-slot _ (c .before .before .before .before .before .before .before .pre .0) (c .before .before .before .before .before .before .before .args .slot .now) (c .before .before .before .before .before .before .before .pre .1 .1 .good) (c .before .before .match .keys1) (c .before .before .before .before .before .before .before .pre .1 .1 .width) (λ k. omega (arith, c .before .before .before .before .shared-slice-known3 .given k))))))
 
 returns : tie.Need-returns
-returns c = no-schema-uri _ (c .before .before .before .before .before .before .before .pre .0) (c .before .before .before .before .before .before .before .args .slot .now) (c .before .before .before .before .before .before .before .pre .1) (c .before .before .before .match .keys1) (c .before .datatype-of .ensures) (c .if1 .taken)
+returns c = no-schema-uri _ (c .before .before .before .before .before .before .before .before .before .pre .0) (c .before .before .before .before .before .before .before .before .before .args .slot .now) (c .before .before .before .before .before .before .before .before .before .pre .1 .1 .good) (c .before .before .before .before .match .keys1) (c .before .datatype-of .ensures) (c .if1 .taken)
 
 add-result : tie.Need-add-result
-add-result c = omega (arith, c .before .datatype-of .ensures, code-small (readSchema (c .before .before .before .before .before .before .before .args .schema .now)) (uriText (part (c .before .before .before .before .before .before .before .args .slot .now) 1 40)))
+add-result c = omega (arith, c .before .datatype-of .ensures, code-small (readSchema (c .before .before .before .before .before .before .before .before .before .args .schema .now)) (uriText (part (c .before .before .before .before .before .before .before .before .before .args .slot .now) 1 40)))
 
 returns-2 : tie.Need-returns-2
-returns-2 c = schema-uri _ (c .before .before .before .before .before .before .before .pre .0) (c .before .before .before .before .before .before .before .args .slot .now) (c .before .before .before .before .before .before .before .pre .1) (c .before .before .before .match .keys1) (c .before .datatype-of .ensures) (c .if1 .left)
+returns-2 c = schema-uri _ (c .before .before .before .before .before .before .before .before .before .pre .0) (c .before .before .before .before .before .before .before .before .before .args .slot .now) (c .before .before .before .before .before .before .before .before .before .pre .1 .1 .good) (c .before .before .before .before .match .keys1) (c .before .datatype-of .ensures) (c .if1 .left)
 
 returns-3 : tie.Need-returns-3
-returns-3 c = least-literal _ (c .before .before .before .before .pre .0) (c .before .before .before .before .args .slot .now) (c .before .before .before .before .pre .1) 0x12 Datatype.string (c .match .keys2) refl (λ e. omega arith)
+returns-3 c = least-literal _ (c .before .before .before .before .before .pre .0) (c .before .before .before .before .before .args .slot .now) (c .before .before .before .before .before .pre .1 .1 .good) 0x12 Datatype.string (c .match .keys2) refl (λ e. omega arith)
 
 returns-4 : tie.Need-returns-4
-returns-4 c = least-literal _ (c .before .before .before .before .pre .0) (c .before .before .before .before .args .slot .now) (c .before .before .before .before .pre .1) 0x13 Datatype.integer (c .match .keys3) refl (λ e. omega arith)
+returns-4 c = least-literal _ (c .before .before .before .before .before .pre .0) (c .before .before .before .before .before .args .slot .now) (c .before .before .before .before .before .pre .1 .1 .good) 0x13 Datatype.integer (c .match .keys3) refl (λ e. omega arith)
 
 returns-5 : tie.Need-returns-5
-returns-5 c = least-literal _ (c .before .before .before .before .pre .0) (c .before .before .before .before .args .slot .now) (c .before .before .before .before .pre .1) 0x14 Datatype.decimal (c .match .keys4) refl (λ e. omega arith)
+returns-5 c = least-literal _ (c .before .before .before .before .before .pre .0) (c .before .before .before .before .before .args .slot .now) (c .before .before .before .before .before .pre .1 .1 .good) 0x14 Datatype.decimal (c .match .keys4) refl (λ e. omega arith)
 
 returns-6 : tie.Need-returns-6
-returns-6 c = let n = c .match .rest in least-last _ (c .before .before .before .before .pre .0) (c .before .before .before .before .args .slot .now) (c .before .before .before .before .pre .1) (n .0 .0 .0 .1) (n .0 .0 .1) (n .0 .1) (n .1)
+returns-6 c = let n = c .match .rest in least-last _ (c .before .before .before .before .before .pre .0) (c .before .before .before .before .before .args .slot .now) (c .before .before .before .before .before .pre .1 .1 .good) (n .0 .0 .0 .1) (n .0 .0 .1) (n .0 .1) (n .1)
 
 pub least-type-spec : {M : Type 1} → statement M
 least-type-spec =
@@ -53,6 +57,7 @@ least-type-spec =
     sub-datatype-of
     part-datatype-of-start
     part-datatype-of-end
+    mark-of-requires
     datatype-of-requires
     returns
     add-result

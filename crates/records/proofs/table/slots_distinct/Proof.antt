@@ -5,8 +5,7 @@ use borrow.Author.Needs.{needs}
 use Rattle.definitions.specs.Terms.{sameTerm}
 use Rattle.definitions.specs.Saved.{termsIn}
 use Rattle.records.specs.Answers.{distinctIn}
-use Rattle.records.proofs.TableLaws.{holds-few, distinctFrom, distinct-zero, slots-end}
-use Rattle.records.proofs.MarkLaws.{marked-again, marked-next}
+use Rattle.records.proofs.TableLaws.{holds-few, distinctFrom, distinct-zero, slots-end, slots-again, slots-next}
 use Rattle.records.proofs.table.slots_distinct.Statement.{statement}
 use Rattle.records.proofs.table.slots_distinct.Tie as tie
 
@@ -22,11 +21,14 @@ mark-slots-requires c κs = (c .before .pre .width, holds-few _ _ (c .before .pr
 loop-holds : tie.Need-loop-holds Inv-loop μ-loop
 loop-holds c = distinct-zero _
 
+slice-aggregate-slot-again : tie.Need-slice-aggregate-slot-again Inv-loop μ-loop
+slice-aggregate-slot-again c = search needs
+
 slot-again-requires : tie.Need-slot-again-requires Inv-loop μ-loop
-slot-again-requires c κs = (c .before .before .before .before .before .pre, (c .before .before .before .mark-slots .ensures, c .before .loop-test .taken))
+slot-again-requires c κs = (c .before .before .before .before .before .pre, (search needs, (c .before .before .before .mark-slots .ensures, c .before .loop-test .taken)))
 
 returns : tie.Need-returns Inv-loop μ-loop
-returns c = sym (c .before .before .before .before .loop .inv ∙ marked-again (c .before .before .before .before .before .before .before .args .table .now) (c .before .before .before .before .before .before .before .args .n) (c .before .before .before .before .before .before .before .pre) (c .before .before .before .before .loop .i) (c .before .before .before .loop-test .taken) (c .before .slot-again .ensures) (c .if1 .taken))
+returns c = sym (c .before .before .before .before .loop .inv ∙ slots-again (c .before .before .before .before .before .before .before .args .table .now) (c .before .before .before .before .before .before .before .args .n) (c .before .before .before .before .before .before .before .pre) (c .before .before .before .before .loop .i) (c .before .before .before .loop-test .taken) (c .before .slot-again .ensures) (c .if1 .taken))
 
 add-i : tie.Need-add-i Inv-loop μ-loop
 add-i c = search needs
@@ -35,7 +37,7 @@ loop-less : tie.Need-loop-less Inv-loop μ-loop
 loop-less c = search needs
 
 loop-again : tie.Need-loop-again Inv-loop μ-loop
-loop-again c = c .before .before .before .before .loop .inv ∙ marked-next (c .before .before .before .before .before .before .before .args .table .now) (c .before .before .before .before .before .before .before .args .n) (c .before .before .before .before .before .before .before .pre) (c .before .before .before .before .loop .i) (c .before .before .before .loop-test .taken) (c .before .slot-again .ensures) (c .if1 .left)
+loop-again c = c .before .before .before .before .loop .inv ∙ slots-next (c .before .before .before .before .before .before .before .args .table .now) (c .before .before .before .before .before .before .before .args .n) (c .before .before .before .before .before .before .before .pre) (c .before .before .before .before .loop .i) (c .before .before .before .loop-test .taken) (c .before .slot-again .ensures) (c .if1 .left)
 
 returns-2 : tie.Need-returns-2 Inv-loop μ-loop
 returns-2 c = sym (c .before .loop .inv ∙ slots-end _ _ (c .before .before .before .before .pre) _ (c .loop-test .left))
@@ -48,6 +50,7 @@ slots-distinct-spec =
     μ-loop
     mark-slots-requires
     loop-holds
+    slice-aggregate-slot-again
     slot-again-requires
     returns
     add-i

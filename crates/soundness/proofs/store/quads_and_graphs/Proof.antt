@@ -22,7 +22,7 @@ decode-requires : tie.Need-decode-requires
 decode-requires c κs = (c .before .before .before .before .before .before .before .before .before .pre .0, (held-few _ _ (c .before .before .before .before .quads-held .ensures) (c .before .before .before .if1 .left), omega (arith, held-few _ _ (c .before .before .before .before .quads-held .ensures) (c .before .before .before .if1 .left), c .before .before .before .before .before .before .before .before .before .pre .1 .1)))
 
 quads-distinct-requires : tie.Need-quads-distinct-requires
-quads-distinct-requires c κs = omega (arith, held-few _ _ (c .before .before .before .before .before .before .before .before .quads-held .ensures) (c .before .before .before .before .before .before .before .if1 .left), c .before .before .before .before .before .before .before .before .before .before .before .before .before .pre .1 .1, c .before .before .rows .given)
+quads-distinct-requires c κs = let few = held-few _ _ (c .before .before .before .before .before .before .before .before .quads-held .ensures) (c .before .before .before .before .before .before .before .if1 .left) in (omega (arith, few, c .before .before .before .before .before .before .before .before .before .before .before .before .before .pre .1 .1, c .before .before .rows .given), few)
 
 same-length : tie.Need-same-length
 same-length c = search needs

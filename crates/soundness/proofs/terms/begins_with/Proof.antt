@@ -6,10 +6,10 @@ use Rattle.definitions.specs.Limits.{slotWidth}
 use native.Mathlib.Omega.{arith}
 use Rattle.records.proofs.TableLaws.{holds-few}
 use Rattle.soundness.proofs.Begins.{fewer, begins}
+use Rattle.soundness.proofs.Looks.{compared}
 use borrow.Author.Needs.{needs}
 use Rattle.soundness.proofs.terms.begins_with.Statement.{statement}
 use Rattle.soundness.proofs.terms.begins_with.Tie as tie
-use Rattle.check.proofs.same.Reads as same-reads
 
 returns : tie.Need-returns
 returns c = fewer _ _ _ _ (c .before .before .before .pre .0) (c .before .before .before .pre .1) (c .if1 .taken)
@@ -17,19 +17,19 @@ returns c = fewer _ _ _ _ (c .before .before .before .pre .0) (c .before .before
 mul-end : tie.Need-mul-end
 mul-end c = omega (arith, holds-few _ _ (c .before .before .before .pre .0))
 
-slice-aggregate-same : tie.Need-slice-aggregate-same
-slice-aggregate-same c = sym (length-take-le (c .before .before .before .before .args .known * slotWidth) (c .before .before .before .before .args .loading .now) (omega (arith, holds-few _ _ (c .before .before .before .before .pre .0), c .before .before .before .before .pre .0 .width)))
+slice-aggregate-same-bytes : tie.Need-slice-aggregate-same-bytes
+slice-aggregate-same-bytes c = sym (length-take-le (c .before .before .before .before .args .known * slotWidth) (c .before .before .before .before .args .loading .now) (omega (arith, holds-few _ _ (c .before .before .before .before .pre .0), c .before .before .before .before .pre .0 .width)))
 
-slice-aggregate-same-2 : tie.Need-slice-aggregate-same-2
-slice-aggregate-same-2 c = sym (length-take-le (c .before .before .before .before .before .args .known * slotWidth) (c .before .before .before .before .before .args .table .now) (omega (arith, holds-few _ _ (c .before .before .before .before .before .pre .1), c .before .before .before .before .before .pre .1 .width, c .before .before .if1 .left)))
+slice-aggregate-same-bytes-2 : tie.Need-slice-aggregate-same-bytes-2
+slice-aggregate-same-bytes-2 c = sym (length-take-le (c .before .before .before .before .before .args .known * slotWidth) (c .before .before .before .before .before .args .table .now) (omega (arith, holds-few _ _ (c .before .before .before .before .before .pre .1), c .before .before .before .before .before .pre .1 .width, c .before .before .if1 .left)))
 
-same-requires : tie.Need-same-requires
-same-requires c κs = search needs
+same-bytes-requires : tie.Need-same-bytes-requires
+same-bytes-requires c κs = search needs
 
 returns-2 : tie.Need-returns-2
-returns-2 c = begins _ _ _ _ (c .before .before .before .before .before .before .pre .0) (c .before .before .before .before .before .before .pre .1) (λ k. omega (arith, c .before .before .before .before .before .shared-slice-known .given k)) (λ k. omega (arith, c .before .before .before .before .shared-slice-known2 .given k)) (omega arith) (c .same .ensures)
+returns-2 c = begins _ _ _ _ (c .before .before .before .before .before .before .pre .0) (c .before .before .before .before .before .before .pre .1) (λ k. omega (arith, c .before .before .before .before .before .shared-slice-known .given k)) (λ k. omega (arith, c .before .before .before .before .shared-slice-known2 .given k)) (omega arith) (compared _ _ _ (c .same-bytes .ensures))
 
 pub begins-with-spec : {M : Type 1} → statement M
 begins-with-spec =
     tie.close
-    (tie.spec returns mul-end slice-aggregate-same slice-aggregate-same-2 same-requires returns-2)
+    (tie.spec returns mul-end slice-aggregate-same-bytes slice-aggregate-same-bytes-2 same-bytes-requires returns-2)

@@ -1,0 +1,71 @@
+-- `scan::scan_fixed` meets its contract. The loop's invariant is that of `scan_all`; a quad that is passed over changes nothing. Assumes nothing.
+use mathlib.Core.Path.{_≡_, refl, _∙_}
+use mathlib.Core.Logic.{⊎-elim}
+use Prim.Native.Nat.{_*_, _-_, _≤_}
+use native.Mathlib.Omega.{arith}
+use Rattle.query.specs.Seek.{scan as isScan}
+use Rattle.query.specs.Codes.{placesAt, rowsFrom}
+use Rattle.query.proofs.RowLaws.{scan-start, scan-turn, scan-ends, scan-done, too-far}
+use Rattle.query.proofs.scan.scan_fixed.Statement.{statement}
+use Rattle.query.proofs.scan.scan_fixed.Tie as tie
+
+abbrev Inv-loop : tie.InvT-loop
+Inv-loop quads n codes place number given lo end best₀ i₀ at₀ best i at = (at ≡ 4 * i) × (i ≤ n) × (isScan (placesAt codes) lo end (rowsFrom n quads 0) ≡ isScan (placesAt codes) lo best (rowsFrom (n - i) quads at))
+
+abbrev μ-loop : tie.MeasureT-loop
+μ-loop quads n codes place number given lo end best₀ i₀ at₀ best i at = n - i
+
+loop-holds : tie.Need-loop-holds Inv-loop μ-loop
+loop-holds c = (refl, omega arith, scan-start _ _ _ _ 0 _)
+
+add-if1 : tie.Need-add-if1 Inv-loop μ-loop
+add-if1 c = omega arith
+
+mul-if1 : tie.Need-mul-if1 Inv-loop μ-loop
+mul-if1 c = omega arith
+
+shared-slice-read-if1 : tie.Need-shared-slice-read-if1 Inv-loop μ-loop
+shared-slice-read-if1 c = omega arith
+
+reaches-requires : tie.Need-reaches-requires Inv-loop μ-loop
+reaches-requires c κs = omega arith
+
+better-requires : tie.Need-better-requires Inv-loop μ-loop
+better-requires c κs = omega arith
+
+returns : tie.Need-returns Inv-loop μ-loop
+returns c = scan-done _ _ _ _ _ (scan-turn _ _ _ _ _ _ _ _ (c .before .before .before .before .before .before .before .loop .inv .2) (c .before .before .before .before .before .before .loop-test .taken) _ (c .before .better .ensures)) (omega (arith, c .if3 .taken))
+
+add-at : tie.Need-add-at Inv-loop μ-loop
+add-at c = omega arith
+
+add-i : tie.Need-add-i Inv-loop μ-loop
+add-i c = omega arith
+
+loop-less : tie.Need-loop-less Inv-loop μ-loop
+loop-less c = omega arith
+
+loop-again : tie.Need-loop-again Inv-loop μ-loop
+loop-again c = (omega arith, omega arith, scan-turn _ _ _ _ _ _ _ _ (c .before .before .before .loop .inv .2) (c .before .before .loop-test .taken) _ (⊎-elim (λ w. w .5 ∙ w .3 .ensures) (⊎-elim (λ w. w .3 ∙ too-far _ _ _ (c .before .before .before .before .before .args .quads .now) (c .before .before .before .loop .at) _ (c .before .before .before .before .before .pre .1 .1 .1) (w .1 .ensures (w .2 .left))) (λ w. w .1 ∙ c .before .before .before .before .before .pre .1 .1 .0 _ _ (c .before .before .before .before .before .args .quads .now) (c .before .before .before .loop .at) (w .0 .left))) (c .if1 .came)))
+
+returns-2 : tie.Need-returns-2 Inv-loop μ-loop
+returns-2 c = scan-ends _ _ _ _ _ _ _ _ (c .before .loop .inv .2) (c .loop-test .left)
+
+pub scan-fixed-spec : {M : Type 1} → statement M
+scan-fixed-spec =
+    tie.close
+    (tie.spec
+    Inv-loop
+    μ-loop
+    loop-holds
+    add-if1
+    mul-if1
+    shared-slice-read-if1
+    reaches-requires
+    better-requires
+    returns
+    add-at
+    add-i
+    loop-less
+    loop-again
+    returns-2)
