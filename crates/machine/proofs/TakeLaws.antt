@@ -1,24 +1,23 @@
 -- Laws of a page record: its bodies, the numbers of its terms, whether it is well typed.
-use Prim.Native.Nat.{ℕ, zero, suc, _+_, _-_, _*_, _≤_, _<_}
+use Prim.Native.Nat.{ℕ, _+_, _-_, _*_, _≤_, _<_}
 use native.Mathlib.Omega.{arith}
 use native.Mathlib.Numerals.{add-one}
 use mathlib.Core.Path.{_≡_, refl, ap, ap₂, sym, subst, _∙_}
-use mathlib.Core.Logic.{_⊎_, inl, inr, ⊎-elim}
+use mathlib.Core.Logic.{_⊎_, ⊎-elim}
 use mathlib.Core.List.{List, [], _∷_, _++_}
 use mathlib.Core.Bool.{Bool, true, false, cond, _&&_, _||_, Bool·beq}
 use mathlib.Core.Option.{Option, none, some}
-use lib.Dec.{T, eqb, ltb, leb}
+use lib.Dec.{T, eqb, leb}
 use lib.ListN.{length, take, drop, length-append}
-use Rattle.definitions.specs.Limits.{textWidth, termLimit, termTableWidth, quadLimit, quadWidth, quadTableWidth}
+use Rattle.definitions.specs.Limits.{textWidth, termLimit, quadLimit, quadWidth, quadTableWidth}
 use Rattle.definitions.specs.Bytes.{byte, part, allZero, inFront}
 use Rattle.definitions.specs.Types.{Datatype, datatypeCode, plain, leqDatatype}
 use Rattle.definitions.specs.Terms.{Term, Schema, Triple, datatype, bodyWidth, termOfBody, uriText, ofTermKind, ofPageKind, kindRows, datatypeIn, Sort, has, sortOf, hasType, readSchema, readTriple, readPage, isInteger, isDecimal, isDateTime}
 use Rattle.definitions.specs.Evaluate.{Quad, stored}
 use Rattle.definitions.specs.Machine.{Taken, skip, store, takeOne, takeAll, numbered, objectFits, wellTyped, withQuad}
 use Rattle.definitions.specs.Saved.{quadTable, quadsFrom, quadsIn}
-use Rattle.laws.proofs.Tests.{isTrue}
 use Rattle.laws.proofs.Options.{some-is, pair-is, some-not-none, onward-some, onward-inv, provided-inv}
-use Rattle.laws.proofs.All.{All, all-append}
+use Rattle.laws.proofs.All.{all-append}
 use Rattle.laws.proofs.Order.{byDatatype, byDatatype2}
 use Rattle.laws.proofs.Reading.{row-keys}
 use Rattle.laws.proofs.RecordsAt.{TripleAt, triple-inv, triple-forward, recordsAt, at-end, at-bad, at-one, page-at}
@@ -28,12 +27,12 @@ use Rattle.laws.proofs.Tables.{Small, quads-of, quad-table-length}
 use Rattle.records.specs.declared.Read.the-variants as Read
 use Rattle.records.specs.Answers.{isSome, nextOf, codeOf, schemaCode, widthOf}
 use Rattle.records.proofs.OptionLaws.{next-got}
-use Rattle.records.proofs.PartLaws.{some-part, part-length}
+use Rattle.records.proofs.PartLaws.{part-length}
 use Rattle.machine.specs.declared.Counts.{Counts}
 use Rattle.machine.specs.declared.Joined.{Joined}
 use Rattle.machine.specs.declared.Numbers.{Numbers}
 use Rattle.machine.specs.Quads.{quad, quadSet}
-use Rattle.machine.specs.Page.{HeldTerms, BodyIs, Joins, subjectIn, propertyIn, objectIn, Numbered3, Numbering, PageKind, HeldQuads, Stores, HeldTaken, Took}
+use Rattle.machine.specs.Page.{BodyIs, Joins, subjectIn, propertyIn, objectIn, Numbering, HeldQuads, Stores, HeldTaken, Took}
 use Rattle.machine.proofs.TermLaws.{number-cases, held-width}
 use Rattle.machine.proofs.QuadLaws.{quad-added}
 

@@ -1,5 +1,5 @@
 -- The search over bytes and arrays is the model's: one law for each way through the code.
-use Prim.Native.Nat.{ℕ, zero, suc, _+_, _-_, _*_, _≤_, _<_}
+use Prim.Native.Nat.{ℕ, _+_, _-_, _≤_, _<_}
 use native.Mathlib.Omega.{arith}
 use mathlib.Core.Path.{_≡_, refl, sym, _∙_, ap, ap₂, subst, subst⁻¹, fun-ext}
 use mathlib.Core.Logic.{⊎-elim}
@@ -9,10 +9,8 @@ use mathlib.Core.Option.{Option, none, some}
 use lib.Dec.{T, eqb, ltb, eqb→eq}
 use lib.ListN.{length, getD, set, length-set}
 use lib.Seq.{getD-set-same, getD-set-other}
-use borrow.Author.Tests.{eq-eqb, ne-eqb, lt-ltb, le-ltb}
+use borrow.Author.Tests.{lt-ltb, le-ltb}
 use Rattle.definitions.specs.Bytes.{signed}
-use Rattle.definitions.specs.Limits.{variableLimit}
-use Rattle.definitions.specs.Tree.{Query}
 use Rattle.definitions.specs.Reading.{readQuery}
 use Rattle.definitions.specs.Evaluate.{Bindings, Quad, query}
 use Rattle.definitions.specs.Search.{Tuple}
@@ -22,7 +20,7 @@ use Rattle.laws.proofs.Reading.{same-read}
 use Rattle.laws.proofs.Walked.{Walked}
 use Rattle.laws.proofs.Fine.{fine-ok}
 use Rattle.laws.proofs.Bindings.{Holds}
-use Rattle.query.specs.Seek.{passes, seek, skip, set as bindTo, startAt, restOf, tries, ahead, next, hopeAt, hopeful, find}
+use Rattle.query.specs.Seek.{passes, seek, skip, set as bindTo, restOf, tries, ahead, next, hopeful, find}
 use Rattle.query.specs.Codes.{soughtCode, freeCode, numberAt, bindingsOf}
 use Rattle.query.specs.Eval.{Lent, HoldsOf}
 use Rattle.query.specs.Sought.{SeekOf}

@@ -4,7 +4,7 @@ use native.Mathlib.Omega.{arith}
 use mathlib.Core.Path.{_≡_, refl, sym, _∙_, ap, subst}
 use mathlib.Core.List.{List, [], _∷_}
 use mathlib.Core.Bool.{Bool, true, false, cond, _&&_}
-use lib.Dec.{T, eqb, leb, ltb, T-not, not-T}
+use lib.Dec.{T, leb, ltb, T-not, not-T}
 use lib.ListN.{getD}
 use Rattle.definitions.specs.Evaluate.{Quad}
 use Rattle.laws.proofs.Tests.{isFalse, falseIs}

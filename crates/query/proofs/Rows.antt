@@ -1,10 +1,10 @@
 -- One pattern over the quads: a stored quad that fits keeps the scan at what it gives or before, and the scan never goes below its floor.
 use Prim.Native.Nat.{ℕ, _≤_, _<_}
 use native.Mathlib.Omega.{arith}
-use mathlib.Core.Path.{_≡_, refl, sym, _∙_, ap, subst⁻¹}
+use mathlib.Core.Path.{_≡_, refl, sym, _∙_, ap}
 use mathlib.Core.List.{List, [], _∷_}
 use mathlib.Core.Bool.{Bool, true, false, cond, not, _&&_, _||_}
-use lib.Dec.{T, eqb, leb, ltb, eqb-refl, le→leb, nltb→le, leb→le, ltb→lt}
+use lib.Dec.{T, leb, ltb, eqb-refl, le→leb, nltb→le, leb→le, ltb→lt}
 use Rattle.definitions.specs.Evaluate.{Quad, sameQuad, stored}
 use Rattle.laws.proofs.Tests.{andLeft, andRight, andMake, by-test}
 use Rattle.laws.proofs.Same.{same-quad}

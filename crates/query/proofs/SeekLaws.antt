@@ -6,19 +6,17 @@ use mathlib.Core.List.{List}
 use mathlib.Core.Bool.{Bool, true, false, cond}
 use mathlib.Core.Option.{some}
 use mathlib.Core.Logic.{_⊎_, inl, inr}
-use lib.Dec.{T}
 use lib.ListN.{length}
 use Rattle.definitions.specs.Bytes.{signed}
 use Rattle.definitions.specs.Terms.{Term, Schema}
-use Rattle.definitions.specs.Tree.{Name, Cond, Query}
-use Rattle.definitions.specs.Outcome.{ok}
+use Rattle.definitions.specs.Tree.{Cond, Query}
 use Rattle.definitions.specs.Evaluate.{Quad, condition}
 use Rattle.definitions.specs.Saved.{termsIn}
 use Rattle.laws.proofs.Tests.{trueIs}
 use Rattle.laws.proofs.Options.{same-some}
 use Rattle.laws.proofs.Fine.{fine-ok}
-use Rattle.query.specs.Seek.{passes, Places, placesOf, scan, condKnown, seek}
-use Rattle.query.specs.Codes.{soughtCode, placesAt, bindingsOf, Coded}
+use Rattle.query.specs.Seek.{passes, placesOf, scan, condKnown, seek}
+use Rattle.query.specs.Codes.{placesAt, bindingsOf, Coded}
 use Rattle.query.specs.Eval.{Lent, TruthOf}
 use Rattle.query.specs.Sought.{Sure, SeekOf}
 use Rattle.query.specs.declared.Four.{Four}

@@ -1,7 +1,7 @@
 -- Laws of a schema's entries by their numbers: the bytes that they take, the marks of their URIs, and marks compared first.
 use Prim.Native.Nat.{ℕ, zero, suc, _+_, _-_, _*_, _/_, _≤_, _<_}
-use mathlib.Core.Bool.{Bool, true, false, not, _||_}
-use mathlib.Core.List.{List, [], _∷_}
+use mathlib.Core.Bool.{Bool, true, false, _||_}
+use mathlib.Core.List.{List, _∷_}
 use mathlib.Core.Logic.{_⊎_, inl, inr}
 use mathlib.Core.Option.{Option, some}
 use mathlib.Core.Path.{_≡_, refl, sym, ap, _∙_, subst}
@@ -10,7 +10,7 @@ use lib.Dec.{eqb}
 use lib.ListN.{length, getD, set, take, drop}
 use lib.Seq.{drop-cons, getD-set-same, getD-set-other}
 use borrow.Author.Count.{below-more}
-use borrow.Author.Tests.{eqb-false, not-true}
+use borrow.Author.Tests.{eqb-false}
 use Rattle.definitions.specs.Limits.{slotWidth, textWidth, entryLimit}
 use Rattle.definitions.specs.Lists.{some?}
 use Rattle.definitions.specs.Bytes.{byte, part, filled}
@@ -21,12 +21,13 @@ use Rattle.laws.proofs.Tests.{trueIs}
 use Rattle.laws.proofs.RecordsAt.{entry-forward, recordsAt, at-end, schema-at}
 use Rattle.records.specs.declared.Read.the-variants.{Next}
 use Rattle.records.specs.Answers.{isSome, nextOf, againIn, distinctIn, schemaCode}
-use Rattle.records.specs.Marks.{markOf, uriSlot, entryWidth, MarkedEntries}
+use Rattle.records.specs.Marks.{markOf, placeIn, uriSlot, entryWidth, MarkedEntries}
 use Rattle.records.proofs.OptionLaws.{is-some}
 use Rattle.records.proofs.PartLaws.{some-part}
+use Rattle.records.proofs.PlaceLaws.{to-place}
 use Rattle.records.proofs.ListLaws.{good-one, good-after, good-rest, rest, all-of, again-rest, again-end, distinct-not, distinct-rest}
 use Rattle.records.proofs.SameLaws.{Compared, entry-ends, same-properties}
-use Rattle.records.proofs.SchemaLaws.{code-end, code-here, code-rest}
+use Rattle.records.proofs.SchemaLaws.{code-here, code-rest}
 
 -- ── the bytes of a schema ───────────────────────────────────────────────────────────────────
 
@@ -116,7 +117,7 @@ module _ (s : List ℕ) (i : ℕ) (g : isSome (recordsAt readEntry s (i * entryW
         → schemaCode (recordsAt readEntry s (i * entryWidth)) (uriText u) ≡ schemaCode (recordsAt readEntry s ((i + 1) * entryWidth)) (uriText u)
     code-next c q = rw next-is (code-rest s (i * entryWidth) u v g starts c q)
 
-    pub code-other : (marks : List ℕ) → MarkedEntries s marks → {m : ℕ} → m ≡ markOf (uriSlot u) → (getD marks i 0 ≡ m → ⊥)
+    code-other : (marks : List ℕ) → MarkedEntries s marks → {m : ℕ} → m ≡ markOf (uriSlot u) → (getD marks i 0 ≡ m → ⊥)
         → schemaCode (recordsAt readEntry s (i * entryWidth)) (uriText u) ≡ schemaCode (recordsAt readEntry s ((i + 1) * entryWidth)) (uriText u)
     code-other marks w e d = code-next (other-uri marks u w e d) refl
 
@@ -146,11 +147,24 @@ module _ (s marks u : List ℕ) (g : isSome (readSchema s) ≡ true) (w : Marked
         other (i * entryWidth) f (starts s i f h) (other-uri s i f h marks u w e (λ x. eqb-false m (getD marks i 0) (n .0) (sym x)))
         (subst P (sym j) (no-mark k (suc i) (omega arith) f′ (n .1)))
 
-  pub no-code : isSome (uriText u) ≡ true → {r : Bool} → r ≡ some? (eqb m) (take (length s / entryWidth) marks) → not r ≡ true → 0 ≡ schemaCode (readSchema s) (uriText u)
-  no-code v {r} q n =
-      let none-from = no-mark (λ at. schemaCode (recordsAt readEntry s at) (uriText u) ≡ 0) (λ at h. code-end s at u v h) (λ at f h c p. code-rest s at u v f h c refl ∙ p)
-      (length s / entryWidth) 0 (omega arith) (ap isSome (sym (schema-at s)) ∙ g) (sym q ∙ not-true r n) in
-      sym (ap (λ (o : Option Schema). schemaCode o (uriText u)) (schema-at s) ∙ none-from)
+-- ── the next place of a mark ────────────────────────────────────────────────────────────────
+
+-- what is asked of the whole is asked of the entries from a number on
+abbrev pub AskedFrom : (schema uri : List ℕ) → ℕ → Type 0
+AskedFrom s u i = (isSome (recordsAt readEntry s (i * entryWidth)) ≡ true) × (schemaCode (readSchema s) (uriText u) ≡ schemaCode (recordsAt readEntry s (i * entryWidth)) (uriText u))
+
+-- no entry before it is of the URI
+module _ (s marks u : List ℕ) (v : isSome (uriText u) ≡ true) (w : MarkedEntries s marks) {m : ℕ} (e : m ≡ markOf (uriSlot u)) where
+  pub code-place : (i : ℕ) → i ≤ length s / entryWidth → AskedFrom s u i → {r : ℕ} → r ≡ placeIn m (part marks i (length s / entryWidth - i)) → AskedFrom s u (i + r)
+  code-place i l p f =
+      to-place (AskedFrom s u) m marks (length s / entryWidth) (omega (arith, w .few, w .room))
+      (λ j k d q. (next-good s j (q .0) k, q .1 ∙ code-other s j (q .0) k u v marks w e d)) i l p f
+
+  pub code-first : isSome (readSchema s) ≡ true → {r : ℕ} → r ≡ placeIn m (take (length s / entryWidth) marks) → AskedFrom s u r
+  code-first g f =
+      let z : length s / entryWidth - 0 ≡ length s / entryWidth = omega arith in
+      let start : AskedFrom s u 0 = (ap isSome (sym (schema-at s)) ∙ g, ap (λ (o : Option Schema). schemaCode o (uriText u)) (schema-at s)) in
+      subst (AskedFrom s u) (omega arith) (code-place 0 (omega arith) start (f ∙ ap (λ (k : ℕ). placeIn m (take k marks)) (sym z)))
 
 -- ── properties that are all different ───────────────────────────────────────────────────────
 

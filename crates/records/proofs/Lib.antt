@@ -1,5 +1,6 @@
 pub mod OptionLaws
 pub mod PartLaws
+pub mod PlaceLaws
 pub mod NumberLaws
 pub mod FieldLaws
 pub mod BodyLaws

@@ -2,56 +2,60 @@
 use Prim.Native.Nat.{ℕ, zero, suc, _+_, _-_, _*_, _%_, _≤_, _<_}
 use native.Mathlib.Numerals.{add-one}
 use native.Mathlib.Omega.{arith}
-use mathlib.Core.Bool.{Bool, true, false, not, _||_, or-assoc, or-false}
+use native.Mathlib.Nat.{mul-le-mul}
+use mathlib.Core.Bool.{Bool, false, _||_, or-assoc, or-false}
 use mathlib.Core.List.{List, _++_}
 use mathlib.Core.Path.{_≡_, refl, sym, ap, _∙_}
 use lib.Dec.{eqb, eqb→eq, eqb-refl}
 use lib.ListN.{length, getD, set, take, drop, length-drop, take-append-drop, drop-of-length-le}
-use lib.Seq.{drop-cons, drop-drop, drop-append-le, take-append-le, take-at, drop-at, length-take-le, getD-set-same, getD-set-other}
+use lib.Seq.{drop-cons, drop-append-le, take-append-le, take-at, drop-at, length-take-le, getD-set-same, getD-set-other}
 use borrow.Author.Count.{below-more}
-use borrow.Author.Tests.{eqb-true, eqb-false, eq-eqb, not-true}
+use borrow.Author.Tests.{eqb-true, eq-eqb}
 use Rattle.definitions.specs.Limits.{slotWidth, termLimit, termTableWidth}
 use Rattle.definitions.specs.Lists.{some?}
-use Rattle.definitions.specs.Bytes.{part, little}
+use Rattle.definitions.specs.Bytes.{word, part}
 use Rattle.definitions.specs.Saved.{slotTerm, termsIn}
 use Rattle.laws.proofs.Tests.{trueIs}
 use Rattle.laws.proofs.Bytes.{AreBytes}
-use Rattle.records.specs.Marks.{markFrom, markOf, slotAt, Marked}
+use Rattle.records.specs.Marks.{markSum, markOf, placeIn, slotAt, Marked}
 use Rattle.records.specs.Table.{HoldsTerms, GoodSlot, numberFrom, slotSet}
 use Rattle.records.proofs.PartLaws.{some-part}
+use Rattle.records.proofs.PlaceLaws.{to-place, place-within}
 use Rattle.records.proofs.SameLaws.{Compared, test-is}
-use Rattle.records.proofs.TableLaws.{holds-few, number-end, number-next}
+use Rattle.records.proofs.TableLaws.{holds-few, number-next}
 
 -- ── a mark ──────────────────────────────────────────────────────────────────────────────────
 
--- the mark of the words before an offset, and how many are left
-pub record Marking (s : List ℕ) (at m : ℕ) : Type 0 where
+-- the sum of the words before an offset, and how many are left
+pub record Marking (s : List ℕ) (at sum : ℕ) : Type 0 where
   pub left : ℕ
-  pub place : at + 8 * left ≡ 48
-  pub whole : markOf s ≡ markFrom left m (drop at s)
+  pub place : at + 2 * left ≡ 48
+  pub whole : sum + markSum left at s ≡ markSum 24 0 s
+  pub low : sum ≤ 3145680 * at
 
 pub mark-start : (s : List ℕ) → Marking s 0 0
-unfolding markOf
-mark-start s = record { left = 6; place = refl; whole = refl }
+mark-start s = record { left = 24; place = refl; whole = omega arith; low = omega arith }
 
-module _ (s : List ℕ) (at m : ℕ) (i : Marking s at m) where
-  pub mark-next : at < 48 → {w : ℕ} → w ≡ little (part s at 8) → Marking s (at + 8) ((m * 31 + w % 65521) % 65536)
-  mark-next h {w} e = go (i .left) (i .place) (i .whole)
+-- a word as often as that
+pub times-low : (w at : ℕ) → w < 65536 → at < 48 → w * (at + 1) ≤ 3145680
+times-low w at h k = mul-le-mul {n₁ = w} {m₁ = at + 1} {n₂ = 65535} {m₂ = 48} (omega arith) (omega arith)
+
+module _ (s : List ℕ) (at sum : ℕ) (i : Marking s at sum) where
+  pub mark-next : at < 48 → (w : ℕ) → w < 65536 → w ≡ word s at → Marking s (at + 2) (sum + w * (at + 1))
+  mark-next h w l e = go (i .left) (i .place) (i .whole)
     where
-      go : (k : ℕ) → at + 8 * k ≡ 48 → markOf s ≡ markFrom k m (drop at s) → Marking s (at + 8) ((m * 31 + w % 65521) % 65536)
+      go : (k : ℕ) → at + 2 * k ≡ 48 → sum + markSum k at s ≡ markSum 24 0 s → Marking s (at + 2) (sum + w * (at + 1))
       go zero p q = absurd (omega arith)
       go (suc k) p q =
-          record {
-            left = k;
-            place = omega arith;
-            whole = q ∙ unfold markFrom in λ t. markFrom k ((m * 31 + sym e t % 65521) % 65536) (drop-drop 8 at s t);
-          }
+          let here : markSum (suc k) at s ≡ w * (at + 1) + markSum k (at + 2) s = unfold markSum in λ t. sym e t * (at + 1) + markSum k (at + 2) s in
+          record { left = k; place = omega arith; whole = omega (arith, here, q); low = omega (arith, times-low w at l h, i .low) }
 
-  pub mark-end : 48 ≤ at → m ≡ markOf s
+  pub mark-end : 48 ≤ at → sum % 65521 ≡ markOf s
+  unfolding markOf
   mark-end h = go (i .left) (i .place) (i .whole)
     where
-      go : (k : ℕ) → at + 8 * k ≡ 48 → markOf s ≡ markFrom k m (drop at s) → m ≡ markOf s
-      go zero p q = unfold markFrom in sym q
+      go : (k : ℕ) → at + 2 * k ≡ 48 → sum + markSum k at s ≡ markSum 24 0 s → sum % 65521 ≡ markOf s
+      go zero p q = let none : markSum zero at s ≡ 0 = unfold markSum in refl in let all : sum ≡ markSum 24 0 s = omega (arith, none, q) in ap (λ (n : ℕ). n % 65521) all
       go (suc k) p q = absurd (omega arith)
 
 -- ── a mark among others ─────────────────────────────────────────────────────────────────────
@@ -122,29 +126,24 @@ module _ (table slot : List ℕ) (n : ℕ) (l : n < termLimit) (h : length table
 
 -- ── a slot looked for ───────────────────────────────────────────────────────────────────────
 
-neither : (a b : Bool) → (a || b) ≡ false → (a ≡ false) × (b ≡ false)
-neither true b e = absurd (trueIs false (sym e))
-neither false b e = (refl, e)
-
 module _ (table slot : List ℕ) (n : ℕ) (h : HoldsTerms table n) (g : GoodSlot slot) (a : AreBytes table) (b : AreBytes slot)
     (marks : List ℕ) (long : length marks ≡ termLimit) (w : Marked table n marks) (m : ℕ) (e : m ≡ markOf slot) where
   marks-differ : (i : ℕ) → i < n → (getD marks i 0 ≡ m → ⊥) → Compared slot (part table (i * slotWidth) (i * slotWidth + slotWidth - i * slotWidth)) false
   marks-differ i l d =
       (λ t. absurd (trueIs false t), λ q. absurd (d (w i l ∙ ap markOf (sym (q ∙ some-part table (i * slotWidth) slotWidth)) ∙ sym e)))
 
-  pub number-skip : (i : ℕ) → i < n → (getD marks i 0 ≡ m → ⊥) → numberFrom i (slotTerm slot) (termsIn table) ≡ numberFrom (i + 1) (slotTerm slot) (termsIn table)
+  number-skip : (i : ℕ) → i < n → (getD marks i 0 ≡ m → ⊥) → numberFrom i (slotTerm slot) (termsIn table) ≡ numberFrom (i + 1) (slotTerm slot) (termsIn table)
   number-skip i l d = number-next table slot n h g a b i l (marks-differ i l d) refl
 
-  none-from : (k i : ℕ) → i + k ≡ n → some? (eqb m) (part marks i k) ≡ false → n ≡ numberFrom i (slotTerm slot) (termsIn table)
-  none-from zero i s q = number-end table slot n h g i (omega arith) (omega arith)
-  none-from (suc k) i s q =
-      let c = drop-cons marks i 0 (omega (arith, holds-few table n h)) in
-      let p = neither (eqb m (getD marks i 0)) (some? (eqb m) (part marks (suc i) k)) (rw c at q) in
-      none-from k (i + 1) (omega arith) (rw (add-one i) (p .1)) ∙ sym (number-skip i (omega arith) (λ r. eqb-false m (getD marks i 0) (p .0) (sym r)))
-
-  -- no mark from a number on is the slot's
-  pub number-none : (i : ℕ) → i ≤ n → {r : Bool} → r ≡ some? (eqb m) (part marks i (n - i)) → not r ≡ true → n ≡ numberFrom i (slotTerm slot) (termsIn table)
-  number-none i l {r} f q = none-from (n - i) i (omega arith) (sym f ∙ not-true r q)
+  -- no slot before the next place of its mark is the same
+  pub number-place : (from i : ℕ) → i ≤ n → numberFrom from (slotTerm slot) (termsIn table) ≡ numberFrom i (slotTerm slot) (termsIn table)
+      → {r : ℕ} → r ≡ placeIn m (part marks i (n - i))
+      → (i + r ≤ n) × (numberFrom from (slotTerm slot) (termsIn table) ≡ numberFrom (i + r) (slotTerm slot) (termsIn table))
+  number-place from i l p e =
+      let few : n ≤ length marks = omega (arith, holds-few table n h) in (
+        place-within m marks n i few l e,
+        to-place (λ j. numberFrom from (slotTerm slot) (termsIn table) ≡ numberFrom j (slotTerm slot) (termsIn table)) m marks n few (λ j k d q. q ∙ number-skip j k d) i l p e,
+      )
 
 -- a slot among those after it, as the code hands it on
 pub slot-mark : (table marks : List ℕ) (n i : ℕ) → Marked table n marks → i < n

@@ -1,11 +1,11 @@
 -- Laws of numbers in bytes: eight bytes, two's complement, a range test on the unsigned number, bytes that are all zero.
 use Prim.Native.Nat.{ℕ, zero, suc, _+_, _-_, _*_, _^_, _<_, _≤_}
-use mathlib.Core.Bool.{true, false, and-true}
+use mathlib.Core.Bool.{Bool, true, false, _&&_, and-true}
 use mathlib.Core.List.{List}
-use mathlib.Core.Path.{_≡_, refl, sym, ap, _∙_, subst}
+use mathlib.Core.Path.{_≡_, refl, sym, ap, ap₂, _∙_, subst}
 use native.Mathlib.Numerals.{add-one}
 use native.Mathlib.Omega.{arith}
-use lib.Dec.{ltb, leb, leb·suc-suc}
+use lib.Dec.{eqb, ltb, leb, leb·suc-suc}
 use lib.IntN.{ℤ, pos, negsuc, _-ℤ_}
 use lib.ListN.{length, drop, drop-of-length-le}
 use lib.Seq.{drop-cons}
@@ -97,12 +97,16 @@ module _ (v : ℕ) where
 
 -- ── bytes that are all zero ─────────────────────────────────────────────────────────────────
 
+zero-test : (b : ℕ) → eqb b 0 ≡ eqb 0 b
+zero-test zero = refl
+zero-test (suc b) = ne-eqb (suc b) 0 (λ e. omega arith) ∙ sym (ne-eqb 0 (suc b) (λ e. omega arith))
+
+-- what was looked at is zero, and so is the rest, where all is
 module _ (s : List ℕ) (i : ℕ) where
-  pub zero-end : length s ≤ i → allZero (drop i s) ≡ true
-  zero-end h = rw (drop-of-length-le s {i = i} h)
+  pub zero-next : (z : Bool) → i < length s → z && allZero (drop i s) ≡ allZero s → (z && eqb (byte s i) 0) && allZero (drop (i + 1) s) ≡ allZero s
+  zero-next false h far = far
+  zero-next true h far = ap₂ _&&_ (zero-test (byte s i)) (ap (λ (n : ℕ). allZero (drop n s)) (add-one i)) ∙ (rw (drop-cons s i 0 h) at far)
 
-  pub zero-more : i < length s → byte s i ≡ 0 → allZero (drop i s) ≡ allZero (drop (i + 1) s)
-  zero-more h e = rw (add-one, drop-cons s i 0 h, e)
-
-  pub zero-not : i < length s → (byte s i ≡ 0 → ⊥) → allZero (drop i s) ≡ false
-  zero-not h n = rw (drop-cons s i 0 h, ne-eqb 0 (byte s i) (λ e. n (sym e)))
+  pub zero-end : (z : Bool) → length s ≤ i → z && allZero (drop i s) ≡ allZero s → z ≡ allZero s
+  zero-end false h far = far
+  zero-end true h far = sym (rw (drop-of-length-le s {i = i} h)) ∙ far

@@ -1,19 +1,26 @@
 -- Marks of slots: equal slots have equal marks.
 use Prim.Native.Nat.{ℕ, zero, suc, _+_, _*_, _%_, _≤_, _<_}
-use mathlib.Core.List.{List, _∷_}
+use mathlib.Core.Bool.{cond}
+use mathlib.Core.List.{List, [], _∷_}
 use mathlib.Core.Path.{_≡_}
-use lib.ListN.{length, getD, take, drop}
+use lib.Dec.{eqb}
+use lib.ListN.{length, getD}
 use Rattle.definitions.specs.Limits.{slotWidth, entryLimit, textWidth}
-use Rattle.definitions.specs.Bytes.{part, little, filled}
+use Rattle.definitions.specs.Bytes.{word, part, filled}
 
--- 16 bits of so many words of 8 bytes, after a mark of those before them
-unfoldable pub markFrom : (words m : ℕ) → List ℕ → ℕ
-markFrom zero m bs = m
-markFrom (suc k) m bs = markFrom k ((m * 31 + little (take 8 bs) % 65521) % 65536) (drop 8 bs)
+-- so many words of 2 bytes from an offset on, each as often as its offset and one more say
+unfoldable pub markSum : (words at : ℕ) → List ℕ → ℕ
+markSum zero at s = 0
+markSum (suc k) at s = word s at * (at + 1) + markSum k (at + 2) s
 
 -- the mark of a slot, whose last byte does not count
 unfoldable pub markOf : List ℕ → ℕ
-markOf slot = markFrom 6 0 slot
+markOf slot = markSum 24 0 slot % 65521
+
+-- the place of a number in a list, or the list's length
+unfoldable pub placeIn : ℕ → List ℕ → ℕ
+placeIn x [] = 0
+placeIn x (y ∷ ys) = cond (eqb x y) 0 (1 + placeIn x ys)
 
 -- the slot of a number
 abbrev pub slotAt : (table : List ℕ) → ℕ → List ℕ

@@ -122,14 +122,12 @@ fn records_distinct(s: &[u8]) -> bool
     true
 }
 
-// Whether term records are good and all different: by their slots, where a table has room for them.
+// Whether good term records are all different: by their slots, where a table has room for them.
 // Ruled out: neighbours alone compared; integer 3 and decimal 3.0 taken for one term.
 pub fn terms_distinct(s: &[u8]) -> bool
+    requires { ⌜ isSome (readTerms (now s)) ≡ true ⌝ }
     ensures { λ r. ⌜ r ≡ distinctIn sameTerm (readTerms (now (s .entry))) ⌝ }
 {
-    let Counted::Count(_) = count_terms(s) else {
-        return false;
-    };
     let mut table = [0u8; TABLE_WIDTH];
     let Added::Count(n) = list_terms(s, &mut table) else {
         return records_distinct(s);
@@ -205,11 +203,9 @@ fn marked_distinct(s: &[u8], marks: &[u16]) -> bool
 // Whether schema records are good and of different properties: by their URIs' marks, where there are no more than a schema may have.
 // Ruled out: a property twice with two datatypes let pass; neighbours alone compared.
 pub fn properties_distinct(s: &[u8]) -> bool
+    requires { ⌜ isSome (readSchema (now s)) ≡ true ⌝ }
     ensures { λ r. ⌜ r ≡ distinctIn sameProperty (readSchema (now (s .entry))) ⌝ }
 {
-    let Counted::Count(_) = count_entries(s) else {
-        return false;
-    };
     if SCHEMA_WIDTH < s.len() {
         return entries_distinct(s);
     }

@@ -1,13 +1,13 @@
 // Marks of slots, 16 bits each: slots whose marks differ are told apart without a look at their bytes.
 ghost use mathlib.Core.Path.{_≡_};
-ghost use Prim.Native.Nat.{_+_, _≤_, _<_};
+ghost use Prim.Native.Nat.{_+_, _≤_, _<_, min};
 ghost use lib.ListN.{length};
 ghost use Rattle.definitions.specs.Limits.{slotWidth, termLimit, termTableWidth};
 ghost use Rattle.definitions.specs.Lists.{isIn};
 ghost use Rattle.definitions.specs.Saved.{slotTerm, termsIn};
-ghost use Rattle.records.specs.Marks.{markOf, slotAt, Marked};
+ghost use Rattle.records.specs.Marks.{markOf, placeIn, slotAt, Marked};
 ghost use Rattle.records.specs.Table.{HoldsTerms, GoodSlot, numberFrom};
-use crate::numbers::long_at;
+use crate::numbers::word_at;
 use definitions::SLOT_WIDTH;
 use definitions::TERM_LIMIT;
 
@@ -16,14 +16,13 @@ pub fn mark_of(slot: &[u8]) -> u16
     requires { ⌜ length (now slot) ≡ slotWidth ⌝ }
     ensures { λ r. ⌜ r ≡ markOf (now (slot .entry)) ⌝ }
 {
-    let mut m: u64 = 0;
+    let mut sum = 0;
     let mut at = 0;
     while at < 48 {
-        let word = long_at(slot, at);
-        m = (m * 31 + word % 65521) % 65536;
-        at += 8;
+        sum += word_at(slot, at) * (at + 1);
+        at += 2;
     }
-    m as u16
+    (sum % 65521) as u16
 }
 
 // Whether a number is in a list. All are looked at, so that the compiler takes many at once.
@@ -38,6 +37,43 @@ pub fn is_in(list: &[u16], x: u16) -> bool
         i += 1;
     }
     seen
+}
+
+// The place of a number in a list, looked for one by one, or the list's length.
+fn first_in(list: &[u16], x: u16) -> usize
+    ensures { λ r. ⌜ r ≡ placeIn x (now (list .entry)) ⌝ }
+{
+    let mut i = 0;
+    while i < list.len() {
+        if list[i] == x {
+            return i;
+        }
+        i += 1;
+    }
+    i
+}
+
+// The width of the next block, where so many are left.
+fn block(left: usize) -> usize
+    ensures { λ r. ⌜ r ≡ min left 128 ⌝ }
+{
+    if left <= 128 { left } else { 128 }
+}
+
+// The same by blocks of 128: a block is looked through one by one only where it has the number.
+// Ruled out: the place within its block; the last block left out.
+pub fn place_of(list: &[u16], x: u16) -> usize
+    ensures { λ r. ⌜ r ≡ placeIn x (now (list .entry)) ⌝ }
+{
+    let mut i = 0;
+    while i < list.len() {
+        let end = i + block(list.len() - i);
+        if is_in(&list[i..end], x) {
+            return i + first_in(&list[i..end], x);
+        }
+        i = end;
+    }
+    i
 }
 
 // The marks of a table's first slots. Ruled out: the mark of the slot beside it; the last slot left out.
@@ -75,19 +111,15 @@ pub fn find_slot(
     requires { ⌜ from ≤ n ⌝ }
     ensures { λ r. ⌜ r ≡ numberFrom from (slotTerm (now (slot .entry))) (termsIn (now (table .entry))) ⌝ }
 {
-    if !is_in(&marks[from..n], mark) {
-        return n;
-    }
-    let mut i = from;
+    let mut i = from + place_of(&marks[from..n], mark);
     while i < n {
-        if marks[i] == mark {
-            let at = i * SLOT_WIDTH;
-            let end = at + SLOT_WIDTH;
-            if check::same(slot, &table[at..end]) {
-                return i;
-            }
+        let at = i * SLOT_WIDTH;
+        let end = at + SLOT_WIDTH;
+        if check::same(slot, &table[at..end]) {
+            return i;
         }
-        i += 1;
+        let next = i + 1;
+        i = next + place_of(&marks[next..n], mark);
     }
     n
 }

@@ -63,12 +63,11 @@ pub fn within(v: u64, low: u64, high: u64) -> bool
 pub fn is_zero(s: &[u8]) -> bool
     ensures { λ r. ⌜ r ≡ allZero (now (s .entry)) ⌝ }
 {
+    let mut zero = true;
     let mut i = 0;
     while i < s.len() {
-        if s[i] != 0 {
-            return false;
-        }
+        zero = zero & (s[i] == 0);
         i += 1;
     }
-    true
+    zero
 }

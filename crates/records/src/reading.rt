@@ -70,17 +70,20 @@ pub fn read_entry(s: &[u8], at: usize) -> Read
     if !has_room(s, at, ENTRY_WIDTH) {
         return Read::Malformed;
     }
-    if s[at] != 0x21 {
-        return Read::Malformed;
-    }
     let start = at + 1;
     let end = start + TEXT_WIDTH;
-    if !uri_ok(&s[start..end]) {
-        return Read::Malformed;
-    }
-    let datatype = s[end];
-    match datatype {
-        1..=5 => Read::Next(end + 1),
+    let kind = s[at];
+    match kind {
+        0x21 => {
+            if !uri_ok(&s[start..end]) {
+                return Read::Malformed;
+            }
+            let datatype = s[end];
+            match datatype {
+                1..=5 => Read::Next(end + 1),
+                _ => Read::Malformed,
+            }
+        }
         _ => Read::Malformed,
     }
 }

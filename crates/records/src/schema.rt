@@ -1,6 +1,6 @@
 // The marks of a schema's URIs, the schema's datatype of a URI, and the least type of a term.
-use crate::marks::is_in;
 use crate::marks::mark_of;
+use crate::marks::place_of;
 use crate::reading::ENTRY_WIDTH;
 use crate::table::slot_of;
 use definitions::ENTRY_LIMIT;
@@ -46,20 +46,16 @@ pub fn datatype_of(schema: &[u8], marks: &[u16], uri: &[u8], mark: u16) -> u8
     ensures { λ r. ⌜ r ≡ schemaCode (readSchema (now (schema .entry))) (uriText (now (uri .entry))) ⌝ }
 {
     let entries = schema.len() / ENTRY_WIDTH;
-    if !is_in(&marks[..entries], mark) {
-        return 0;
-    }
-    let mut i = 0;
+    let mut i = place_of(&marks[..entries], mark);
     while i < entries {
-        if marks[i] == mark {
-            let at = i * ENTRY_WIDTH;
-            let field = at + 1;
-            let end = field + TEXT_WIDTH;
-            if check::same(&schema[field..end], uri) {
-                return schema[end];
-            }
+        let at = i * ENTRY_WIDTH;
+        let field = at + 1;
+        let end = field + TEXT_WIDTH;
+        if check::same(&schema[field..end], uri) {
+            return schema[end];
         }
-        i += 1;
+        let next = i + 1;
+        i = next + place_of(&marks[next..entries], mark);
     }
     0
 }

@@ -1,5 +1,7 @@
 -- `engine::card::records_refusal` meets its contract.
 use borrow.Author.Needs.{needs}
+use mathlib.Core.Path.{sym, _∙_}
+use Rattle.records.proofs.ListLaws.{counted-some}
 use Rattle.engine.proofs.CardLaws.{two, three, four, five, all-pass}
 use Rattle.engine.proofs.card.records_refusal.Statement.{statement}
 use Rattle.engine.proofs.card.records_refusal.Tie as tie
@@ -17,7 +19,7 @@ returns : tie.Need-returns
 returns c = two _ _ (c .before .before .count-terms .ensures) (c .enum-told2 .given .1)
 
 terms-distinct-requires : tie.Need-terms-distinct-requires
-terms-distinct-requires c κs = search needs
+terms-distinct-requires c κs = counted-some _ (sym (c .before .before .count-terms .ensures) ∙ c .enum-told .given .1)
 
 returns-2 : tie.Need-returns-2
 returns-2 c = three _ _ (c .before .before .before .before .count-terms .ensures) (c .before .before .enum-told .given .1) (c .before .terms-distinct .ensures) (c .if1 .taken)
@@ -35,7 +37,7 @@ returns-3 : tie.Need-returns-3
 returns-3 c = four _ _ (c .before .before .before .before .before .before .before .count-terms .ensures) (c .before .before .before .before .before .enum-told .given .1) (c .before .before .before .before .terms-distinct .ensures) (c .before .before .before .if1 .left) (c .before .before .count-entries .ensures) (c .enum-told4 .given .1)
 
 properties-distinct-requires : tie.Need-properties-distinct-requires
-properties-distinct-requires c κs = search needs
+properties-distinct-requires c κs = counted-some _ (sym (c .before .before .count-entries .ensures) ∙ c .enum-told3 .given .1)
 
 returns-4 : tie.Need-returns-4
 returns-4 c = five _ _ (c .before .before .before .before .before .before .before .before .before .count-terms .ensures) (c .before .before .before .before .before .before .before .enum-told .given .1) (c .before .before .before .before .before .before .terms-distinct .ensures) (c .before .before .before .before .before .if1 .left) (c .before .before .before .before .count-entries .ensures) (c .before .before .enum-told3 .given .1) (c .before .properties-distinct .ensures) (c .if2 .taken)

@@ -1,3 +1,4 @@
+-- `machine::page::number_body` meets its contract.
 use native.Mathlib.Omega.{arith}
 use Rattle.machine.proofs.TermLaws.{body-short, held-holds, held-width, slot-is-good, joins-there, joins-full, joins-written}
 use borrow.Author.Needs.{needs}

@@ -1,3 +1,4 @@
+-- `machine::page::number_triple` meets its contract.
 use native.Mathlib.Omega.{arith}
 use Rattle.definitions.specs.Terms.{Term}
 use Rattle.machine.specs.Page.{subjectIn, propertyIn}

@@ -1,3 +1,4 @@
+-- `machine::page::take_page` meets its contract.
 use mathlib.Core.Path.{ap}
 use Rattle.records.specs.Answers.{isSome}
 use Rattle.machine.proofs.TermLaws.{held-width}

@@ -1,3 +1,4 @@
+-- `machine::page::well_typed` meets its contract.
 use mathlib.Core.Path.{ap, _∙_}
 use Rattle.records.specs.Answers.{isSome}
 use Rattle.records.specs.Marks.{markOf}

@@ -1,3 +1,4 @@
+-- `machine::quads::is_quad_at` meets its contract.
 use mathlib.Core.Bool.{_&&_}
 use mathlib.Core.Path.{sym, _∙_}
 use lib.Dec.{eqb}

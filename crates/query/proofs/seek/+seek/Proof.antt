@@ -1,6 +1,5 @@
 -- `seek::seek` meets its contract: one law for each kind; the levels left fall. Assumes nothing.
 use native.Mathlib.Omega.{arith}
-use mathlib.Core.Path.{_≡_}
 use Rattle.laws.proofs.Reading.{query-is}
 use Rattle.laws.proofs.Walking.{only-loads, first-loads}
 use Rattle.laws.proofs.Walked.{leaf-walked, one-walked, second-walks, two-walked, loads-as, walked-as, walked-more}

@@ -1,5 +1,4 @@
 -- `seek::seek_filter` meets its contract: one law for each way through. Assumes nothing.
-use mathlib.Core.Path.{_≡_}
 use borrow.Author.Tests.{not-true, not-false}
 use Rattle.laws.proofs.Walked.{walked-more, both-walked}
 use Rattle.query.proofs.SeekLaws.{ended-seeks, unknown-seeks, true-seeks, false-seeks}

@@ -1,13 +1,13 @@
 -- `records::marks::find_slot` meets its contract. The loop keeps what is asked of the rest equal to what is asked of the whole.
-use Prim.Native.Nat.{_-_, _≤_}
+use Prim.Native.Nat.{_+_, _-_, _≤_}
 use native.Mathlib.Omega.{arith}
-use mathlib.Core.Logic.{⊎-elim}
 use mathlib.Core.Path.{_≡_, refl, sym, _∙_}
 use borrow.Author.Needs.{needs}
 use Rattle.definitions.specs.Saved.{slotTerm, termsIn}
 use Rattle.records.specs.Table.{numberFrom}
+use Rattle.records.proofs.PlaceLaws.{place-within}
 use Rattle.records.proofs.TableLaws.{holds-few, number-end, number-here, number-next}
-use Rattle.records.proofs.MarkLaws.{number-skip, number-none}
+use Rattle.records.proofs.MarkLaws.{number-place}
 use Rattle.records.proofs.marks.find_slot.Statement.{statement}
 use Rattle.records.proofs.marks.find_slot.Tie as tie
 
@@ -17,65 +17,77 @@ Inv-loop table n marks slot mark from i₀ i = (i ≤ n) × (numberFrom from (sl
 abbrev μ-loop : tie.MeasureT-loop
 μ-loop table n marks slot mark from i₀ i = n - i
 
-mul-is-in : tie.Need-mul-is-in Inv-loop μ-loop
-mul-is-in c = omega (arith, holds-few _ _ (c .before .before .before .pre .0), c .before .before .before .pre .1 .1 .1 .1 .1)
+mul-place-of : tie.Need-mul-place-of Inv-loop μ-loop
+mul-place-of c = omega (arith, holds-few _ _ (c .before .before .before .pre .0), c .before .before .before .pre .1 .1 .1 .1 .1)
 
-sub-is-in : tie.Need-sub-is-in Inv-loop μ-loop
-sub-is-in c = c .before .before .before .pre .1 .1 .1 .1 .1
+sub-place-of : tie.Need-sub-place-of Inv-loop μ-loop
+sub-place-of c = search needs
 
-part-is-in-start : tie.Need-part-is-in-start Inv-loop μ-loop
-part-is-in-start c = omega (arith, holds-few _ _ (c .before .before .before .pre .0), c .before .before .before .pre .1 .0, c .before .before .before .pre .1 .1 .1 .1 .1)
+part-place-of-start : tie.Need-part-place-of-start Inv-loop μ-loop
+part-place-of-start c = search needs
 
-part-is-in-end : tie.Need-part-is-in-end Inv-loop μ-loop
-part-is-in-end c = omega (arith, holds-few _ _ (c .before .before .before .pre .0), c .before .before .before .pre .1 .0, c .before .before .before .pre .1 .1 .1 .1 .1)
+part-place-of-end : tie.Need-part-place-of-end Inv-loop μ-loop
+part-place-of-end c = omega (arith, holds-few _ _ (c .before .before .before .pre .0), c .before .before .before .pre .1 .0, c .before .before .before .pre .1 .1 .1 .1 .1)
 
-is-in-requires : tie.Need-is-in-requires Inv-loop μ-loop
-is-in-requires c κs = search needs
+place-of-requires : tie.Need-place-of-requires Inv-loop μ-loop
+place-of-requires c κs = search needs
 
-returns : tie.Need-returns Inv-loop μ-loop
-returns c = number-none _ _ _ (c .before .before .before .before .before .before .pre .0) (c .before .before .before .before .before .before .pre .1 .1 .1 .0) (λ k. omega (arith, c .before .before .before .before .before .shared-slice-known .given k)) (λ k. omega (arith, c .before .before .before .shared-slice-known3 .given k)) (c .before .before .before .before .before .before .args .marks .now) (c .before .before .before .before .before .before .pre .1 .0) (c .before .before .before .before .before .before .pre .1 .1 .0) _ (c .before .before .before .before .before .before .pre .1 .1 .1 .1 .0) _ (c .before .before .before .before .before .before .pre .1 .1 .1 .1 .1) (c .before .is-in .ensures) (c .if1 .taken)
+add-i : tie.Need-add-i Inv-loop μ-loop
+add-i c = omega (arith, holds-few _ _ (c .before .before .before .before .before .pre .0), place-within _ (c .before .before .before .before .before .args .marks .now) (c .before .before .before .before .before .args .n) (c .before .before .before .before .before .args .from) (omega (arith, holds-few _ _ (c .before .before .before .before .before .pre .0), c .before .before .before .before .before .pre .1 .0)) (c .before .before .before .before .before .pre .1 .1 .1 .1 .1) (c .place-of .ensures))
 
 loop-holds : tie.Need-loop-holds Inv-loop μ-loop
-loop-holds c = (c .before .before .before .before .before .before .pre .1 .1 .1 .1 .1, refl)
-
-mul-if2 : tie.Need-mul-if2 Inv-loop μ-loop
-mul-if2 c = omega (arith, c .loop-test .taken, holds-few _ _ (c .before .before .before .before .before .before .before .before .pre .0))
-
-shared-slice-read-if2 : tie.Need-shared-slice-read-if2 Inv-loop μ-loop
-shared-slice-read-if2 c = omega (arith, c .before .loop-test .taken, c .before .before .before .before .before .before .before .before .before .pre .1 .0, holds-few _ _ (c .before .before .before .before .before .before .before .before .before .pre .0))
+loop-holds c = number-place _ _ _ (c .before .before .before .before .before .pre .0) (c .before .before .before .before .before .pre .1 .1 .1 .0) (λ k. omega (arith, c .before .before .before .before .shared-slice-known .given k)) (λ k. omega (arith, c .before .before .shared-slice-known3 .given k)) (c .before .before .before .before .before .args .marks .now) (c .before .before .before .before .before .pre .1 .0) (c .before .before .before .before .before .pre .1 .1 .0) _ (c .before .before .before .before .before .pre .1 .1 .1 .1 .0) (c .before .before .before .before .before .args .from) (c .before .before .before .before .before .args .from) (c .before .before .before .before .before .pre .1 .1 .1 .1 .1) refl (c .place-of .ensures)
 
 mul-at : tie.Need-mul-at Inv-loop μ-loop
-mul-at c = omega (arith, c .before .before .loop-test .taken, c .before .before .before .before .before .before .before .before .before .before .pre .0 .width, holds-few _ _ (c .before .before .before .before .before .before .before .before .before .before .pre .0))
+mul-at c = omega (arith, c .loop-test .taken, c .before .before .before .before .before .before .before .pre .0 .width, holds-few _ _ (c .before .before .before .before .before .before .before .pre .0))
 
 add-end : tie.Need-add-end Inv-loop μ-loop
-add-end c = omega (arith, c .before .before .loop-test .taken, c .before .before .before .before .before .before .before .before .before .before .pre .0 .width, holds-few _ _ (c .before .before .before .before .before .before .before .before .before .before .pre .0))
+add-end c = omega (arith, c .loop-test .taken, c .before .before .before .before .before .before .before .pre .0 .width, holds-few _ _ (c .before .before .before .before .before .before .before .pre .0))
 
 sub-same : tie.Need-sub-same Inv-loop μ-loop
-sub-same c = omega (arith, c .before .before .loop-test .taken, c .before .before .before .before .before .before .before .before .before .before .pre .0 .width, holds-few _ _ (c .before .before .before .before .before .before .before .before .before .before .pre .0))
+sub-same c = omega (arith, c .loop-test .taken, c .before .before .before .before .before .before .before .pre .0 .width, holds-few _ _ (c .before .before .before .before .before .before .before .pre .0))
 
 part-same-start : tie.Need-part-same-start Inv-loop μ-loop
-part-same-start c = omega (arith, c .before .before .loop-test .taken, c .before .before .before .before .before .before .before .before .before .before .pre .0 .width, holds-few _ _ (c .before .before .before .before .before .before .before .before .before .before .pre .0))
+part-same-start c = omega (arith, c .loop-test .taken, c .before .before .before .before .before .before .before .pre .0 .width, holds-few _ _ (c .before .before .before .before .before .before .before .pre .0))
 
 part-same-end : tie.Need-part-same-end Inv-loop μ-loop
-part-same-end c = omega (arith, c .before .before .loop-test .taken, c .before .before .before .before .before .before .before .before .before .before .pre .0 .width, holds-few _ _ (c .before .before .before .before .before .before .before .before .before .before .pre .0))
+part-same-end c = omega (arith, c .loop-test .taken, c .before .before .before .before .before .before .before .pre .0 .width, holds-few _ _ (c .before .before .before .before .before .before .before .pre .0))
 
 same-requires : tie.Need-same-requires Inv-loop μ-loop
 same-requires c κs = search needs
 
-returns-2 : tie.Need-returns-2 Inv-loop μ-loop
-returns-2 c = number-here _ _ _ (c .before .before .before .before .before .before .before .before .before .before .before .before .before .pre .0) (c .before .before .before .before .before .before .before .before .before .before .before .before .before .pre .1 .1 .1 .0) (λ k. omega (arith, c .before .before .before .before .before .before .before .before .before .before .before .before .shared-slice-known .given k)) (λ k. omega (arith, c .before .before .before .before .before .before .before .before .before .before .shared-slice-known3 .given k)) _ (c .before .before .before .before .before .loop-test .taken) (c .before .same .ensures) (c .if3 .taken) ∙ sym (c .before .before .before .before .before .before .loop .inv .1)
+returns : tie.Need-returns Inv-loop μ-loop
+returns c = number-here _ _ _ (c .before .before .before .before .before .before .before .before .before .before .pre .0) (c .before .before .before .before .before .before .before .before .before .before .pre .1 .1 .1 .0) (λ k. omega (arith, c .before .before .before .before .before .before .before .before .before .shared-slice-known .given k)) (λ k. omega (arith, c .before .before .before .before .before .before .before .shared-slice-known3 .given k)) _ (c .before .before .before .loop-test .taken) (c .before .same .ensures) (c .if1 .taken) ∙ sym (c .before .before .before .before .loop .inv .1)
 
-add-i : tie.Need-add-i Inv-loop μ-loop
-add-i c = omega (arith, c .before .before .loop-test .taken, holds-few _ _ (c .before .before .before .before .before .before .before .before .before .before .pre .0))
+add-next : tie.Need-add-next Inv-loop μ-loop
+add-next c = search needs
+
+mul-place-of-2 : tie.Need-mul-place-of-2 Inv-loop μ-loop
+mul-place-of-2 c = omega (arith, holds-few _ _ (c .before .before .before .before .before .before .before .before .before .before .pre .0), c .before .before .before .loop-test .taken)
+
+sub-place-of-2 : tie.Need-sub-place-of-2 Inv-loop μ-loop
+sub-place-of-2 c = search needs
+
+part-place-of-start-2 : tie.Need-part-place-of-start-2 Inv-loop μ-loop
+part-place-of-start-2 c = search needs
+
+part-place-of-end-2 : tie.Need-part-place-of-end-2 Inv-loop μ-loop
+part-place-of-end-2 c = omega (arith, holds-few _ _ (c .before .before .before .before .before .before .before .before .before .before .pre .0), c .before .before .before .before .before .before .before .before .before .before .pre .1 .0, c .before .before .before .loop-test .taken)
+
+place-of-requires-2 : tie.Need-place-of-requires-2 Inv-loop μ-loop
+place-of-requires-2 c κs = search needs
+
+add-i-2 : tie.Need-add-i-2 Inv-loop μ-loop
+add-i-2 c = omega (arith, holds-few _ _ (c .before .before .before .before .before .before .before .before .before .before .before .before .pre .0), place-within _ (c .before .before .before .before .before .before .before .before .before .before .before .before .args .marks .now) (c .before .before .before .before .before .before .before .before .before .before .before .before .args .n) (c .before .before .before .before .before .before .loop .i + 1) (omega (arith, holds-few _ _ (c .before .before .before .before .before .before .before .before .before .before .before .before .pre .0), c .before .before .before .before .before .before .before .before .before .before .before .before .pre .1 .0)) (omega (arith, c .before .before .before .before .before .loop-test .taken)) (c .place-of2 .ensures))
 
 loop-less : tie.Need-loop-less Inv-loop μ-loop
-loop-less c = omega (arith, c .before .before .loop-test .taken)
+loop-less c = search needs
 
 loop-again : tie.Need-loop-again Inv-loop μ-loop
-loop-again c = (omega (arith, c .before .before .loop-test .taken), c .before .before .before .loop .inv .1 ∙ ⊎-elim (λ t. number-next _ _ _ (c .before .before .before .before .before .before .before .before .before .before .pre .0) (c .before .before .before .before .before .before .before .before .before .before .pre .1 .1 .1 .0) (λ k. omega (arith, c .before .before .before .before .before .before .before .before .before .shared-slice-known .given k)) (λ k. omega (arith, c .before .before .before .before .before .before .before .shared-slice-known3 .given k)) _ (c .before .before .loop-test .taken) (t .2 .ensures) (t .3 .left)) (λ t. number-skip _ _ _ (c .before .before .before .before .before .before .before .before .before .before .pre .0) (c .before .before .before .before .before .before .before .before .before .before .pre .1 .1 .1 .0) (λ k. omega (arith, c .before .before .before .before .before .before .before .before .before .shared-slice-known .given k)) (λ k. omega (arith, c .before .before .before .before .before .before .before .shared-slice-known3 .given k)) (c .before .before .before .before .before .before .before .before .before .before .args .marks .now) (c .before .before .before .before .before .before .before .before .before .before .pre .1 .0) (c .before .before .before .before .before .before .before .before .before .before .pre .1 .1 .0) _ (c .before .before .before .before .before .before .before .before .before .before .pre .1 .1 .1 .1 .0) _ (c .before .before .loop-test .taken) (t .left)) (c .if2 .came))
+loop-again c = number-place _ _ _ (c .before .before .before .before .before .before .before .before .before .before .before .before .pre .0) (c .before .before .before .before .before .before .before .before .before .before .before .before .pre .1 .1 .1 .0) (λ k. omega (arith, c .before .before .before .before .before .before .before .before .before .before .before .shared-slice-known .given k)) (λ k. omega (arith, c .before .before .before .before .before .before .before .before .before .shared-slice-known3 .given k)) (c .before .before .before .before .before .before .before .before .before .before .before .before .args .marks .now) (c .before .before .before .before .before .before .before .before .before .before .before .before .pre .1 .0) (c .before .before .before .before .before .before .before .before .before .before .before .before .pre .1 .1 .0) _ (c .before .before .before .before .before .before .before .before .before .before .before .before .pre .1 .1 .1 .1 .0) (c .before .before .before .before .before .before .before .before .before .before .before .before .args .from) (c .before .before .before .before .before .before .loop .i + 1) (omega (arith, c .before .before .before .before .before .loop-test .taken)) (c .before .before .before .before .before .before .loop .inv .1 ∙ number-next _ _ _ (c .before .before .before .before .before .before .before .before .before .before .before .before .pre .0) (c .before .before .before .before .before .before .before .before .before .before .before .before .pre .1 .1 .1 .0) (λ k. omega (arith, c .before .before .before .before .before .before .before .before .before .before .before .shared-slice-known .given k)) (λ k. omega (arith, c .before .before .before .before .before .before .before .before .before .shared-slice-known3 .given k)) _ (c .before .before .before .before .before .loop-test .taken) (c .before .before .before .same .ensures) (c .before .before .if1 .left)) (c .place-of2 .ensures)
 
-returns-3 : tie.Need-returns-3 Inv-loop μ-loop
-returns-3 c = number-end _ _ _ (c .before .before .before .before .before .before .before .before .pre .0) (c .before .before .before .before .before .before .before .before .pre .1 .1 .1 .0) _ (c .before .loop .inv .0) (c .loop-test .left) ∙ sym (c .before .loop .inv .1)
+returns-2 : tie.Need-returns-2 Inv-loop μ-loop
+returns-2 c = number-end _ _ _ (c .before .before .before .before .before .before .before .pre .0) (c .before .before .before .before .before .before .before .pre .1 .1 .1 .0) _ (c .before .loop .inv .0) (c .loop-test .left) ∙ sym (c .before .loop .inv .1)
 
 pub find-slot-spec : {M : Type 1} → statement M
 find-slot-spec =
@@ -83,23 +95,27 @@ find-slot-spec =
     (tie.spec
     Inv-loop
     μ-loop
-    mul-is-in
-    sub-is-in
-    part-is-in-start
-    part-is-in-end
-    is-in-requires
-    returns
+    mul-place-of
+    sub-place-of
+    part-place-of-start
+    part-place-of-end
+    place-of-requires
+    add-i
     loop-holds
-    mul-if2
-    shared-slice-read-if2
     mul-at
     add-end
     sub-same
     part-same-start
     part-same-end
     same-requires
-    returns-2
-    add-i
+    returns
+    add-next
+    mul-place-of-2
+    sub-place-of-2
+    part-place-of-start-2
+    part-place-of-end-2
+    place-of-requires-2
+    add-i-2
     loop-less
     loop-again
-    returns-3)
+    returns-2)

@@ -1,28 +1,31 @@
--- `records::marks::mark_of` meets its contract. The loop keeps what is asked of the rest equal to what is asked of the whole.
-use Prim.Native.Nat.{_-_, _<_}
+-- `records::marks::mark_of` meets its contract. The loop keeps the sum so far and that of what is left equal to the whole.
+use Prim.Native.Nat.{_-_}
 use native.Mathlib.Omega.{arith}
 use borrow.Author.Needs.{needs}
-use Rattle.records.proofs.MarkLaws.{Marking, mark-start, mark-next, mark-end}
+use Rattle.records.proofs.MarkLaws.{Marking, mark-start, times-low, mark-next, mark-end}
 use Rattle.records.proofs.marks.mark_of.Statement.{statement}
 use Rattle.records.proofs.marks.mark_of.Tie as tie
 
 abbrev Inv-loop : tie.InvT-loop
-Inv-loop slot m₀ at₀ m at = (m < 65536) × Marking slot at m
+Inv-loop slot sum₀ at₀ sum at = Marking slot at sum
 
 abbrev μ-loop : tie.MeasureT-loop
-μ-loop slot m₀ at₀ m at = 48 - at
+μ-loop slot sum₀ at₀ sum at = 48 - at
 
 loop-holds : tie.Need-loop-holds Inv-loop μ-loop
-loop-holds c = (omega arith, mark-start _)
+loop-holds c = mark-start _
 
-long-at-requires : tie.Need-long-at-requires Inv-loop μ-loop
-long-at-requires c κs = search needs
+word-at-requires : tie.Need-word-at-requires Inv-loop μ-loop
+word-at-requires c κs = search needs
 
-mul-m : tie.Need-mul-m Inv-loop μ-loop
-mul-m c = search needs
+add-sum : tie.Need-add-sum Inv-loop μ-loop
+add-sum c = search needs
 
-add-m : tie.Need-add-m Inv-loop μ-loop
-add-m c = search needs
+mul-sum : tie.Need-mul-sum Inv-loop μ-loop
+mul-sum c = omega (arith, times-low (c .word-at .result) (c .before .before .loop .at) (c .word-at .ensures .1) (c .before .loop-test .taken))
+
+add-sum-2 : tie.Need-add-sum-2 Inv-loop μ-loop
+add-sum-2 c = omega (arith, times-low (c .word-at .result) (c .before .before .loop .at) (c .word-at .ensures .1) (c .before .loop-test .taken), c .before .before .loop .inv .low, c .before .loop-test .taken)
 
 add-at : tie.Need-add-at Inv-loop μ-loop
 add-at c = search needs
@@ -31,13 +34,13 @@ loop-less : tie.Need-loop-less Inv-loop μ-loop
 loop-less c = search needs
 
 loop-again : tie.Need-loop-again Inv-loop μ-loop
-loop-again c = (omega arith, mark-next _ _ _ (c .before .before .loop .inv .1) (c .before .loop-test .taken) (c .long-at .ensures))
+loop-again c = mark-next _ _ _ (c .before .before .loop .inv) (c .before .loop-test .taken) _ (c .word-at .ensures .1) (c .word-at .ensures .0)
 
 cast-result : tie.Need-cast-result Inv-loop μ-loop
 cast-result c = search needs
 
 returns : tie.Need-returns Inv-loop μ-loop
-returns c = mark-end _ _ _ (c .before .loop .inv .1) (c .loop-test .left)
+returns c = mark-end _ _ _ (c .before .loop .inv) (c .loop-test .left)
 
 pub mark-of-spec : {M : Type 1} → statement M
 mark-of-spec =
@@ -46,9 +49,10 @@ mark-of-spec =
     Inv-loop
     μ-loop
     loop-holds
-    long-at-requires
-    mul-m
-    add-m
+    word-at-requires
+    add-sum
+    mul-sum
+    add-sum-2
     add-at
     loop-less
     loop-again

@@ -1,8 +1,8 @@
 -- `records::reading::read_entry` meets its contract.
 use native.Mathlib.Omega.{arith}
 use mathlib.Core.Logic.{inl, inr}
-use borrow.Author.Needs.{needs}
 use Rattle.records.proofs.ReadLaws.{room-fits, entry-short, entry-kind, entry-uri, entry-code, entry-next}
+use borrow.Author.Needs.{needs}
 use Rattle.records.proofs.reading.read_entry.Statement.{statement}
 use Rattle.records.proofs.reading.read_entry.Tie as tie
 
@@ -12,17 +12,14 @@ has-room-requires c κs = search needs
 returns : tie.Need-returns
 returns c = entry-short _ _ (c .before .has-room .ensures) (c .if1 .taken)
 
-shared-slice-read-if2 : tie.Need-shared-slice-read-if2
-shared-slice-read-if2 c = omega (arith, room-fits _ _ _ (c .before .before .has-room .ensures) (c .before .if1 .left))
-
-returns-2 : tie.Need-returns-2
-returns-2 c = entry-kind _ _ (c .before .before .before .has-room .ensures) (c .before .before .if1 .left) (c .if2 .taken)
-
 add-start : tie.Need-add-start
-add-start c = omega (arith, room-fits _ _ _ (c .before .before .before .has-room .ensures) (c .before .before .if1 .left))
+add-start c = omega (arith, room-fits _ _ _ (c .before .has-room .ensures) (c .if1 .left))
 
 add-end : tie.Need-add-end
-add-end c = omega (arith, room-fits _ _ _ (c .before .before .before .has-room .ensures) (c .before .before .if1 .left))
+add-end c = omega (arith, room-fits _ _ _ (c .before .has-room .ensures) (c .if1 .left))
+
+shared-slice-read-kind : tie.Need-shared-slice-read-kind
+shared-slice-read-kind c = omega (arith, room-fits _ _ _ (c .before .before .has-room .ensures) (c .before .if1 .left))
 
 sub-uri-ok : tie.Need-sub-uri-ok
 sub-uri-ok c = search needs
@@ -36,23 +33,26 @@ part-uri-ok-end c = omega (arith, room-fits _ _ _ (c .before .before .before .ha
 uri-ok-requires : tie.Need-uri-ok-requires
 uri-ok-requires c κs = search needs
 
-returns-3 : tie.Need-returns-3
-returns-3 c = entry-uri _ _ (c .before .before .before .before .before .before .has-room .ensures) (c .before .before .before .before .before .if1 .left) (c .before .before .before .if2 .left) (c .before .uri-ok .ensures) (c .if3 .taken)
+returns-2 : tie.Need-returns-2
+returns-2 c = entry-uri _ _ (c .before .before .before .before .before .before .has-room .ensures) (c .before .before .before .before .before .if1 .left) (c .before .before .before .match .keys1) (c .before .uri-ok .ensures) (c .if2 .taken)
 
 shared-slice-read-datatype : tie.Need-shared-slice-read-datatype
 shared-slice-read-datatype c = omega (arith, room-fits _ _ _ (c .before .before .before .before .before .before .before .has-room .ensures) (c .before .before .before .before .before .before .if1 .left))
 
-add-t17 : tie.Need-add-t17
-add-t17 c = omega (arith, room-fits _ _ _ (c .before .before .before .before .before .before .before .before .before .has-room .ensures) (c .before .before .before .before .before .before .before .before .if1 .left))
+add-t22 : tie.Need-add-t22
+add-t22 c = omega (arith, room-fits _ _ _ (c .before .before .before .before .before .before .before .before .before .has-room .ensures) (c .before .before .before .before .before .before .before .before .if1 .left))
+
+returns-3 : tie.Need-returns-3
+returns-3 c = entry-next _ _ (c .before .before .before .before .before .before .before .before .before .has-room .ensures) (c .before .before .before .before .before .before .before .before .if1 .left) (c .before .before .before .before .before .before .match .keys1) (c .before .before .before .before .uri-ok .ensures) (c .before .before .before .if2 .left) (omega arith) (omega arith)
 
 returns-4 : tie.Need-returns-4
-returns-4 c = entry-next _ _ (c .before .before .before .before .before .before .before .before .before .has-room .ensures) (c .before .before .before .before .before .before .before .before .if1 .left) (c .before .before .before .before .before .before .if2 .left) (c .before .before .before .before .uri-ok .ensures) (c .before .before .before .if3 .left) (omega arith) (omega arith)
+returns-4 c = entry-code _ _ (c .before .before .before .before .before .before .before .before .has-room .ensures) (c .before .before .before .before .before .before .before .if1 .left) (c .before .before .before .before .before .match .keys1) (c .before .before .before .uri-ok .ensures) (c .before .before .if2 .left) (inl (omega arith))
 
 returns-5 : tie.Need-returns-5
-returns-5 c = entry-code _ _ (c .before .before .before .before .before .before .before .before .has-room .ensures) (c .before .before .before .before .before .before .before .if1 .left) (c .before .before .before .before .before .if2 .left) (c .before .before .before .uri-ok .ensures) (c .before .before .if3 .left) (inl (omega arith))
+returns-5 c = entry-code _ _ (c .before .before .before .before .before .before .before .before .before .has-room .ensures) (c .before .before .before .before .before .before .before .before .if1 .left) (c .before .before .before .before .before .before .match .keys1) (c .before .before .before .before .uri-ok .ensures) (c .before .before .before .if2 .left) (inr (omega arith))
 
 returns-6 : tie.Need-returns-6
-returns-6 c = entry-code _ _ (c .before .before .before .before .before .before .before .before .before .has-room .ensures) (c .before .before .before .before .before .before .before .before .if1 .left) (c .before .before .before .before .before .before .if2 .left) (c .before .before .before .before .uri-ok .ensures) (c .before .before .before .if3 .left) (inr (omega arith))
+returns-6 c = entry-kind _ _ (c .before .before .before .has-room .ensures) (c .before .before .if1 .left) (c .match .rest .1)
 
 pub read-entry-spec : {M : Type 1} → statement M
 read-entry-spec =
@@ -60,17 +60,17 @@ read-entry-spec =
     (tie.spec
     has-room-requires
     returns
-    shared-slice-read-if2
-    returns-2
     add-start
     add-end
+    shared-slice-read-kind
     sub-uri-ok
     part-uri-ok-start
     part-uri-ok-end
     uri-ok-requires
-    returns-3
+    returns-2
     shared-slice-read-datatype
-    add-t17
+    add-t22
+    returns-3
     returns-4
     returns-5
     returns-6)

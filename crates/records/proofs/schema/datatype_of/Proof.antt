@@ -1,44 +1,31 @@
 -- `records::schema::datatype_of` meets its contract. The loop keeps what is asked of the rest equal to what is asked of the whole.
-use Prim.Native.Nat.{_-_, _*_, _/_}
+use Prim.Native.Nat.{_+_, _-_, _/_}
 use native.Mathlib.Omega.{arith}
-use mathlib.Core.Bool.{true}
-use mathlib.Core.Logic.{⊎-elim}
-use mathlib.Core.Path.{_≡_, sym, ap, _∙_}
+use mathlib.Core.Path.{sym, _∙_}
 use borrow.Author.Needs.{needs}
 use lib.ListN.{length}
 use lib.Seq.{length-take-le}
-use Rattle.definitions.specs.Terms.{uriText, readEntry, readSchema}
-use Rattle.laws.proofs.RecordsAt.{recordsAt, schema-at}
-use Rattle.records.specs.Answers.{isSome, schemaCode}
 use Rattle.records.specs.Marks.{entryWidth}
+use Rattle.records.proofs.PlaceLaws.{place-within}
 use Rattle.records.proofs.SchemaLaws.{code-end}
-use Rattle.records.proofs.EntryLaws.{schema-whole, next-good, code-next, code-other, code-found, no-code}
+use Rattle.records.proofs.EntryLaws.{AskedFrom, schema-whole, next-good, code-next, code-found, code-place, code-first}
 use Rattle.records.proofs.schema.datatype_of.Statement.{statement}
 use Rattle.records.proofs.schema.datatype_of.Tie as tie
 
 abbrev Inv-loop : tie.InvT-loop
-Inv-loop schema marks uri mark entries i₀ i = (isSome (recordsAt readEntry schema (i * entryWidth)) ≡ true) × (schemaCode (readSchema schema) (uriText uri) ≡ schemaCode (recordsAt readEntry schema (i * entryWidth)) (uriText uri))
+Inv-loop schema marks uri mark entries i₀ i = AskedFrom schema uri i
 
 abbrev μ-loop : tie.MeasureT-loop
 μ-loop schema marks uri mark entries i₀ i = entries - i
 
-slice-aggregate-is-in : tie.Need-slice-aggregate-is-in Inv-loop μ-loop
-slice-aggregate-is-in c = sym (length-take-le (length (c .before .before .before .before .args .schema .now) / entryWidth) (c .before .before .before .before .args .marks .now) (omega (arith, c .before .before .before .before .pre .1 .1 .0 .few, c .before .before .before .before .pre .1 .1 .0 .room)))
+slice-aggregate-place-of : tie.Need-slice-aggregate-place-of Inv-loop μ-loop
+slice-aggregate-place-of c = sym (length-take-le (length (c .before .before .before .before .args .schema .now) / entryWidth) (c .before .before .before .before .args .marks .now) (omega (arith, c .before .before .before .before .pre .1 .1 .0 .few, c .before .before .before .before .pre .1 .1 .0 .room)))
 
-is-in-requires : tie.Need-is-in-requires Inv-loop μ-loop
-is-in-requires c κs = search needs
-
-returns : tie.Need-returns Inv-loop μ-loop
-returns c = no-code (c .before .before .before .before .before .before .args .schema .now) (c .before .before .before .before .before .before .args .marks .now) (c .before .before .before .before .before .before .args .uri .now) (c .before .before .before .before .before .before .pre .0) (c .before .before .before .before .before .before .pre .1 .1 .0) (c .before .before .before .before .before .before .pre .1 .1 .1) (c .before .before .before .before .before .before .pre .1 .0) (c .before .is-in .ensures) (c .if1 .taken)
+place-of-requires : tie.Need-place-of-requires Inv-loop μ-loop
+place-of-requires c κs = search needs
 
 loop-holds : tie.Need-loop-holds Inv-loop μ-loop
-loop-holds c = let e = schema-at (c .before .before .before .before .before .before .args .schema .now) in (ap isSome (sym e) ∙ c .before .before .before .before .before .before .pre .0, ap (λ o. schemaCode o (uriText (c .before .before .before .before .before .before .args .uri .now))) e)
-
-mul-if2 : tie.Need-mul-if2 Inv-loop μ-loop
-mul-if2 c = search needs
-
-shared-slice-read-if2 : tie.Need-shared-slice-read-if2 Inv-loop μ-loop
-shared-slice-read-if2 c = search needs
+loop-holds c = code-first (c .before .before .before .before .before .args .schema .now) (c .before .before .before .before .before .args .marks .now) _ (c .before .before .before .before .before .pre .1 .0) (c .before .before .before .before .before .pre .1 .1 .0) (c .before .before .before .before .before .pre .1 .1 .1) (c .before .before .before .before .before .pre .0) (c .place-of .ensures)
 
 mul-at : tie.Need-mul-at Inv-loop μ-loop
 mul-at c = search needs
@@ -64,20 +51,38 @@ same-requires c κs = search needs
 shared-slice-read-result : tie.Need-shared-slice-read-result Inv-loop μ-loop
 shared-slice-read-result c = search needs
 
-returns-2 : tie.Need-returns-2 Inv-loop μ-loop
-returns-2 c = code-found (c .before .before .before .before .before .before .before .before .before .before .before .before .before .before .args .schema .now) (c .before .before .before .before .before .before .before .loop .i) (c .before .before .before .before .before .before .before .loop .inv .0) (c .before .before .before .before .before .before .loop-test .taken) _ (c .before .before .before .before .before .before .before .before .before .before .before .before .before .before .pre .1 .0) (c .before .before .same .ensures) (c .before .if3 .taken) ∙ sym (c .before .before .before .before .before .before .before .loop .inv .1)
+returns : tie.Need-returns Inv-loop μ-loop
+returns c = code-found (c .before .before .before .before .before .before .before .before .before .before .before .args .schema .now) (c .before .before .before .before .before .loop .i) (c .before .before .before .before .before .loop .inv .0) (c .before .before .before .before .loop-test .taken) _ (c .before .before .before .before .before .before .before .before .before .before .before .pre .1 .0) (c .before .before .same .ensures) (c .before .if1 .taken) ∙ sym (c .before .before .before .before .before .loop .inv .1)
+
+add-next : tie.Need-add-next Inv-loop μ-loop
+add-next c = search needs
+
+mul-place-of : tie.Need-mul-place-of Inv-loop μ-loop
+mul-place-of c = search needs
+
+sub-place-of : tie.Need-sub-place-of Inv-loop μ-loop
+sub-place-of c = search needs
+
+part-place-of-start : tie.Need-part-place-of-start Inv-loop μ-loop
+part-place-of-start c = search needs
+
+part-place-of-end : tie.Need-part-place-of-end Inv-loop μ-loop
+part-place-of-end c = search needs
+
+place-of-requires-2 : tie.Need-place-of-requires-2 Inv-loop μ-loop
+place-of-requires-2 c κs = search needs
 
 add-i : tie.Need-add-i Inv-loop μ-loop
-add-i c = search needs
+add-i c = omega (arith, c .before .before .before .before .before .before .before .before .before .before .before .before .pre .1 .1 .0 .few, place-within _ (c .before .before .before .before .before .before .before .before .before .before .before .before .args .marks .now) (length (c .before .before .before .before .before .before .before .before .before .before .before .before .args .schema .now) / entryWidth) (c .before .before .before .before .before .before .loop .i + 1) (omega (arith, c .before .before .before .before .before .before .before .before .before .before .before .before .pre .1 .1 .0 .few, c .before .before .before .before .before .before .before .before .before .before .before .before .pre .1 .1 .0 .room)) (omega (arith, c .before .before .before .before .before .loop-test .taken)) (c .place-of2 .ensures))
 
 loop-less : tie.Need-loop-less Inv-loop μ-loop
 loop-less c = search needs
 
 loop-again : tie.Need-loop-again Inv-loop μ-loop
-loop-again c = (next-good (c .before .before .before .before .before .before .before .before .before .before .args .schema .now) (c .before .before .before .loop .i) (c .before .before .before .loop .inv .0) (c .before .before .loop-test .taken), c .before .before .before .loop .inv .1 ∙ ⊎-elim (λ p. code-next (c .before .before .before .before .before .before .before .before .before .before .args .schema .now) (c .before .before .before .loop .i) (c .before .before .before .loop .inv .0) (c .before .before .loop-test .taken) _ (c .before .before .before .before .before .before .before .before .before .before .pre .1 .0) (p .2 .ensures) (p .3 .left)) (λ p. code-other (c .before .before .before .before .before .before .before .before .before .before .args .schema .now) (c .before .before .before .loop .i) (c .before .before .before .loop .inv .0) (c .before .before .loop-test .taken) _ (c .before .before .before .before .before .before .before .before .before .before .pre .1 .0) (c .before .before .before .before .before .before .before .before .before .before .args .marks .now) (c .before .before .before .before .before .before .before .before .before .before .pre .1 .1 .0) (c .before .before .before .before .before .before .before .before .before .before .pre .1 .1 .1) (p .left)) (c .if2 .came))
+loop-again c = code-place (c .before .before .before .before .before .before .before .before .before .before .before .before .args .schema .now) (c .before .before .before .before .before .before .before .before .before .before .before .before .args .marks .now) _ (c .before .before .before .before .before .before .before .before .before .before .before .before .pre .1 .0) (c .before .before .before .before .before .before .before .before .before .before .before .before .pre .1 .1 .0) (c .before .before .before .before .before .before .before .before .before .before .before .before .pre .1 .1 .1) (c .before .before .before .before .before .before .loop .i + 1) (omega (arith, c .before .before .before .before .before .loop-test .taken)) (next-good (c .before .before .before .before .before .before .before .before .before .before .before .before .args .schema .now) (c .before .before .before .before .before .before .loop .i) (c .before .before .before .before .before .before .loop .inv .0) (c .before .before .before .before .before .loop-test .taken), c .before .before .before .before .before .before .loop .inv .1 ∙ code-next (c .before .before .before .before .before .before .before .before .before .before .before .before .args .schema .now) (c .before .before .before .before .before .before .loop .i) (c .before .before .before .before .before .before .loop .inv .0) (c .before .before .before .before .before .loop-test .taken) _ (c .before .before .before .before .before .before .before .before .before .before .before .before .pre .1 .0) (c .before .before .before .same .ensures) (c .before .before .if1 .left)) (c .place-of2 .ensures)
 
-returns-3 : tie.Need-returns-3 Inv-loop μ-loop
-returns-3 c = sym (c .before .loop .inv .1 ∙ code-end _ _ _ (c .before .before .before .before .before .before .before .before .pre .1 .0) (omega (arith, schema-whole (c .before .before .before .before .before .before .before .before .args .schema .now) (c .before .before .before .before .before .before .before .before .pre .0) .1)))
+returns-2 : tie.Need-returns-2 Inv-loop μ-loop
+returns-2 c = sym (c .before .loop .inv .1 ∙ code-end _ _ _ (c .before .before .before .before .before .before .before .pre .1 .0) (omega (arith, schema-whole (c .before .before .before .before .before .before .before .args .schema .now) (c .before .before .before .before .before .before .before .pre .0) .1)))
 
 pub datatype-of-spec : {M : Type 1} → statement M
 datatype-of-spec =
@@ -85,12 +90,9 @@ datatype-of-spec =
     (tie.spec
     Inv-loop
     μ-loop
-    slice-aggregate-is-in
-    is-in-requires
-    returns
+    slice-aggregate-place-of
+    place-of-requires
     loop-holds
-    mul-if2
-    shared-slice-read-if2
     mul-at
     add-field
     add-end
@@ -99,8 +101,14 @@ datatype-of-spec =
     part-same-end
     same-requires
     shared-slice-read-result
-    returns-2
+    returns
+    add-next
+    mul-place-of
+    sub-place-of
+    part-place-of-start
+    part-place-of-end
+    place-of-requires-2
     add-i
     loop-less
     loop-again
-    returns-3)
+    returns-2)

@@ -1,82 +1,61 @@
+-- `soundness::quads::mark_at` meets its contract: its sum is the definition's.
 use Prim.Native.Nat.{_+_, _*_, _%_}
 use Rattle.soundness.specs.Marks.{quadMark}
--- `soundness::quads::mark_at` meets its contract: its sum is the definition's.
 use borrow.Author.Needs.{needs}
 use Rattle.soundness.proofs.quads.mark_at.Statement.{statement}
 use Rattle.soundness.proofs.quads.mark_at.Tie as tie
-use Rattle.soundness.proofs.quads.mark_at.Reads as reads
-use Rattle.soundness.proofs.quads.mark_at.Lts as lts
-use Rattle.soundness.proofs.quads.wider.Reads as wider-reads
 
--- src/quads.rt:86:24
 add-wider : tie.Need-add-wider
 add-wider c = search needs
 
--- src/quads.rt:86:19
 mul-wider : tie.Need-mul-wider
 mul-wider c = search needs
 
--- src/quads.rt:86:19
 shared-slice-read-wider : tie.Need-shared-slice-read-wider
 shared-slice-read-wider c = search needs
 
--- src/quads.rt:86:9
 wider-requires : tie.Need-wider-requires
 wider-requires c κs = search needs
 
--- src/quads.rt:87:24
 add-wider-2 : tie.Need-add-wider-2
 add-wider-2 c = search needs
 
--- src/quads.rt:87:19
 mul-wider-2 : tie.Need-mul-wider-2
 mul-wider-2 c = search needs
 
--- src/quads.rt:87:19
 shared-slice-read-wider-2 : tie.Need-shared-slice-read-wider-2
 shared-slice-read-wider-2 c = search needs
 
--- src/quads.rt:87:9
 wider-requires-2 : tie.Need-wider-requires-2
 wider-requires-2 c κs = search needs
 
--- src/quads.rt:88:24
 add-wider-3 : tie.Need-add-wider-3
 add-wider-3 c = search needs
 
--- src/quads.rt:88:19
 mul-wider-3 : tie.Need-mul-wider-3
 mul-wider-3 c = search needs
 
--- src/quads.rt:88:19
 shared-slice-read-wider-3 : tie.Need-shared-slice-read-wider-3
 shared-slice-read-wider-3 c = search needs
 
--- src/quads.rt:88:9
 wider-requires-3 : tie.Need-wider-requires-3
 wider-requires-3 c κs = search needs
 
--- src/quads.rt:89:16
 mul-sum : tie.Need-mul-sum
 mul-sum c = search needs
 
--- src/quads.rt:89:16
 add-sum : tie.Need-add-sum
 add-sum c = search needs
 
--- src/quads.rt:89:15
 mul-sum-2 : tie.Need-mul-sum-2
 mul-sum-2 c = search needs
 
--- src/quads.rt:89:15
 add-sum-2 : tie.Need-add-sum-2
 add-sum-2 c = search needs
 
--- src/quads.rt:90:5
 cast-result : tie.Need-cast-result
 cast-result c = search needs
 
--- src/quads.rt:82:1
 returns : tie.Need-returns
 unfolding quadMark
 returns c = λ t. ((c .before .before .before .before .wider .ensures .0 t * 31 + c .before .before .wider2 .ensures .0 t) * 31 + c .wider3 .ensures .0 t) % 65536

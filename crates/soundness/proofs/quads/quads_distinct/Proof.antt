@@ -9,10 +9,6 @@ use Rattle.query.specs.Codes.{rowsFrom}
 use Rattle.soundness.proofs.QuadLaws.{rowsLeft, rows-all, rows-differ, row-again, row-once}
 use Rattle.soundness.proofs.quads.quads_distinct.Statement.{statement}
 use Rattle.soundness.proofs.quads.quads_distinct.Tie as tie
-use Rattle.soundness.proofs.quads.quads_distinct.Reads as reads
-use Rattle.soundness.proofs.quads.quads_distinct.Lts as lts
-use Rattle.soundness.proofs.quads.mark_quads.Reads as mark-quads-reads
-use Rattle.soundness.proofs.quads.quad_again.Reads as quad-again-reads
 
 abbrev Inv-loop : tie.InvT-loop
 Inv-loop rows n marks i₀ i = distinct sameQuad (rowsFrom n rows 0) ≡ distinct sameQuad (rowsLeft rows n i)
@@ -20,39 +16,30 @@ Inv-loop rows n marks i₀ i = distinct sameQuad (rowsFrom n rows 0) ≡ distinc
 abbrev μ-loop : tie.MeasureT-loop
 μ-loop rows n marks i₀ i = n - i
 
--- src/quads.rt:138:17
 mark-quads-requires : tie.Need-mark-quads-requires Inv-loop μ-loop
 mark-quads-requires c κs = search needs
 
--- src/quads.rt:140:5
 loop-holds : tie.Need-loop-holds Inv-loop μ-loop
 loop-holds c = ap (distinct sameQuad) (rows-all (c .before .before .args .rows .now) (c .before .before .args .n))
 
--- src/quads.rt:141:32
 slice-aggregate-quad-again : tie.Need-slice-aggregate-quad-again Inv-loop μ-loop
 slice-aggregate-quad-again c = search needs
 
--- src/quads.rt:141:12
 quad-again-requires : tie.Need-quad-again-requires Inv-loop μ-loop
 quad-again-requires c κs = let a = c .before .before .before .before .before in (a .pre .0, (search needs, (c .before .before .before .mark-quads .ensures, search needs)))
 
--- src/quads.rt:142:13
 returns : tie.Need-returns Inv-loop μ-loop
 returns c = row-again (c .before .before .before .before .before .before .before .args .rows .now) (c .before .before .before .before .before .before .before .args .n) (c .before .before .before .before .loop .i) (c .before .before .before .before .loop .inv) (omega arith) (c .before .quad-again .ensures) (c .if1 .taken)
 
--- src/quads.rt:144:9
 add-i : tie.Need-add-i Inv-loop μ-loop
 add-i c = search needs
 
--- src/quads.rt:140:5
 loop-less : tie.Need-loop-less Inv-loop μ-loop
 loop-less c = search needs
 
--- src/quads.rt:140:5
 loop-again : tie.Need-loop-again Inv-loop μ-loop
 loop-again c = row-once (c .before .before .before .before .before .before .before .args .rows .now) (c .before .before .before .before .before .before .before .args .n) (c .before .before .before .before .loop .i) (c .before .before .before .before .loop .inv) (omega arith) (c .before .quad-again .ensures) (c .if1 .left)
 
--- src/quads.rt:133:1
 returns-2 : tie.Need-returns-2 Inv-loop μ-loop
 returns-2 c = rows-differ (c .before .before .before .before .args .rows .now) (c .before .before .before .before .args .n) (c .before .loop .i) (c .before .loop .inv) (omega arith)
 

@@ -2,15 +2,13 @@
 use Prim.Native.Nat.{_-_}
 use native.Mathlib.Omega.{arith}
 use borrow.Author.Needs.{needs}
-use mathlib.Core.Path.{_≡_, refl, sym}
+use mathlib.Core.Path.{_≡_, refl}
 use mathlib.Core.Bool.{_&&_}
 use lib.ListN.{length, drop}
 use Rattle.definitions.specs.Bytes.{sameBytes}
 use Rattle.soundness.proofs.Looks.{same-next, same-end, same-lengths}
 use Rattle.soundness.proofs.terms.same_bytes.Statement.{statement}
 use Rattle.soundness.proofs.terms.same_bytes.Tie as tie
-use Rattle.soundness.proofs.terms.same_bytes.Reads as reads
-use Rattle.soundness.proofs.terms.same_bytes.Lts as lts
 
 abbrev Inv-loop : tie.InvT-loop
 Inv-loop a b same₀ i₀ same i = same && sameBytes (drop i a) (drop i b) ≡ sameBytes a b
@@ -18,35 +16,27 @@ Inv-loop a b same₀ i₀ same i = same && sameBytes (drop i a) (drop i b) ≡ s
 abbrev μ-loop : tie.MeasureT-loop
 μ-loop a b same₀ i₀ same i = length a - i
 
--- src/terms.rt:15:9
 returns : tie.Need-returns Inv-loop μ-loop
 returns c = same-lengths (c .before .args .a .now) (c .before .args .b .now) (c .if1 .taken)
 
--- src/terms.rt:19:5
 loop-holds : tie.Need-loop-holds Inv-loop μ-loop
 loop-holds c = refl
 
--- src/terms.rt:20:24
 shared-slice-read-same : tie.Need-shared-slice-read-same Inv-loop μ-loop
 shared-slice-read-same c = search needs
 
--- src/terms.rt:20:32
 shared-slice-read-same-2 : tie.Need-shared-slice-read-same-2 Inv-loop μ-loop
 shared-slice-read-same-2 c = search needs
 
--- src/terms.rt:21:9
 add-i : tie.Need-add-i Inv-loop μ-loop
 add-i c = search needs
 
--- src/terms.rt:19:5
 loop-less : tie.Need-loop-less Inv-loop μ-loop
 loop-less c = search needs
 
--- src/terms.rt:19:5
 loop-again : tie.Need-loop-again Inv-loop μ-loop
 loop-again c = let a = c .before .before .before .before .before in same-next (a .args .a .now) (a .args .b .now) (c .before .before .before .before .if1 .left) (c .before .before .before .loop .i) (c .before .before .before .loop .same) (omega arith) (c .before .before .before .loop .inv)
 
--- src/terms.rt:11:1
 returns-2 : tie.Need-returns-2 Inv-loop μ-loop
 returns-2 c = let a = c .before .before .before in same-end (a .args .a .now) (a .args .b .now) (c .before .before .if1 .left) (c .before .loop .i) (c .before .loop .same) (omega arith) (c .before .loop .inv)
 
