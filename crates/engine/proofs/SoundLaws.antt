@@ -9,7 +9,8 @@ use lib.Dec.{T, leb}
 use lib.ListN.{length, drop, length-map, length-append, length-drop}
 use Rattle.definitions.specs.Limits.{termLimit, entryLimit, quadLimit, graphLimit, termTableWidth}
 use Rattle.definitions.specs.Bytes.{sameBytes, onward}
-use Rattle.definitions.specs.Terms.{Term, Schema, sortOf, readSchema}
+use Rattle.definitions.specs.Lists.{distinct}
+use Rattle.definitions.specs.Terms.{Term, Schema, sortOf, sameTerm, readSchema}
 use Rattle.definitions.specs.Reading.{parsed}
 use Rattle.definitions.specs.Machine.{Store}
 use Rattle.definitions.specs.Saved.{termsIn, quadsFrom, quadsIn}
@@ -22,7 +23,7 @@ use Rattle.laws.proofs.Options.{some-is, some-not-none, onward-inv, provided-in
 use Rattle.laws.proofs.Results.{passed-is}
 use Rattle.laws.proofs.Same.{same-bytes, bytes-refl}
 use Rattle.laws.proofs.Sorts.{least}
-use Rattle.laws.proofs.Check.{Passed, check-passed, terms-fit, types-length}
+use Rattle.laws.proofs.Check.{Passed, check-passed, accepted, terms-fit, types-length}
 use Rattle.laws.proofs.Valid.{check-valid}
 use Rattle.laws.proofs.Tables.{terms-of, term-table-length}
 use Rattle.laws.proofs.Saved.{held-inv}
@@ -90,6 +91,12 @@ store-terms tt qt saved st e ts h =
     ap (λ (st : Store). st .terms) (sym (some-is (p .1))) ∙ some-is (sym (t .1) ∙ h)
 
 -- ── what is not sound ───────────────────────────────────────────────────────────────────────
+
+-- a table that is the same holds as many terms
+pub same-counts : (loading table : List ℕ) (known : ℕ) → HoldsTerms loading known → {r : Bool} → r ≡ sameBytes loading table → r ≡ true
+    → Count known ≡ countOf (termsIn table)
+same-counts loading table known h e t =
+    sym (h .count) ∙ ap (λ (b : List ℕ). countOf (termsIn b)) (same-bytes loading table (trueIs (sameBytes loading table) (sym e ∙ t)))
 
 module _ (terms schema script table store : List ℕ) (saved : SavedRun) where
   abbrev l : Lent
@@ -170,6 +177,11 @@ module _ (terms schema script table store : List ℕ) (saved : SavedRun) where
 
       loading-in : {loading leasts : List ℕ} → ((c : Checked) → check terms schema script ≡ passed c → TablesOf c loading leasts) → termsIn loading ≡ some (c .terms)
       loading-in t = ap termsIn (t c (checks .1) .slots) ∙ terms-of (c .terms) (check-valid terms schema script c (checks .1)) few
+
+      pub loading-apart : {loading leasts : List ℕ} → ((c : Checked) → check terms schema script ≡ passed c → TablesOf c loading leasts)
+          → Records.distinctIn sameTerm (termsIn loading) ≡ true
+      unfolding Records.distinctIn
+      loading-apart t = ap (Records.distinctIn sameTerm) (loading-in t) ∙ isTrue (distinct sameTerm (c .terms)) (accepted terms schema script c passes-all .apart)
 
       pub loading-holds : {loading leasts : List ℕ} → ((c : Checked) → check terms schema script ≡ passed c → TablesOf c loading leasts) → HoldsTerms loading (card .count)
       unfolding countOf

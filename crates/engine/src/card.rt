@@ -1,13 +1,15 @@
 // Terms, schema and script: refusals 2 to 9.
 ghost use mathlib.Core.Path.{_≡_};
+ghost use mathlib.Core.Bool.{true};
 ghost use lib.ListN.{length, replicate};
 ghost use Rattle.definitions.specs.Limits.{termLimit, termTableWidth};
+ghost use Rattle.definitions.specs.Terms.{readSchema};
 ghost use Rattle.definitions.specs.Result.{passed};
 ghost use Rattle.definitions.specs.Saved.{termTable};
 ghost use Rattle.definitions.specs.Calls.{Checked, check};
+ghost use Rattle.records.specs.Answers.{isSome};
 ghost use Rattle.engine.specs.Check.{numberOf, recordTests, scriptTests, Parsed, readTests, readyOf, refusedCard, cardOf, TablesOf};
 use crate::leasts::least_codes;
-use definitions::ENTRY_LIMIT;
 use definitions::SCRIPT_LIMIT;
 use reader::scope::in_scope;
 use reader::script::script_ok;
@@ -18,6 +20,7 @@ use records::lists::count_terms;
 use records::lists::properties_distinct;
 use records::lists::terms_distinct;
 use records::numbering::number_terms;
+use records::reading::SCHEMA_WIDTH;
 use typing::typer::work_out;
 
 // What a check finds: a refusal's number and zeros, or the number of terms and the reported type of each variable.
@@ -52,15 +55,13 @@ pub fn records_refusal(terms: &[u8], schema: &[u8]) -> u8
     0
 }
 
-// Refusals 6 and 7 of schema and script, where so many terms are numbered, 0 for none.
+// Refusals 6 and 7 of a good schema and a script, where so many terms are numbered, 0 for none.
 // Ruled out: scope looked at in a script that is too long; a script of 2,049 bytes let pass.
 pub fn script_refusal(terms: usize, schema: &[u8], script: &[u8]) -> u8
+    requires { ⌜ isSome (readSchema (now schema)) ≡ true ⌝ }
     ensures { λ r. ⌜ r ≡ numberOf (scriptTests terms (now (schema .entry)) (now (script .entry))) ⌝ }
 {
-    let Counted::Count(entries) = count_entries(schema) else {
-        return 6;
-    };
-    if ENTRY_LIMIT < entries {
+    if SCHEMA_WIDTH < schema.len() {
         return 6;
     }
     if SCRIPT_LIMIT < script.len() {

@@ -3,6 +3,9 @@ ghost use mathlib.Core.Path.{_≡_};
 ghost use lib.ListN.{length};
 ghost use Prim.Native.Nat.{_*_};
 ghost use Rattle.definitions.specs.Limits.{termLimit, quadLimit, termTableWidth, quadTableWidth};
+ghost use Rattle.definitions.specs.Saved.{termsIn};
+ghost use Rattle.records.specs.Answers.{countOf};
+ghost use Rattle.records.specs.Table.{HoldsTerms};
 ghost use Rattle.engine.specs.Lending.{notSound, Lends};
 ghost use Rattle.engine.specs.Saved.{lentOf};
 use crate::Lending;
@@ -11,6 +14,7 @@ use crate::card::check_card;
 use crate::leasts::least_codes;
 use definitions::SavedRun;
 use records::Counted;
+use records::numbers::same_bytes;
 use records::table::used_terms;
 use soundness::control::control_sound;
 use soundness::store::store_sound;
@@ -23,6 +27,18 @@ fn unsound() -> Lending
         known: 0,
         count: 0,
     }
+}
+
+// How many terms a table holds: as many as that of loading, where it is the same.
+fn counted(loading: &[u8], known: usize, table: &[u8]) -> Counted
+    requires { ⌜ HoldsTerms (now loading) known ⌝ }
+    requires { ⌜ length (now table) ≡ termTableWidth ⌝ }
+    ensures { λ r. ⌜ r ≡ countOf (termsIn (now (table .entry))) ⌝ }
+{
+    if same_bytes(loading, table) {
+        return Counted::Count(known);
+    }
+    used_terms(table)
 }
 
 // Whether records, tables and saved run are sound. Where they are, `rows` has the quads in numbers, and `leasts` the codes of
@@ -48,7 +64,8 @@ pub fn sound(
     if card.refusal != 0 {
         return unsound();
     }
-    let Counted::Count(count) = used_terms(table) else {
+    let known = card.count;
+    let Counted::Count(count) = counted(&loading, known, table) else {
         return unsound();
     };
     let types = card.types;
@@ -57,7 +74,6 @@ pub fn sound(
         return unsound();
     }
     least_codes(table, count, schema, leasts);
-    let known = card.count;
     if !store_sound(&loading, known, table, count, store, saved, leasts, rows) {
         return unsound();
     }

@@ -1,18 +1,19 @@
 -- Equal bytes are equal terms and equal properties.
 use Prim.Native.Nat.{ℕ, suc, _+_, _-_, _<_, _≤_}
-use mathlib.Core.Bool.{Bool, true, false}
+use mathlib.Core.Bool.{Bool, true, false, _&&_}
 use mathlib.Core.List.{List, _∷_}
 use mathlib.Core.Option.{some}
-use mathlib.Core.Path.{_≡_, refl, sym, ap, ap₂, _∙_}
+use mathlib.Core.Path.{_≡_, refl, sym, ap, ap₂, subst, _∙_}
+use mathlib.Core.Logic.{⊎-elim}
 use native.Mathlib.Numerals.{add-one}
 use native.Mathlib.Omega.{arith}
-use lib.Dec.{T}
-use lib.ListN.{length, drop, length-take}
+use lib.Dec.{T, eqb}
+use lib.ListN.{length, getD, drop, length-take, drop-of-length-le}
 use lib.Seq.{drop-cons}
 use Rattle.definitions.specs.Limits.{textWidth, slotWidth}
 use Rattle.definitions.specs.Bytes.{byte, part, sameBytes, filled}
 use Rattle.definitions.specs.Terms.{Text, Term, Entry, datatype, termKind, bodyWidth, uriText, ofTermKind, recordOf, slotOf, readTerm, readEntry, sameTerm, sameProperty}
-use Rattle.laws.proofs.Tests.{isTrue}
+use Rattle.laws.proofs.Tests.{decide, isTrue, isFalse, trueIs}
 use Rattle.laws.proofs.Options.{some-is}
 use Rattle.laws.proofs.Bytes.{AreBytes, part-bytes}
 use Rattle.laws.proofs.Same.{same-bytes, bytes-refl, same-term, term-refl}
@@ -33,6 +34,27 @@ test-is false false f g = refl
 -- what `check::same` ensures of its result
 abbrev pub Compared : List ℕ → List ℕ → Bool → Type 0
 Compared a b r = (r ≡ true → a ≡ b) × (a ≡ b → r ≡ true)
+
+-- two lists of one length side by side: those looked at are the same, and so is the rest
+module _ (a b : List ℕ) (e : length a ≡ length b) (i : ℕ) where
+  pub same-next : (s : Bool) → i < length a → s && sameBytes (drop i a) (drop i b) ≡ sameBytes a b
+      → (s && eqb (getD a i 0) (getD b i 0)) && sameBytes (drop (i + 1) a) (drop (i + 1) b) ≡ sameBytes a b
+  same-next false h far = far
+  same-next true h far =
+      let next : (l : List ℕ) → i < length l → getD l i 0 ∷ drop (i + 1) l ≡ drop i l =
+      λ l k. sym (drop-cons l i 0 k ∙ ap (λ (n : ℕ). getD l i 0 ∷ drop n l) (sym (add-one i))) in
+      ap₂ sameBytes (next a h) (next b (omega (arith, e))) ∙ far
+
+  pub same-end : (s : Bool) → length a ≤ i → s && sameBytes (drop i a) (drop i b) ≡ sameBytes a b → s ≡ sameBytes a b
+  same-end false h far = far
+  same-end true h far = let k : length b ≤ i = omega (arith, e) in sym (ap₂ sameBytes (drop-of-length-le a h) (drop-of-length-le b k)) ∙ far
+
+pub same-lengths : (a b : List ℕ) → (length a ≡ length b → ⊥) → false ≡ sameBytes a b
+same-lengths a b h = sym (⊎-elim (λ t. absurd (h (ap length (same-bytes a b t)))) (isFalse (sameBytes a b)) (decide (sameBytes a b)))
+
+-- as `check::same` says it
+pub compared : (a b : List ℕ) (r : Bool) → r ≡ sameBytes a b → Compared a b r
+compared a b r e = (λ t. same-bytes a b (trueIs (sameBytes a b) (sym e ∙ t)), λ q. e ∙ isTrue (sameBytes a b) (subst (λ x. T (sameBytes a x)) q (bytes-refl a)))
 
 -- ── a good term record ──────────────────────────────────────────────────────────────────────
 

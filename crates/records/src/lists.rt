@@ -6,6 +6,7 @@ use crate::bodies::body_width;
 use crate::marks::is_in;
 use crate::numbering::list_terms;
 use crate::reading::ENTRY_WIDTH;
+use crate::reading::SCHEMA_WIDTH;
 use crate::reading::read_entry;
 use crate::reading::read_term;
 use crate::reading::read_triple;
@@ -21,9 +22,6 @@ ghost use Rattle.records.specs.Marks.{MarkedEntries};
 
 // The bytes of a term table.
 const TABLE_WIDTH: usize = 25088;
-
-// The bytes of the longest schema.
-const SCHEMA_WIDTH: usize = 5376;
 
 // How many term, schema or page records there are. Ruled out: the count up to the first bad record; one more for bytes left over.
 pub fn count_terms(s: &[u8]) -> Counted

@@ -7,6 +7,7 @@ ghost use Rattle.definitions.specs.Lists.{isIn};
 ghost use Rattle.definitions.specs.Saved.{slotTerm, termsIn};
 ghost use Rattle.records.specs.Marks.{markOf, placeIn, slotAt, Marked};
 ghost use Rattle.records.specs.Table.{HoldsTerms, GoodSlot, numberFrom};
+use crate::numbers::same_bytes;
 use crate::numbers::word_at;
 use definitions::SLOT_WIDTH;
 use definitions::TERM_LIMIT;
@@ -115,7 +116,7 @@ pub fn find_slot(
     while i < n {
         let at = i * SLOT_WIDTH;
         let end = at + SLOT_WIDTH;
-        if check::same(slot, &table[at..end]) {
+        if same_bytes(slot, &table[at..end]) {
             return i;
         }
         let next = i + 1;

@@ -2,7 +2,7 @@
 ghost use mathlib.Core.Path.{_≡_};
 ghost use Prim.Native.Nat.{_+_, _<_, _≤_, _^_};
 ghost use lib.ListN.{length};
-ghost use Rattle.definitions.specs.Bytes.{byte, part, word, little, signed, allZero};
+ghost use Rattle.definitions.specs.Bytes.{byte, part, word, little, signed, allZero, sameBytes};
 ghost use Rattle.definitions.specs.Terms.{withinLimits};
 
 fn wide(s: &[u8], at: usize) -> u64
@@ -70,4 +70,21 @@ pub fn is_zero(s: &[u8]) -> bool
         i += 1;
     }
     zero
+}
+
+// Whether two slices have the same bytes. All are looked at, so that the compiler takes many at once.
+// Ruled out: the last byte left out; a slice that begins like the other.
+pub fn same_bytes(a: &[u8], b: &[u8]) -> bool
+    ensures { λ r. ⌜ r ≡ sameBytes (now (a .entry)) (now (b .entry)) ⌝ }
+{
+    if a.len() != b.len() {
+        return false;
+    }
+    let mut same = true;
+    let mut i = 0;
+    while i < a.len() {
+        same = same & (a[i] == b[i]);
+        i += 1;
+    }
+    same
 }

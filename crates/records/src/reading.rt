@@ -11,6 +11,9 @@ ghost use Rattle.records.specs.Answers.{hasRoom, nextOf, bodyFrom};
 // Kind, URI body and datatype.
 pub const ENTRY_WIDTH: usize = 42;
 
+// The bytes of a schema with as many entries as it may have.
+pub const SCHEMA_WIDTH: usize = 5376;
+
 // Whether so many bytes follow from an offset on. Ruled out: a sum that wraps; one byte too many.
 pub fn has_room(s: &[u8], at: usize, width: usize) -> bool
     ensures { λ r. ⌜ r ≡ hasRoom (now (s .entry)) at width ⌝ }

@@ -1,6 +1,7 @@
 // The marks of a schema's URIs, the schema's datatype of a URI, and the least type of a term.
 use crate::marks::mark_of;
 use crate::marks::place_of;
+use crate::numbers::same_bytes;
 use crate::reading::ENTRY_WIDTH;
 use crate::table::slot_of;
 use definitions::ENTRY_LIMIT;
@@ -51,7 +52,7 @@ pub fn datatype_of(schema: &[u8], marks: &[u16], uri: &[u8], mark: u16) -> u8
         let at = i * ENTRY_WIDTH;
         let field = at + 1;
         let end = field + TEXT_WIDTH;
-        if check::same(&schema[field..end], uri) {
+        if same_bytes(&schema[field..end], uri) {
             return schema[end];
         }
         let next = i + 1;

@@ -14,7 +14,8 @@ use Rattle.definitions.specs.Bytes.{filled}
 use Rattle.definitions.specs.Terms.{Term, slotOf, sameTerm}
 use Rattle.definitions.specs.Saved.{slots, termTable, termsIn}
 use Rattle.definitions.specs.Sound.{beginsWith}
-use Rattle.laws.proofs.Tests.{andLeft, andRight, andMake}
+use Rattle.definitions.specs.Lists.{distinct}
+use Rattle.laws.proofs.Tests.{andLeft, andRight, andMake, trueIs}
 use Rattle.laws.proofs.All.{All}
 use Rattle.laws.proofs.Bytes.{AreBytes}
 use Rattle.laws.proofs.Valid.{Valid}
@@ -133,3 +134,25 @@ module _ (ks ts : Option (List Term)) {a : Bool} (ea : a ≡ beginsIn ks ts) whe
   pub terms-sound : not a ≡ false → {r : Bool} → r ≡ distinctIn sameTerm ts → r ≡ termsSound ks ts
   unfolding termsSound
   terms-sound t e = e ∙ rw (sym ea ∙ not-false a t)
+
+-- ── no term has joined ──────────────────────────────────────────────────────────────────────
+
+begins-same : (ks ts : List Term) → T (beginsWith ks ts) → length ts ≡ length ks → ks ≡ ts
+unfolding beginsWith
+begins-same [] [] h e = refl
+begins-same [] (t ∷ ts) h e = absurd (omega arith)
+begins-same (k ∷ ks) [] h e = absurd h
+begins-same (k ∷ ks) (t ∷ ts) h e =
+    ap₂ _∷_ (same-term k t (andLeft (sameTerm k t) (beginsWith ks ts) h)) (begins-same ks ts (andRight (sameTerm k t) (beginsWith ks ts) h) (omega arith))
+
+module _ (loading table : List ℕ) (known count : ℕ) (hl : HoldsTerms loading known) (ht : HoldsTerms table count) where
+  pub none-joined : distinctIn sameTerm (termsIn loading) ≡ true → (a : Bool) → a ≡ beginsIn (termsIn loading) (termsIn table) → not a ≡ false → count ≡ known
+      → true ≡ termsSound (termsIn loading) (termsIn table)
+  unfolding termsSound beginsIn distinctIn
+  none-joined d a ea t e =
+      let ks = terms loading known hl in
+      let ts = terms table count ht in
+      let b : beginsWith (ks .0) (ts .0) ≡ true = rw (ks .1, ts .1) at (sym ea ∙ not-false a t) in
+      let same = begins-same (ks .0) (ts .0) (trueIs (beginsWith (ks .0) (ts .0)) b) (omega (arith, terms-length loading known hl, terms-length table count ht, e)) in
+      let apart : distinct sameTerm (ks .0) ≡ true = rw (ks .1) at d in
+      rw (ks .1, ts .1) (sym (ap₂ _&&_ b (ap (distinct sameTerm) (sym same) ∙ apart)))

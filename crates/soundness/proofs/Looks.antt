@@ -2,19 +2,13 @@
 use Prim.Native.Nat.{ℕ, _+_, _-_, _≤_, _<_}
 use native.Mathlib.Omega.{arith}
 use native.Mathlib.Numerals.{add-one}
-use mathlib.Core.Path.{_≡_, ap, ap₂, sym, subst, _∙_}
-use mathlib.Core.Logic.{⊎-elim}
-use mathlib.Core.List.{List, _∷_}
+use mathlib.Core.Path.{_≡_, ap, sym, _∙_}
+use mathlib.Core.List.{List}
 use mathlib.Core.Bool.{Bool, true, false, not, _&&_, _||_}
-use lib.Dec.{T, eqb}
 use lib.ListN.{length, getD, take, drop, length-drop, drop-of-length-le}
 use lib.Seq.{drop-cons, take-all}
-use Rattle.definitions.specs.Bytes.{sameBytes}
 use Rattle.definitions.specs.Lists.{every, some?, distinct}
-use Rattle.laws.proofs.Tests.{decide, isTrue, isFalse, trueIs}
-use Rattle.laws.proofs.Same.{same-bytes, bytes-refl}
 use Rattle.records.proofs.ListLaws.{none-of}
-use Rattle.records.proofs.SameLaws.{Compared}
 
 -- some element passes
 module _ {A : Type 0} (p : A → Bool) (l : List A) (i : ℕ) (d : A) (far : some? p l ≡ some? p (drop i l)) where
@@ -50,24 +44,3 @@ module _ {A : Type 0} (same : A → A → Bool) (l : List A) (i : ℕ) (d : A) (
 
     pub distinct-stop : b ≡ true → false ≡ distinct same l
     distinct-stop q = sym (far ∙ (distinct-from ∙ ap (λ (c : Bool). not c && distinct same (drop (i + 1) l)) q))
-
--- two lists of one length side by side: those looked at are the same, and so is the rest
-module _ (a b : List ℕ) (e : length a ≡ length b) (i : ℕ) where
-  pub same-next : (s : Bool) → i < length a → s && sameBytes (drop i a) (drop i b) ≡ sameBytes a b
-      → (s && eqb (getD a i 0) (getD b i 0)) && sameBytes (drop (i + 1) a) (drop (i + 1) b) ≡ sameBytes a b
-  same-next false h far = far
-  same-next true h far =
-      let next : (l : List ℕ) → i < length l → getD l i 0 ∷ drop (i + 1) l ≡ drop i l =
-      λ l k. sym (drop-cons l i 0 k ∙ ap (λ (n : ℕ). getD l i 0 ∷ drop n l) (sym (add-one i))) in
-      ap₂ sameBytes (next a h) (next b (omega (arith, e))) ∙ far
-
-  pub same-end : (s : Bool) → length a ≤ i → s && sameBytes (drop i a) (drop i b) ≡ sameBytes a b → s ≡ sameBytes a b
-  same-end false h far = far
-  same-end true h far = let k : length b ≤ i = omega (arith, e) in sym (ap₂ sameBytes (drop-of-length-le a h) (drop-of-length-le b k)) ∙ far
-
-pub same-lengths : (a b : List ℕ) → (length a ≡ length b → ⊥) → false ≡ sameBytes a b
-same-lengths a b h = sym (⊎-elim (λ t. absurd (h (ap length (same-bytes a b t)))) (isFalse (sameBytes a b)) (decide (sameBytes a b)))
-
--- what `check::same` ensures too
-pub compared : (a b : List ℕ) (r : Bool) → r ≡ sameBytes a b → Compared a b r
-compared a b r e = (λ t. same-bytes a b (trueIs (sameBytes a b) (sym e ∙ t)), λ q. e ∙ isTrue (sameBytes a b) (subst (λ x. T (sameBytes a x)) q (bytes-refl a)))

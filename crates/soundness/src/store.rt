@@ -4,7 +4,9 @@ ghost use mathlib.Core.Bool.{true};
 ghost use Prim.Native.Nat.{_*_, _≤_};
 ghost use lib.ListN.{length};
 ghost use Rattle.definitions.specs.Limits.{quadLimit, quadTableWidth};
-ghost use Rattle.definitions.specs.Saved.{quadsFrom};
+ghost use Rattle.definitions.specs.Terms.{sameTerm};
+ghost use Rattle.definitions.specs.Saved.{termsIn, quadsFrom};
+ghost use Rattle.records.specs.Answers.{distinctIn};
 ghost use Rattle.records.specs.Table.{HoldsTerms};
 ghost use Rattle.query.specs.Codes.{rowsFrom};
 ghost use Rattle.soundness.specs.Store.{quadsTest, SoundStore};
@@ -62,6 +64,7 @@ pub fn store_sound(
     requires { ⌜ length (now quads) ≡ quadTableWidth ⌝ }
     requires { ⌜ count ≤ length (now leasts) ⌝ }
     requires { ⌜ 4 * quadLimit ≤ length (now rows) ⌝ }
+    requires { ⌜ distinctIn sameTerm (termsIn (now loading)) ≡ true ⌝ }
     ensures { λ r. ⌜ SoundStore (now (loading .entry)) (now (terms .entry)) (now (quads .entry)) saved (now (leasts .entry)) r ⌝ }
     ensures { λ r. ⌜ (r ≡ true → rowsFrom (saved .quads) (now (rows .exit)) 0 ≡ quadsFrom (saved .quads) (now (quads .entry)) 0) ⌝ }
 {

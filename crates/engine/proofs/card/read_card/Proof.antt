@@ -26,7 +26,7 @@ returns-2 : tie.Need-returns-2
 returns-2 c = refuses (too-many _ _ _ (c .before .before .before .before .before .before .before .records-refusal .ensures) (c .before .before .before .before .before .before .if1 .left) (c .before .before .before .before .number-terms .ensures .0) (c .before .before .before .before .number-terms .ensures .1) (c .enum-told .given .1))
 
 script-refusal-requires : tie.Need-script-refusal-requires
-script-refusal-requires c κs = search needs
+script-refusal-requires c κs = schema-good _ _ (c .before .before .before .before .before .before .before .before .before .before .before .before .before .args .script .now) (c .before .before .before .before .before .before .before .before .records-refusal .ensures) (c .before .before .before .before .before .before .before .if1 .left)
 
 same-length-2 : tie.Need-same-length-2
 same-length-2 c = search needs

@@ -5,6 +5,7 @@ use mathlib.Core.Path.{_≡_, refl, sym, _∙_}
 use borrow.Author.Needs.{needs}
 use Rattle.definitions.specs.Saved.{slotTerm, termsIn}
 use Rattle.records.specs.Table.{numberFrom}
+use Rattle.records.proofs.SameLaws.{compared}
 use Rattle.records.proofs.PlaceLaws.{place-within}
 use Rattle.records.proofs.TableLaws.{holds-few, number-end, number-here, number-next}
 use Rattle.records.proofs.MarkLaws.{number-place}
@@ -44,20 +45,20 @@ mul-at c = omega (arith, c .loop-test .taken, c .before .before .before .before 
 add-end : tie.Need-add-end Inv-loop μ-loop
 add-end c = omega (arith, c .loop-test .taken, c .before .before .before .before .before .before .before .pre .0 .width, holds-few _ _ (c .before .before .before .before .before .before .before .pre .0))
 
-sub-same : tie.Need-sub-same Inv-loop μ-loop
-sub-same c = omega (arith, c .loop-test .taken, c .before .before .before .before .before .before .before .pre .0 .width, holds-few _ _ (c .before .before .before .before .before .before .before .pre .0))
+sub-same-bytes : tie.Need-sub-same-bytes Inv-loop μ-loop
+sub-same-bytes c = omega (arith, c .loop-test .taken, c .before .before .before .before .before .before .before .pre .0 .width, holds-few _ _ (c .before .before .before .before .before .before .before .pre .0))
 
-part-same-start : tie.Need-part-same-start Inv-loop μ-loop
-part-same-start c = omega (arith, c .loop-test .taken, c .before .before .before .before .before .before .before .pre .0 .width, holds-few _ _ (c .before .before .before .before .before .before .before .pre .0))
+part-same-bytes-start : tie.Need-part-same-bytes-start Inv-loop μ-loop
+part-same-bytes-start c = omega (arith, c .loop-test .taken, c .before .before .before .before .before .before .before .pre .0 .width, holds-few _ _ (c .before .before .before .before .before .before .before .pre .0))
 
-part-same-end : tie.Need-part-same-end Inv-loop μ-loop
-part-same-end c = omega (arith, c .loop-test .taken, c .before .before .before .before .before .before .before .pre .0 .width, holds-few _ _ (c .before .before .before .before .before .before .before .pre .0))
+part-same-bytes-end : tie.Need-part-same-bytes-end Inv-loop μ-loop
+part-same-bytes-end c = omega (arith, c .loop-test .taken, c .before .before .before .before .before .before .before .pre .0 .width, holds-few _ _ (c .before .before .before .before .before .before .before .pre .0))
 
-same-requires : tie.Need-same-requires Inv-loop μ-loop
-same-requires c κs = search needs
+same-bytes-requires : tie.Need-same-bytes-requires Inv-loop μ-loop
+same-bytes-requires c κs = search needs
 
 returns : tie.Need-returns Inv-loop μ-loop
-returns c = number-here _ _ _ (c .before .before .before .before .before .before .before .before .before .before .pre .0) (c .before .before .before .before .before .before .before .before .before .before .pre .1 .1 .1 .0) (λ k. omega (arith, c .before .before .before .before .before .before .before .before .before .shared-slice-known .given k)) (λ k. omega (arith, c .before .before .before .before .before .before .before .shared-slice-known3 .given k)) _ (c .before .before .before .loop-test .taken) (c .before .same .ensures) (c .if1 .taken) ∙ sym (c .before .before .before .before .loop .inv .1)
+returns c = number-here _ _ _ (c .before .before .before .before .before .before .before .before .before .before .pre .0) (c .before .before .before .before .before .before .before .before .before .before .pre .1 .1 .1 .0) (λ k. omega (arith, c .before .before .before .before .before .before .before .before .before .shared-slice-known .given k)) (λ k. omega (arith, c .before .before .before .before .before .before .before .shared-slice-known3 .given k)) _ (c .before .before .before .loop-test .taken) (compared _ _ _ (c .before .same-bytes .ensures)) (c .if1 .taken) ∙ sym (c .before .before .before .before .loop .inv .1)
 
 add-next : tie.Need-add-next Inv-loop μ-loop
 add-next c = search needs
@@ -84,7 +85,7 @@ loop-less : tie.Need-loop-less Inv-loop μ-loop
 loop-less c = search needs
 
 loop-again : tie.Need-loop-again Inv-loop μ-loop
-loop-again c = number-place _ _ _ (c .before .before .before .before .before .before .before .before .before .before .before .before .pre .0) (c .before .before .before .before .before .before .before .before .before .before .before .before .pre .1 .1 .1 .0) (λ k. omega (arith, c .before .before .before .before .before .before .before .before .before .before .before .shared-slice-known .given k)) (λ k. omega (arith, c .before .before .before .before .before .before .before .before .before .shared-slice-known3 .given k)) (c .before .before .before .before .before .before .before .before .before .before .before .before .args .marks .now) (c .before .before .before .before .before .before .before .before .before .before .before .before .pre .1 .0) (c .before .before .before .before .before .before .before .before .before .before .before .before .pre .1 .1 .0) _ (c .before .before .before .before .before .before .before .before .before .before .before .before .pre .1 .1 .1 .1 .0) (c .before .before .before .before .before .before .before .before .before .before .before .before .args .from) (c .before .before .before .before .before .before .loop .i + 1) (omega (arith, c .before .before .before .before .before .loop-test .taken)) (c .before .before .before .before .before .before .loop .inv .1 ∙ number-next _ _ _ (c .before .before .before .before .before .before .before .before .before .before .before .before .pre .0) (c .before .before .before .before .before .before .before .before .before .before .before .before .pre .1 .1 .1 .0) (λ k. omega (arith, c .before .before .before .before .before .before .before .before .before .before .before .shared-slice-known .given k)) (λ k. omega (arith, c .before .before .before .before .before .before .before .before .before .shared-slice-known3 .given k)) _ (c .before .before .before .before .before .loop-test .taken) (c .before .before .before .same .ensures) (c .before .before .if1 .left)) (c .place-of2 .ensures)
+loop-again c = number-place _ _ _ (c .before .before .before .before .before .before .before .before .before .before .before .before .pre .0) (c .before .before .before .before .before .before .before .before .before .before .before .before .pre .1 .1 .1 .0) (λ k. omega (arith, c .before .before .before .before .before .before .before .before .before .before .before .shared-slice-known .given k)) (λ k. omega (arith, c .before .before .before .before .before .before .before .before .before .shared-slice-known3 .given k)) (c .before .before .before .before .before .before .before .before .before .before .before .before .args .marks .now) (c .before .before .before .before .before .before .before .before .before .before .before .before .pre .1 .0) (c .before .before .before .before .before .before .before .before .before .before .before .before .pre .1 .1 .0) _ (c .before .before .before .before .before .before .before .before .before .before .before .before .pre .1 .1 .1 .1 .0) (c .before .before .before .before .before .before .before .before .before .before .before .before .args .from) (c .before .before .before .before .before .before .loop .i + 1) (omega (arith, c .before .before .before .before .before .loop-test .taken)) (c .before .before .before .before .before .before .loop .inv .1 ∙ number-next _ _ _ (c .before .before .before .before .before .before .before .before .before .before .before .before .pre .0) (c .before .before .before .before .before .before .before .before .before .before .before .before .pre .1 .1 .1 .0) (λ k. omega (arith, c .before .before .before .before .before .before .before .before .before .before .before .shared-slice-known .given k)) (λ k. omega (arith, c .before .before .before .before .before .before .before .before .before .shared-slice-known3 .given k)) _ (c .before .before .before .before .before .loop-test .taken) (compared _ _ _ (c .before .before .before .same-bytes .ensures)) (c .before .before .if1 .left)) (c .place-of2 .ensures)
 
 returns-2 : tie.Need-returns-2 Inv-loop μ-loop
 returns-2 c = number-end _ _ _ (c .before .before .before .before .before .before .before .pre .0) (c .before .before .before .before .before .before .before .pre .1 .1 .1 .0) _ (c .before .loop .inv .0) (c .loop-test .left) ∙ sym (c .before .loop .inv .1)
@@ -104,10 +105,10 @@ find-slot-spec =
     loop-holds
     mul-at
     add-end
-    sub-same
-    part-same-start
-    part-same-end
-    same-requires
+    sub-same-bytes
+    part-same-bytes-start
+    part-same-bytes-end
+    same-bytes-requires
     returns
     add-next
     mul-place-of-2

@@ -6,7 +6,7 @@ use Rattle.definitions.specs.Limits.{slotWidth}
 use native.Mathlib.Omega.{arith}
 use Rattle.records.proofs.TableLaws.{holds-few}
 use Rattle.soundness.proofs.Begins.{fewer, begins}
-use Rattle.soundness.proofs.Looks.{compared}
+use Rattle.records.proofs.SameLaws.{compared}
 use borrow.Author.Needs.{needs}
 use Rattle.soundness.proofs.terms.begins_with.Statement.{statement}
 use Rattle.soundness.proofs.terms.begins_with.Tie as tie

@@ -1,4 +1,4 @@
--- `soundness::terms::same_bytes` meets its contract. What was looked at is the same, and so is the rest, where all is.
+-- `records::numbers::same_bytes` meets its contract. What was looked at is the same, and so is the rest, where all is.
 use Prim.Native.Nat.{_-_}
 use native.Mathlib.Omega.{arith}
 use borrow.Author.Needs.{needs}
@@ -6,9 +6,9 @@ use mathlib.Core.Path.{_≡_, refl}
 use mathlib.Core.Bool.{_&&_}
 use lib.ListN.{length, drop}
 use Rattle.definitions.specs.Bytes.{sameBytes}
-use Rattle.soundness.proofs.Looks.{same-next, same-end, same-lengths}
-use Rattle.soundness.proofs.terms.same_bytes.Statement.{statement}
-use Rattle.soundness.proofs.terms.same_bytes.Tie as tie
+use Rattle.records.proofs.SameLaws.{same-next, same-end, same-lengths}
+use Rattle.records.proofs.numbers.same_bytes.Statement.{statement}
+use Rattle.records.proofs.numbers.same_bytes.Tie as tie
 
 abbrev Inv-loop : tie.InvT-loop
 Inv-loop a b same₀ i₀ same i = same && sameBytes (drop i a) (drop i b) ≡ sameBytes a b
