@@ -127,7 +127,7 @@ module _ (s : List ℕ) (i : ℕ) (g : isSome (recordsAt readEntry s (i * entryW
 
 -- ── a mark that is not among those from a number on ─────────────────────────────────────────
 
-neither : (a b : Bool) → (a || b) ≡ false → (a ≡ false) × (b ≡ false)
+pub neither : (a b : Bool) → (a || b) ≡ false → (a ≡ false) × (b ≡ false)
 neither true b e = absurd (trueIs false (sym e))
 neither false b e = (refl, e)
 

@@ -198,7 +198,7 @@ fn marked_distinct(s: &[u8], marks: &[u16]) -> bool
     true
 }
 
-// Whether schema records are good and of different properties: by their URIs' marks, where there are no more than a schema may have.
+// Whether good schema records are of different properties: by their URIs' marks, where there are no more than a schema may have.
 // Ruled out: a property twice with two datatypes let pass; neighbours alone compared.
 pub fn properties_distinct(s: &[u8]) -> bool
     requires { ⌜ isSome (readSchema (now s)) ≡ true ⌝ }

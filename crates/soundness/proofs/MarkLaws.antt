@@ -5,7 +5,7 @@ use native.Mathlib.Numerals.{add-one}
 use mathlib.Core.Path.{_≡_, refl, sym, ap, _∙_}
 use mathlib.Core.Logic.{⊎-elim}
 use mathlib.Core.List.{List, _∷_}
-use mathlib.Core.Bool.{Bool, true, false, not, _||_}
+use mathlib.Core.Bool.{Bool, true, false, not}
 use lib.Dec.{eqb}
 use lib.ListN.{length, getD, set, take, drop}
 use lib.Seq.{drop-cons, getD-set-same, getD-set-other}
@@ -16,6 +16,7 @@ use Rattle.definitions.specs.Lists.{some?, isIn}
 use Rattle.definitions.specs.Evaluate.{Quad, sameQuad}
 use Rattle.laws.proofs.Tests.{decide, isFalse, trueIs}
 use Rattle.laws.proofs.Same.{same-quad}
+use Rattle.records.proofs.EntryLaws.{neither}
 use Rattle.query.specs.Codes.{rowAt, rowsFrom}
 use Rattle.soundness.specs.Marks.{quadMark, MarkedQuads}
 
@@ -36,10 +37,6 @@ module _ (rows : List ℕ) where
 
 -- ── a mark that does not come again ─────────────────────────────────────────────────────────
 
-or-none : (a b : Bool) → a || b ≡ false → (a ≡ false) × (b ≡ false)
-or-none true b e = absurd (trueIs false (sym e))
-or-none false b e = (refl, e)
-
 apart : (a b : Quad) {x : ℕ} → x ≡ quadMark b → eqb (quadMark a) x ≡ false → sameQuad a b ≡ false
 apart a b {x} e h =
     ⊎-elim (λ t. absurd (trueIs false (sym h ∙ eq-eqb (quadMark a) x (ap quadMark (same-quad a b t) ∙ sym e)))) (isFalse (sameQuad a b)) (decide (sameQuad a b))
@@ -51,7 +48,7 @@ module _ (rows marks : List ℕ) (n : ℕ) (room : n ≤ length marks) (w : Mark
   none-from q (suc k) j h e =
       let first : part marks j (suc k) ≡ getD marks j 0 ∷ part marks (j + 1) k =
       ap (take (suc k)) (drop-cons marks j 0 (omega arith)) ∙ ap (λ (i : ℕ). getD marks j 0 ∷ take k (drop i marks)) (sym (add-one j)) in
-      let both = or-none (eqb (quadMark q) (getD marks j 0)) (isIn (quadMark q) (part marks (j + 1) k)) (sym (ap (isIn (quadMark q)) first) ∙ e) in
+      let both = neither (eqb (quadMark q) (getD marks j 0)) (isIn (quadMark q) (part marks (j + 1) k)) (sym (ap (isIn (quadMark q)) first) ∙ e) in
       let a : 4 * j + 4 ≡ 4 * (j + 1) = omega arith in
       rw (apart q (rowAt rows (4 * j)) (w j (omega arith)) (both .0), a) (none-from q k (j + 1) (omega arith) (both .1))
 
