@@ -1,18 +1,17 @@
 -- The definitions at work, by computation: the type printer's example, and each example of the refusals table as bytes through the call it belongs to.
 use Prim.Native.Nat.{ℕ, _+_}
 use mathlib.Core.Path.{_≡_, refl}
-use mathlib.Core.List.{List, [], _∷_, _++_, map}
-use mathlib.Core.Bool.{Bool, true, false}
-use lib.IntN.{ℤ, pos, negsuc}
-use lib.ListN.{replicate, set}
+use mathlib.Core.List.{List, [], _∷_, _++_}
+use mathlib.Core.Option.{none, some}
+use lib.IntN.{negsuc}
+use lib.ListN.{replicate}
 use Rattle.definitions.specs.Limits.{termTableWidth, quadTableWidth, textWidth}
 use Rattle.definitions.specs.Ascii.{ascii}
 use Rattle.definitions.specs.Bytes.{filled, littleBytes}
-use Rattle.definitions.specs.Outcome.{Outcome, ok, fault, _>>=_}
-use Rattle.definitions.specs.Calls.{Lent, load, runCall, pageCall}
-use Rattle.definitions.specs.Numbers.{loadNumber, runNumber, pageNumber}
+use Rattle.definitions.specs.Terms.{Term, readTerms}
+use Rattle.definitions.specs.Calls.{Lent, load}
+use Rattle.definitions.specs.Numbers.{loadNumber}
 use Rattle.definitions.specs.Printer.{printed}
-use Rattle.definitions.specs.declared.SavedRun.{SavedRun}
 use Rattle.definitions.proofs.Opened.{opened}
 
 -- ── the type printer ────────────────────────────────────────────────────────────────────────
@@ -70,3 +69,42 @@ refusals-2-to-9 :
     ≡ 2 ∷ 3 ∷ 4 ∷ 5 ∷ 6 ∷ 7 ∷ 8 ∷ 9 ∷ 0 ∷ []
 unfolding lend loadOf integer-3 p-name success block opened
 refusals-2-to-9 = refl
+
+-- ── refusal 6, and what it lets pass ────────────────────────────────────────────────────────
+
+-- so many sequences, each the first script of the one before: records one deeper than there are sequences
+sequences : ℕ → List ℕ
+sequences n = replicate n 0x74 ++ replicate (n + 1) 0x71
+
+-- a once block with no variable and a filter
+filtered : (cond : List ℕ) → List ℕ
+filtered cond = block 0 (0x64 ∷ cond)
+
+refusals-6 :
+    loadOf [] [] (sequences 23)  -- 24 deep
+    ∷ loadOf [] [] (sequences 24)  -- 25 deep
+    ∷ loadOf [] [] (0x73 ∷ 0 ∷ 0 ∷ 0 ∷ 1 ∷ replicate 6 0 ++ (0x65 ∷ success))  -- an unused pair that is not zero
+    ∷ loadOf integer-3 [] (filtered (0x57 ∷ 0x32 ∷ 0 ∷ 0 ∷ 0x32 ∷ 0 ∷ 0 ∷ []))  -- the last term's number
+    ∷ loadOf integer-3 [] (filtered (0x57 ∷ 0x32 ∷ 0 ∷ 0 ∷ 0x32 ∷ 1 ∷ 0 ∷ []))  -- the number of terms
+    ∷ loadOf [] [] (success ++ success)  -- a byte left over
+    ∷ loadOf integer-3 [] (filtered (0x55 ∷ filled 16 (ascii "a**") ++ (0x32 ∷ 0 ∷ 0 ∷ [])))  -- a bad pattern
+    ∷ loadOf integer-3 [] (filtered (0x56 ∷ filled 8 (ascii "en*") ++ (0x32 ∷ 0 ∷ 0 ∷ [])))  -- a bad range
+    ∷ []
+    ≡ 0 ∷ 6 ∷ 6 ∷ 0 ∷ 6 ∷ 6 ∷ 6 ∷ 6 ∷ []
+unfolding lend loadOf integer-3 success block sequences filtered opened
+refusals-6 = refl
+
+-- ── terms as bytes ──────────────────────────────────────────────────────────────────────────
+
+-- a zero inside a text; the integer -3, two's complement
+terms-read :
+    readTerms (0x11 ∷ ascii "a" ++ (0 ∷ ascii "b" ++ replicate 37 0))
+    ∷ readTerms (0x13 ∷ 0xFD ∷ replicate 7 0xFF)
+    ∷ []
+    ≡ none ∷ some (Term.integer (negsuc 2) ∷ []) ∷ []
+unfolding opened
+terms-read = refl
+
+refusal-2 : loadOf (0x11 ∷ ascii "a" ++ (0 ∷ ascii "b" ++ replicate 37 0)) [] success ≡ 2
+unfolding lend loadOf success opened
+refusal-2 = refl

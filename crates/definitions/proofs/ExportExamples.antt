@@ -1,14 +1,13 @@
 -- The definitions at work, by computation: the calls on bytes.
 use Prim.Native.Nat.{ℕ}
 use mathlib.Core.Path.{_≡_, refl}
-use mathlib.Core.List.{List, [], _∷_, _++_, map}
-use mathlib.Core.Option.{Option, none, some}
+use mathlib.Core.List.{List, [], _∷_}
 use lib.IntN.{pos}
-use lib.ListN.{replicate, set, take, drop}
-use Rattle.definitions.specs.Bytes.{littleBytes}
-use Rattle.definitions.specs.Outcome.{Outcome, ok, fault}
+use lib.ListN.{replicate, set, take}
+use Rattle.definitions.specs.Outcome.{ok}
 use Rattle.definitions.specs.Calls.{Lent}
-use Rattle.definitions.specs.Exports.{LoadExport, RunExport, loadExport, runExport, savedWidth, runReportWidth, savedFrom, savedBytes}
+use Rattle.definitions.specs.Exports.{LoadExport, loadExport, runExport}
+use Rattle.definitions.specs.Limits.{savedWidth, runReportWidth}
 use Rattle.definitions.proofs.Opened.{opened}
 use Rattle.definitions.proofs.Season.{card, withTables}
 

@@ -2,18 +2,18 @@
 use Prim.Native.Nat.{ℕ}
 use mathlib.Core.Path.{_≡_, refl}
 use mathlib.Core.List.{List, [], _∷_, _++_, map}
-use mathlib.Core.Option.{Option, none, some}
-use lib.IntN.{ℤ, pos}
+use mathlib.Core.Option.{Option, some}
+use lib.IntN.{pos}
 use lib.ListN.{length, replicate}
 use Rattle.definitions.specs.Ascii.{ascii}
 use Rattle.definitions.specs.Bytes.{onward, provided}
-use Rattle.definitions.specs.Types.{Datatype, Ty, plain}
+use Rattle.definitions.specs.Types.{Datatype, plain}
 use Rattle.definitions.specs.Terms.{Term, Schema}
 use Rattle.definitions.specs.Reading.{parsed}
 use Rattle.definitions.specs.Scope.{inScope}
 use Rattle.definitions.specs.Typing.{verdict, writtenTypes, Verdict, noTyping}
 use Rattle.definitions.specs.Calls.{constantsOf}
-use Rattle.definitions.specs.Outcome.{Outcome, ok, fault, Fault, graphNoURI, subjectNoURI, propertyNotInSchema, objectNotOfDatatype, fromNamedNoURI, textTestOnNoString, arithmeticOnNoNumber, nothingInCommon}
+use Rattle.definitions.specs.Outcome.{Outcome, fault, graphNoURI, subjectNoURI, propertyNotInSchema, objectNotOfDatatype, fromNamedNoURI, textTestOnNoString, arithmeticOnNoNumber, nothingInCommon}
 use Rattle.definitions.specs.Machine.{Run, run, loaded, withProperties}
 use Rattle.definitions.proofs.Opened.{opened}
 

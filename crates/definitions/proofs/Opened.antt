@@ -86,7 +86,7 @@ unfolding Result._>>=_ Result._>>_ Result.require Result.given
 openResult = tt
 
 unfoldable pub openCalls : Unit {0}
-unfolding Calls.constantsOf Calls.typesOf Calls.sizesFit Calls.check Calls.reportedTypes Calls.tablesFit Calls.loadTests Calls.loadResult Calls.load Calls.checkedOf Calls.soundIn Calls.runIn Calls.runTests Calls.ranOf Calls.runResult Calls.runCall Calls.pageIn Calls.takeIn Calls.pageTests Calls.pageResult Calls.pageCall
+unfolding Calls.recordTests Calls.sizesFit Calls.scriptTests Calls.readTests Calls.constantsOf Calls.typesOf Calls.typeTests Calls.check Calls.reportedTypes Calls.tablesFit Calls.loadTests Calls.loadResult Calls.load Calls.checkedOf Calls.soundIn Calls.runIn Calls.runTests Calls.ranOf Calls.runResult Calls.runCall Calls.pageIn Calls.takeIn Calls.pageTests Calls.pageResult Calls.pageCall
 openCalls = tt
 
 unfoldable pub openCallList : Unit {0}
@@ -98,7 +98,7 @@ unfolding Exports.words Exports.itemsBytes Exports.savedBytes Exports.wordsFrom 
 openExports = tt
 
 unfoldable pub openPrinter : Unit {0}
-unfolding Printer.entryWidth Printer.endFrom Printer.termsEnd Printer.schemaEnd Printer.line Printer.datatypeName Printer.typeName Printer.typeLines Printer.boundCount Printer.printedResult Printer.printed
+unfolding Printer.entryBody Printer.endFrom Printer.termsEnd Printer.schemaEnd Printer.line Printer.datatypeName Printer.typeName Printer.typeLines Printer.boundCount Printer.printedResult Printer.printed
 openPrinter = tt
 
 unfoldable pub opened : Unit {0}

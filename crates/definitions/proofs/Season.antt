@@ -1,20 +1,19 @@
 -- The definitions at work, by computation: a script loaded, run and given pages, call by call on bytes; and refusals 10 to 14.
 use Prim.Native.Nat.{ℕ, zero, suc, _+_}
 use mathlib.Core.Path.{_≡_, refl}
-use mathlib.Core.List.{List, [], _∷_, _++_, map}
-use mathlib.Core.Bool.{Bool, true, false}
+use mathlib.Core.List.{List, [], _∷_, _++_}
 use lib.IntN.{ℤ, pos, negsuc}
 use lib.ListN.{replicate, set}
 use Rattle.definitions.specs.Limits.{termTableWidth, quadTableWidth, textWidth, tagWidth}
 use Rattle.definitions.specs.Ascii.{ascii}
 use Rattle.definitions.specs.Bytes.{filled, littleBytes, unsigned}
 use Rattle.definitions.specs.Outcome.{Outcome, ok, fault}
-use Rattle.definitions.specs.Calls.{Lent, LoadResult, load, runCall, PageResult, pageCall}
+use Rattle.definitions.specs.Calls.{Lent, load, runCall, PageResult, pageCall}
 use Rattle.definitions.specs.CallList.{Call, running, paging, Answer, ran, paged}
 use Rattle.definitions.specs.declared.SavedRun.{SavedRun}
 use Rattle.definitions.specs.declared.Ran.{Ran}
 use Rattle.definitions.specs.declared.RunState.{RunState}
-use Rattle.definitions.specs.declared.RunState.the-variants.{Ended, Wanted, Waiting, Spent}
+use Rattle.definitions.specs.declared.RunState.the-variants.{Ended, Wanted, Spent}
 use Rattle.definitions.specs.declared.RunAnswer.the-variants as RunAnswers
 use Rattle.definitions.specs.declared.PageAnswer.the-variants as PageAnswers
 use Rattle.definitions.proofs.Opened.{opened}

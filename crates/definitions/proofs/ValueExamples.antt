@@ -1,12 +1,11 @@
 -- The definitions at work, by computation: document 01's texts of values, patterns, language ranges, and the rank table's rule.
-use Prim.Native.Nat.{ℕ, zero, suc, _+_}
+use Prim.Native.Nat.{ℕ, zero, suc}
 use mathlib.Core.Path.{_≡_, refl}
-use mathlib.Core.List.{List, [], _∷_, _++_, map}
+use mathlib.Core.List.{List, [], _∷_, map}
 use mathlib.Core.Bool.{Bool, true, false}
 use mathlib.Core.Option.{Option, none, some}
-use lib.Dec.{T, eqb}
-use lib.IntN.{ℤ, pos, negsuc}
-use lib.ListN.{length}
+use lib.Dec.{T}
+use lib.IntN.{pos, negsuc}
 use Prim.Native.String.{String}
 use Rattle.definitions.specs.Ascii.{ascii}
 use Rattle.definitions.specs.Lists.{isIn, every}

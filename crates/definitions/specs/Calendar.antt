@@ -1,5 +1,5 @@
 -- Document 01, "Values": a dateTime's text, in the Gregorian calendar from year 0001 to year 9999.
-use Prim.Native.Nat.{ℕ, zero, suc, _+_, _*_, _-_, _/_, _%_}
+use Prim.Native.Nat.{ℕ, zero, suc, _+_, _-_, _/_, _%_}
 use mathlib.Core.List.{List, [], _∷_, _++_}
 use mathlib.Core.Bool.{Bool, true, false, cond, not, _&&_, _||_}
 use lib.Dec.{eqb, ltb}
@@ -42,7 +42,7 @@ yearFrom (suc left) year day =
       | false ↦ yearFrom left (suc year) (day - yearLength year)
     ]
 
--- the date of a day counted from 0001-01-01
+-- the date of a day counted from 0001-01-01; up to 9999-12-31 the bound on the years is never reached (`values`, `CalendarLaws.counted`)
 unfoldable pub dateOf : ℕ → Date
 dateOf day = yearFrom 9998 1 day
 

@@ -1,7 +1,7 @@
 -- Document 01, "Refusals": the three calls, their refusals in order, and every result outright.
 use Prim.Native.Nat.{ℕ}
 use mathlib.Core.List.{List, [], _∷_, map}
-use mathlib.Core.Bool.{Bool, true, false, _&&_}
+use mathlib.Core.Bool.{Bool, false, _&&_}
 use mathlib.Core.Option.{Option, none, some}
 use lib.Dec.{eqb, leb}
 use lib.ListN.{length, getD, getElem?}
@@ -16,8 +16,8 @@ use Rattle.definitions.specs.Reading.{parsed}
 use Rattle.definitions.specs.Scope.{inScope}
 use Rattle.definitions.specs.Typing.{Written, unbound, undecided, fixed, writtenTypes, typeAt, Verdict, noTyping, noGreatest, greatest, verdict}
 use Rattle.definitions.specs.Outcome as Outcomes
-use Rattle.definitions.specs.Outcome.{Outcome, ok, fault}
-use Rattle.definitions.specs.Machine.{State, Store, Run, run, lastOf, loaded, withProperties, Taken, taken, withPage, inLimits}
+use Rattle.definitions.specs.Outcome.{Outcome, ok}
+use Rattle.definitions.specs.Machine.{State, Run, run, lastOf, loaded, withProperties, Taken, taken, withPage, inLimits}
 use Rattle.definitions.specs.Saved.{termTable, quadTable, held, savedOf, noRun}
 use Rattle.definitions.specs.Evaluate.{isURI}
 use Rattle.definitions.specs.Sound.{stateSound}
@@ -26,14 +26,51 @@ use Rattle.definitions.specs.declared.SavedRun.{SavedRun}
 use Rattle.definitions.specs.declared.Loaded.{Loaded}
 use Rattle.definitions.specs.declared.Ran.{Ran}
 use Rattle.definitions.specs.declared.Paged.{Paged}
-use Rattle.definitions.specs.declared.LoadAnswer.{LoadAnswer}
-use Rattle.definitions.specs.declared.RunAnswer.{RunAnswer}
-use Rattle.definitions.specs.declared.PageAnswer.{PageAnswer}
 use Rattle.definitions.specs.declared.LoadAnswer.the-variants as LoadAnswers
 use Rattle.definitions.specs.declared.RunAnswer.the-variants as RunAnswers
 use Rattle.definitions.specs.declared.PageAnswer.the-variants as PageAnswers
 
 -- ── terms, schema and script: 2 to 9 ────────────────────────────────────────────────────────
+
+-- the terms listed, and the schema
+pub record Listed : Type 0 where
+  pub terms : List Term
+  pub schema : Schema
+
+-- 2 to 5
+unfoldable pub recordTests : (terms schema : List ℕ) → Result Listed
+recordTests terms schema = do
+  listed ← given 2 (readTerms terms)
+  require 3 (distinct sameTerm listed)
+  S ← given 4 (readSchema schema)
+  require 5 (distinct sameProperty S)
+  passed (record { terms = listed; schema = S })
+
+-- a limit passed on terms, entries or script bytes
+unfoldable pub sizesFit : List Term → Schema → (script : List ℕ) → Bool
+sizesFit terms S script = leb (length terms) termLimit && (leb (length S) entryLimit && leb (length script) scriptLimit)
+
+-- 6 and 7, over the terms as loading numbers them
+unfoldable pub scriptTests : List Term → Schema → (script : List ℕ) → Result Script
+scriptTests terms S script = do
+  require 6 (sizesFit terms S script)
+  root ← given 6 (parsed (length terms) script)
+  require 7 (inScope root)
+  passed root
+
+-- what is ready to be typed: the schema, the terms as loading numbers them, and the script
+pub record Parsed : Type 0 where
+  pub schema : Schema
+  pub terms : List Term
+  pub root : Script
+
+-- 2 to 7
+unfoldable pub readTests : (terms schema script : List ℕ) → Result Parsed
+readTests terms schema script = do
+  l ← recordTests terms schema
+  let numbered = withProperties (l .schema) (l .terms)
+  root ← scriptTests numbered (l .schema) script
+  passed (record { schema = l .schema; terms = numbered; root = root })
 
 -- what is found where nothing is refused: the schema, the terms as loading numbers them, the script and the types worked out
 pub record Checked : Type 0 where
@@ -51,22 +88,16 @@ typesOf noTyping = refused 8
 typesOf noGreatest = refused 9
 typesOf (greatest Γ) = passed Γ
 
--- a limit passed on terms, entries or script bytes
-unfoldable pub sizesFit : List Term → Schema → (script : List ℕ) → Bool
-sizesFit terms S script = leb (length terms) termLimit && (leb (length S) entryLimit && leb (length script) scriptLimit)
+-- 8 and 9
+unfoldable pub typeTests : Parsed → Result Checked
+typeTests x = do
+  types ← typesOf (verdict (constantsOf (x .schema) (x .terms)) (writtenTypes (x .root)) (x .root))
+  passed (record { schema = x .schema; terms = x .terms; root = x .root; types = types })
 
 unfoldable pub check : (terms schema script : List ℕ) → Result Checked
 check terms schema script = do
-  listed ← given 2 (readTerms terms)
-  require 3 (distinct sameTerm listed)
-  S ← given 4 (readSchema schema)
-  require 5 (distinct sameProperty S)
-  let numbered = withProperties S listed
-  require 6 (sizesFit numbered S script)
-  root ← given 6 (parsed (length numbered) script)
-  require 7 (inScope root)
-  types ← typesOf (verdict (constantsOf S numbered) (writtenTypes root) root)
-  passed (record { schema = S; terms = numbered; root = root; types = types })
+  x ← readTests terms schema script
+  typeTests x
 
 -- the reported types by their codes, 0 for a variable that no pair binds
 abbrev pub reportedType : Written → Ty → ℕ

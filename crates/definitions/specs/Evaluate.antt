@@ -1,6 +1,6 @@
 -- Document 01, "The machine": one tuple tried. All parts are evaluated; the faults come first.
 use Prim.Native.Nat.{ℕ}
-use mathlib.Core.List.{List, [], _∷_}
+use mathlib.Core.List.{List}
 use mathlib.Core.Bool.{Bool, true, false, _&&_, _||_}
 use mathlib.Core.Bool as Bools
 use mathlib.Core.Option.{Option, none, some}
@@ -8,12 +8,12 @@ use lib.Dec.{eqb}
 use lib.ListN.{getElem?}
 use lib.IntN.{ℤ}
 use Rattle.definitions.specs.Lists.{some?}
-use Rattle.definitions.specs.Types.{Datatype, Ty, plain}
-use Rattle.definitions.specs.Terms.{Term, Text, Schema, datatypeIn, hasType}
+use Rattle.definitions.specs.Types.{Datatype, plain}
+use Rattle.definitions.specs.Terms.{Term, Schema, datatypeIn, hasType}
 use Rattle.definitions.specs.Text.{accepts, matches}
 use Rattle.definitions.specs.Tree.{Name, var, const, Expr, Cond, Query}
-use Rattle.definitions.specs.Outcome.{Outcome, ok, fault, _>>=_, _>>_, demand, Fault, graphNoURI, subjectNoURI, propertyNotInSchema, objectNotOfDatatype, noTerm}
-use Rattle.definitions.specs.Values.{Value, valueOf, sum, difference, absolute, textOf, paired, equalPair, lessPair, stringIn, holdsOf, Tagged}
+use Rattle.definitions.specs.Outcome.{Outcome, ok, fault, _>>=_, _>>_, demand, graphNoURI, subjectNoURI, propertyNotInSchema, objectNotOfDatatype, noTerm}
+use Rattle.definitions.specs.Values.{Value, valueOf, sum, difference, absolute, textOf, paired, equalPair, lessPair, stringIn, holdsOf}
 
 -- four term numbers
 pub record Quad : Type 0 where

@@ -1,17 +1,18 @@
 -- The calls on bytes, as other programs link them: saved run and report are lent as bytes too, and count as lent tables.
 use Prim.Native.Nat.{ℕ, zero, suc, _+_, _*_}
 use mathlib.Core.List.{List, [], _∷_, _++_, map}
-use mathlib.Core.Bool.{Bool, true, false, cond, _&&_}
+use mathlib.Core.Bool.{Bool, true, false, _&&_}
 use mathlib.Core.Option.{Option, none, some}
 use lib.Dec.{eqb, leb}
 use lib.IntN.{ℤ}
-use lib.ListN.{length, replicate}
+use lib.ListN.{length}
 use Rattle.definitions.specs.Limits.{variableLimit, graphLimit, depthLimit, pairLimit}
+use Rattle.definitions.specs.Limits.{typesOffset, boundOffset, bindingsOffset, fetchedOffset, itemsOffset, itemWidth, savedWidth, runReportWidth, pageReportWidth}
 use Rattle.definitions.specs.Lists.{every}
 use Rattle.definitions.specs.Bytes.{byte, word, littleBytes, part, provided}
-use Rattle.definitions.specs.Outcome.{Outcome, ok, fault, _>>=_}
+use Rattle.definitions.specs.Outcome.{Outcome, ok, _>>=_}
 use Rattle.definitions.specs.Saved.{zeroItem}
-use Rattle.definitions.specs.Calls.{Lent, lengthsFit, LoadResult, load, runCall, PageResult, pageCall}
+use Rattle.definitions.specs.Calls.{Lent, lengthsFit, load, runCall, PageResult, pageCall}
 use Rattle.definitions.specs.Numbers.{loadNumber, runNumber, pageNumber, stateNumber, wantedGraph}
 use Rattle.definitions.specs.declared.SavedItem.{SavedItem}
 use Rattle.definitions.specs.declared.SavedRun.{SavedRun}
@@ -21,28 +22,7 @@ use Rattle.definitions.specs.declared.PageAnswer.{PageAnswer}
 use Rattle.definitions.specs.declared.RunAnswer.the-variants as RunAnswers
 use Rattle.definitions.specs.declared.PageAnswer.the-variants as PageAnswers
 
--- ── the saved run in 486 bytes ──────────────────────────────────────────────────────────────
-
-abbrev pub typesOffset : ℕ
-typesOffset = 6
-
-abbrev pub boundOffset : ℕ
-boundOffset = 22
-
-abbrev pub bindingsOffset : ℕ
-bindingsOffset = 38
-
-abbrev pub fetchedOffset : ℕ
-fetchedOffset = 70
-
-abbrev pub itemsOffset : ℕ
-itemsOffset = 198
-
-abbrev pub itemWidth : ℕ
-itemWidth = 12
-
-abbrev pub savedWidth : ℕ
-savedWidth = itemsOffset + depthLimit * itemWidth
+-- ── the saved run as bytes ────────────────────────────────────────────────────────────────
 
 abbrev pub markOf : Bool → ℕ
 markOf false = 0
@@ -103,12 +83,6 @@ savedFrom b =
     }))
 
 -- ── reports ─────────────────────────────────────────────────────────────────────────────────
-
-abbrev pub runReportWidth : ℕ
-runReportWidth = 8
-
-abbrev pub pageReportWidth : ℕ
-pageReportWidth = 4
 
 -- steps taken, state, zero, the wanted graph's term number or zero; a refused call leaves the report as it was
 unfoldable pub runReport : List ℕ → RunAnswer → List ℕ

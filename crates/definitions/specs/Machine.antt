@@ -9,10 +9,10 @@ use lib.IntN.{ℤ}
 use Rattle.definitions.specs.Limits.{termLimit, quadLimit, graphLimit}
 use Rattle.definitions.specs.Lists.{keep, isIn}
 use Rattle.definitions.specs.Types.{Datatype, plain}
-use Rattle.definitions.specs.Terms.{Term, Schema, Entry, Triple, datatypeIn, hasType, sameTerm}
+use Rattle.definitions.specs.Terms.{Term, Schema, Triple, datatypeIn, hasType, sameTerm}
 use Rattle.definitions.specs.Tree.{Query, Script, success, fromNamed, block, sequence}
 use Rattle.definitions.specs.Scope.{variablesOf}
-use Rattle.definitions.specs.Outcome.{Outcome, ok, fault, _>>=_, _>>_, demand, Fault, fromNamedNoURI}
+use Rattle.definitions.specs.Outcome.{Outcome, ok, _>>=_, _>>_, demand, fromNamedNoURI}
 use Rattle.definitions.specs.Evaluate.{Bindings, Quad, stored, Named, named, isURI}
 use Rattle.definitions.specs.Search.{Typing, Tuple, bind, answer}
 use Rattle.definitions.specs.declared.RunState.{RunState}

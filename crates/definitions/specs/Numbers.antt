@@ -1,4 +1,5 @@
--- This paper's number, and what it carries, for every case of an enum answer.
+-- Document 01's number for every case of an enum answer, and the graph that a wanted one carries. The steps of a run and the skipped count of a page stand
+-- in the reports (`Exports.runReport`, `Exports.pageReport`).
 use Prim.Native.Nat.{ℕ}
 use Rattle.definitions.specs.declared.RunState.{RunState}
 use Rattle.definitions.specs.declared.RunState.the-variants.{Ended, Wanted, Waiting, Spent}

@@ -1,7 +1,7 @@
 -- Document 01, "Roster cases": the type printer, from its input to its output.
 use Prim.Native.Nat.{ℕ, zero, suc, _+_}
 use mathlib.Core.List.{List, [], _∷_, _++_}
-use mathlib.Core.Bool.{Bool, true, false, _||_}
+use mathlib.Core.Bool.{true, false}
 use mathlib.Core.Option.{Option, none, some}
 use lib.Dec.{eqb, leb}
 use lib.ListN.{length, take, drop}
@@ -17,25 +17,28 @@ use Rattle.definitions.specs.Calls.{Checked, check}
 
 -- ── splitting the joined input ──────────────────────────────────────────────────────────────
 
--- the terms end before the first kind outside 11 to 15; a record cut off by the end of the input is theirs
-abbrev pub termWidth : Option Datatype → Option ℕ
-termWidth none = none
-termWidth (some d) = some (bodyWidth d)
+-- the body of a record of kinds 11 to 15
+abbrev pub termBody : Option Datatype → Option ℕ
+termBody none = none
+termBody (some d) = some (bodyWidth d)
 
--- the schema ends before the first other than 21
-unfoldable pub entryWidth : ℕ → Option ℕ
-entryWidth k = elim (eqb k 0x21) [ true ↦ some (textWidth + 1) | false ↦ none ]
+-- the body of a record of kind 21
+unfoldable pub entryBody : ℕ → Option ℕ
+entryBody k = elim (eqb k 0x21) [ true ↦ some (textWidth + 1) | false ↦ none ]
 
--- the offset at which records of some kinds end, from an offset on; `left` bounds their number
+-- the offset at which records of some kinds end, from an offset on; `left` bounds their number, and is never reached, since past the end the byte is 0, which
+-- is no kind (`print_types`, `EndLaws.ends-out`)
 unfoldable pub endFrom : (width : ℕ → Option ℕ) → (left : ℕ) → List ℕ → ℕ → ℕ
 endFrom width zero s at = at
 endFrom width (suc left) s at = elim (width (byte s at)) [ none ↦ at | some n ↦ endFrom width left s (past at n) ]
 
+-- the terms end before the first kind outside 11 to 15; a record cut off by the end of the input is theirs
 unfoldable pub termsEnd : List ℕ → ℕ
-termsEnd s = endFrom (λ k. termWidth (ofTermKind k)) (length s) s 0
+termsEnd s = endFrom (λ k. termBody (ofTermKind k)) (length s) s 0
 
+-- the schema ends before the first other than 21
 unfoldable pub schemaEnd : List ℕ → ℕ
-schemaEnd s = endFrom entryWidth (length s) s (termsEnd s)
+schemaEnd s = endFrom entryBody (length s) s (termsEnd s)
 
 abbrev pub termsPart : List ℕ → List ℕ
 termsPart s = take (termsEnd s) s

@@ -1,16 +1,16 @@
 -- Document 01, "Records": reading a script, in prefix order, children after their record (refusal 6).
 -- For each sort of record a table has one row a kind, and a shape says how a row's body and children are read.
 -- `terms` is the number of terms; `left` is how many levels of records may still be used.
-use Prim.Native.Nat.{ℕ, zero, suc, _+_, _*_}
+use Prim.Native.Nat.{ℕ, zero, suc, _+_}
 use mathlib.Core.List.{List, [], _∷_}
-use mathlib.Core.Bool.{Bool, true, false, cond, _&&_}
+use mathlib.Core.Bool.{Bool, _&&_}
 use mathlib.Core.Option.{Option, none, some}
-use lib.Dec.{leb, ltb, eqb}
+use lib.Dec.{ltb, eqb}
 use lib.ListN.{length}
 use Rattle.definitions.specs.Limits.{patternWidth, languageRangeWidth, blockWidth, variableLimit, pairLimit, depthLimit}
 use Rattle.definitions.specs.Bytes.{byte, word, Got, provided, onward, row, past, whole, body}
 use Rattle.definitions.specs.Types.{Ty, typeOfCode}
-use Rattle.definitions.specs.Text.{Pattern, LanguageRange, patternOf, languageRangeOf}
+use Rattle.definitions.specs.Text.{patternOf, languageRangeOf}
 use Rattle.definitions.specs.Tree.{Name, var, const, Expr, Cond, Query, Binder, Script}
 
 -- ── one child, two, four ────────────────────────────────────────────────────────────────────

@@ -13,7 +13,7 @@ use Rattle.definitions.specs.Tree.{Script, success, fromNamed, block, se
 use Rattle.definitions.specs.Scope.{variables}
 use Rattle.definitions.specs.Evaluate.{Quad, Bindings}
 use Rattle.definitions.specs.Search.{Tuple}
-use Rattle.definitions.specs.Machine.{Item, State, Control, Store}
+use Rattle.definitions.specs.Machine.{Item, State}
 use Rattle.definitions.specs.declared.SavedItem.{SavedItem}
 use Rattle.definitions.specs.declared.SavedRun.{SavedRun}
 

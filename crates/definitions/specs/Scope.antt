@@ -1,7 +1,7 @@
 -- Document 01, refusal 7: a variable unbound at its use, or bound by two pairs.
 use Prim.Native.Nat.{ℕ}
 use mathlib.Core.List.{List, [], _∷_, _++_, map}
-use mathlib.Core.Bool.{Bool, true, false, not, _&&_, _||_}
+use mathlib.Core.Bool.{Bool, false, not, _&&_, _||_}
 use lib.Dec.{eqb}
 use Rattle.definitions.specs.Lists.{every, distinct, isIn}
 use Rattle.definitions.specs.Tree.{Name, var, const, Expr, Cond, Query, Binder, Script, success, fromNamed, block, sequence}

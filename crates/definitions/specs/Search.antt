@@ -9,7 +9,7 @@ use Rattle.definitions.specs.Lists.{keep}
 use Rattle.definitions.specs.Types.{Ty}
 use Rattle.definitions.specs.Terms.{Term, Schema, hasType}
 use Rattle.definitions.specs.Tree.{Query}
-use Rattle.definitions.specs.Outcome.{Outcome, ok, fault, _>>=_}
+use Rattle.definitions.specs.Outcome.{Outcome, ok, _>>=_}
 use Rattle.definitions.specs.Values.{before}
 use Rattle.definitions.specs.Evaluate.{Bindings, Quad, query}
 

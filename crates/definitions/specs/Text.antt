@@ -1,8 +1,8 @@
 -- Document 01, "Records": patterns and language ranges, what they are and what they accept.
-use Prim.Native.Nat.{ℕ, _+_}
-use mathlib.Core.List.{List, [], _∷_, _++_}
+use Prim.Native.Nat.{ℕ}
+use mathlib.Core.List.{List, [], _∷_}
 use mathlib.Core.Bool.{Bool, true, false, cond, not, _&&_, _||_}
-use mathlib.Core.Option.{Option, none, some}
+use mathlib.Core.Option.{Option, some}
 use lib.Dec.{eqb}
 use Rattle.definitions.specs.Limits.{patternWidth, languageRangeWidth}
 use Rattle.definitions.specs.Lists.{every, some?, isEmpty, isIn}

@@ -1,7 +1,7 @@
 -- Document 01, "Typing": the rules, and what a load answers (refusals 8 and 9).
 use Prim.Native.Nat.{ℕ}
 use mathlib.Core.List.{List, [], _∷_, _++_, map}
-use mathlib.Core.Bool.{Bool, true, false, _&&_, _||_}
+use mathlib.Core.Bool.{Bool, true, false, _&&_}
 use mathlib.Core.Option.{Option, none, some}
 use lib.Dec.{eqb}
 use lib.ListN.{getD}
@@ -106,7 +106,7 @@ assignments (w ∷ ws) = eachWith (choices w) (assignments ws)
 abbrev pub typeAt : List Ty → ℕ → Ty
 typeAt Γ x = getD Γ x (plain anyURI)
 
--- those that pass; a test waits until it is asked
+-- those that pass, as `keep` has them (`laws`, `Lists.those-is-keep`); a test waits until it is asked
 unfoldable pub those : {A : Type 0} → (A → Bool) → List A → List A
 those p [] = []
 those p (x ∷ xs) = elim (p x) [ true ↦ x ∷ those p xs | false ↦ those p xs ]

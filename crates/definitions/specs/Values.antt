@@ -1,7 +1,7 @@
 -- Document 01, "Values": what expressions give, a value of a kind or "no value" of that kind; arithmetic, str and comparisons.
-use Prim.Native.Nat.{ℕ, zero, suc, _+_, _-_, _*_, _/_, _%_, _^_}
+use Prim.Native.Nat.{ℕ, zero, suc, _+_, _-_, _/_, _%_, _^_}
 use mathlib.Core.List.{List, [], _∷_, _++_}
-use mathlib.Core.Bool.{Bool, true, false, _&&_, _||_, cond}
+use mathlib.Core.Bool.{Bool, true, false, _&&_, _||_}
 use mathlib.Core.Option.{Option, none, some}
 use lib.Dec.{ltb, eqb}
 use lib.IntN.{ℤ, pos, negsuc, natAbs, _+ℤ_, _-ℤ_, _*ℤ_}
@@ -9,7 +9,6 @@ use lib.ListN.{getD}
 use lib.Signed.{ltZ}
 use Rattle.definitions.specs.Ascii.{ascii}
 use Rattle.definitions.specs.Bytes.{sameBytes, provided}
-use Rattle.definitions.specs.Types.{Datatype}
 use Rattle.definitions.specs.Terms.{Term, Text, isInteger, isDecimal, sameNumber}
 use Rattle.definitions.specs.Calendar.{digits, dateTimeText}
 use Rattle.definitions.specs.Outcome.{Outcome, ok, fault, _>>=_, arithmeticOnNoNumber, nothingInCommon, textTestOnNoString}
@@ -26,13 +25,6 @@ pub data Value : Type 0 where
   integer : Option ℤ → Value
   decimal : (millionths : Option ℤ) → Value
   dateTime : (seconds : ℤ) → Value
-
-abbrev pub kind : Value → Datatype
-kind (Value.uri u) = Datatype.anyURI
-kind (Value.string s) = Datatype.string
-kind (Value.integer n) = Datatype.integer
-kind (Value.decimal n) = Datatype.decimal
-kind (Value.dateTime n) = Datatype.dateTime
 
 unfoldable pub valueOf : Term → Value
 valueOf (Term.uri u) = Value.uri u
@@ -112,6 +104,7 @@ shortDigits (suc left) n =
       | false ↦ shortDigits left (n / 10) ++ ((0x30 + n % 10) ∷ [])
     ]
 
+-- without needless zeros; 20 digits are enough for every number here (`laws`, `Digits.digits-enough`)
 unfoldable pub naturalText : ℕ → Text
 naturalText n = shortDigits 20 n
 

@@ -1,19 +1,48 @@
 // The data that all crates share: limits and widths, the saved run, and the answers of the three calls.
 
-// Widths of fields and records, in bytes.
+// Widths of fields and records, in bytes. `Limits` in specs/ has the same names and numbers.
 pub const TEXT_WIDTH: usize = 40;
 
 pub const TAG_WIDTH: usize = 8;
 
-pub const PATTERN_WIDTH: usize = 16;
-
 pub const NUMBER_WIDTH: usize = 8;
 
-pub const SLOT_WIDTH: usize = 49;
+pub const PATTERN_WIDTH: usize = 16;
 
+pub const LANGUAGE_RANGE_WIDTH: usize = 8;
+
+// A slot of the term table holds the longest record, a string's.
+pub const SLOT_WIDTH: usize = 1 + TAG_WIDTH + TEXT_WIDTH;
+
+// A schema record: kind, URI body and datatype.
+pub const ENTRY_WIDTH: usize = 1 + TEXT_WIDTH + 1;
+
+// A URI's record: kind and text. A schema record's datatype stands after as many bytes.
+pub const URI_WIDTH: usize = 1 + TEXT_WIDTH;
+
+// Where a page record's property and its object begin.
+pub const PROPERTY_OFFSET: usize = 1 + TEXT_WIDTH;
+
+pub const OBJECT_OFFSET: usize = PROPERTY_OFFSET + TEXT_WIDTH;
+
+// A block's body: mode, count and four pairs. Where its count begins, its pairs, and what follows it.
+pub const PAIR_LIMIT: usize = 4;
+
+pub const BLOCK_WIDTH: usize = 2 + 2 * PAIR_LIMIT;
+
+pub const COUNT_OFFSET: usize = 2;
+
+pub const PAIRS_OFFSET: usize = 3;
+
+pub const QUERY_OFFSET: usize = 1 + BLOCK_WIDTH;
+
+// Where the expression of a regex begins, after its pattern, and that of a langMatches, after its language range.
+pub const REGEX_TEXT_OFFSET: usize = 1 + PATTERN_WIDTH;
+
+pub const LANG_MATCHES_TEXT_OFFSET: usize = 1 + LANGUAGE_RANGE_WIDTH;
+
+// A quad: four 2-byte numbers.
 pub const QUAD_WIDTH: usize = 8;
-
-pub const BLOCK_WIDTH: usize = 10;
 
 // Limits.
 pub const TERM_LIMIT: usize = 512;
@@ -26,7 +55,10 @@ pub const ENTRY_LIMIT: usize = 128;
 
 pub const SCRIPT_LIMIT: usize = 2048;
 
+// Records are at most so deep, and so high is a stack.
 pub const DEPTH_LIMIT: u8 = 24;
+
+pub const ITEM_LIMIT: usize = DEPTH_LIMIT as usize;
 
 pub const BUDGET_LIMIT: u64 = 60000;
 
@@ -34,11 +66,85 @@ pub const PAGE_LIMIT: usize = 65536;
 
 pub const VARIABLES: usize = 16;
 
+pub const INTEGER_LIMIT: u64 = 1000000000000;
+
+pub const DECIMAL_LIMIT: u64 = 1000000000000000000;
+
+// A dateTime lies at most so many seconds before 1970, and after it.
+pub const SECONDS_BEFORE: u64 = 62135596800;
+
+pub const SECONDS_AFTER: u64 = 253402300799;
+
+// Lent tables, in bytes; a schema of all its entries; the type printer's input; the quads in numbers, four for each.
+pub const TERM_TABLE_WIDTH: usize = TERM_LIMIT * SLOT_WIDTH;
+
+pub const QUAD_TABLE_WIDTH: usize = QUAD_LIMIT * QUAD_WIDTH;
+
+pub const SCHEMA_WIDTH: usize = ENTRY_LIMIT * ENTRY_WIDTH;
+
+pub const PRINTER_LIMIT: usize = TERM_TABLE_WIDTH + SCHEMA_WIDTH + SCRIPT_LIMIT;
+
+pub const QUAD_NUMBERS: usize = 4 * QUAD_LIMIT;
+
+// The saved run as bytes: three counts, then its parts, each from its offset on.
+pub const TYPES_OFFSET: usize = 6;
+
+pub const BOUND_OFFSET: usize = TYPES_OFFSET + VARIABLES;
+
+pub const BINDINGS_OFFSET: usize = BOUND_OFFSET + VARIABLES;
+
+pub const FETCHED_OFFSET: usize = BINDINGS_OFFSET + 2 * VARIABLES;
+
+pub const ITEMS_OFFSET: usize = FETCHED_OFFSET + 2 * GRAPH_LIMIT;
+
+pub const ITEM_WIDTH: usize = 4 + 2 * PAIR_LIMIT;
+
+pub const SAVED_WIDTH: usize = ITEMS_OFFSET + ITEM_LIMIT * ITEM_WIDTH;
+
+pub const RUN_REPORT_WIDTH: usize = 8;
+
+pub const PAGE_REPORT_WIDTH: usize = 4;
+
+// The refusals, by document 01's numbers.
+pub const WRONG_LENGTH: u8 = 1;
+
+pub const BAD_TERM: u8 = 2;
+
+pub const TERM_TWICE: u8 = 3;
+
+pub const BAD_ENTRY: u8 = 4;
+
+pub const PROPERTY_TWICE: u8 = 5;
+
+pub const BAD_SCRIPT: u8 = 6;
+
+pub const OUT_OF_SCOPE: u8 = 7;
+
+pub const NO_TYPING: u8 = 8;
+
+pub const NO_GREATEST: u8 = 9;
+
+pub const UNSOUND: u8 = 10;
+
+pub const BAD_RUN: u8 = 11;
+
+pub const NO_GRAPH: u8 = 12;
+
+pub const BAD_PAGE: u8 = 13;
+
+pub const NO_ROOM: u8 = 14;
+
+// What reading a record gives: the offset after it, or that it is malformed.
+pub enum Read {
+    Next(usize),
+    Malformed,
+}
+
 // A script item on the stack: the offset of its record in the script, and the tuple that an each block last used.
 pub struct SavedItem {
     pub at: u16,
     pub started: bool,
-    pub last: [u16; 4],
+    pub last: [u16; PAIR_LIMIT],
 }
 
 // The saved run (document 01's term): the machine's stack from the bottom, its bindings and its fetched list, the
@@ -47,11 +153,11 @@ pub struct SavedRun {
     pub height: u16,
     pub quads: u16,
     pub graphs: u16,
-    pub types: [u8; 16],
-    pub bound: [bool; 16],
-    pub bindings: [u16; 16],
-    pub fetched: [u16; 64],
-    pub items: [SavedItem; 24],
+    pub types: [u8; VARIABLES],
+    pub bound: [bool; VARIABLES],
+    pub bindings: [u16; VARIABLES],
+    pub fetched: [u16; GRAPH_LIMIT],
+    pub items: [SavedItem; ITEM_LIMIT],
 }
 
 // How a run call ends; the wanted graph goes by its term number.

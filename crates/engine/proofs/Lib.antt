@@ -1,14 +1,8 @@
-pub mod Numbers
-pub mod CardLaws
-pub mod ScriptLaws
-pub mod LeastLaws
-pub mod ReadyLaws
-pub mod CheckLaws
 pub mod LoadLaws
-pub mod Lent
+pub mod LentLaws
 pub mod ClockLaws
 pub mod SoundLaws
-pub mod Held
+pub mod PassedLaws
 pub mod PageLaws
 pub mod TakeLaws
 pub mod RunLaws

@@ -1,21 +1,21 @@
 -- The load call: the length of each table, the check, and a saved run with the root alone on its stack.
-use Prim.Native.Nat.{ℕ, suc, _≤_}
+use Prim.Native.Nat.{ℕ, suc}
 use native.Mathlib.Omega.{arith}
-use mathlib.Core.Path.{_≡_, refl, sym, ap, _∙_}
+use mathlib.Core.Path.{_≡_, sym, ap, _∙_}
 use mathlib.Core.List.{List, [], _++_}
 use mathlib.Core.Bool.{Bool, true, false, _&&_}
 use mathlib.Core.Option.{some}
 use borrow.Author.Tests.{eq-eqb, ne-eqb}
-use lib.Dec.{T, eqb, leb, leb→le}
-use lib.ListN.{length, take, drop, replicate}
+use lib.Dec.{eqb, leb, leb→le}
+use lib.ListN.{length, take, drop}
 use Rattle.definitions.specs.Limits.{depthLimit, termLimit, entryLimit, scriptLimit, termTableWidth, quadTableWidth}
-use Rattle.definitions.specs.Bytes.{filled, provided, onward}
+use Rattle.definitions.specs.Bytes.{filled, provided}
 use Rattle.definitions.specs.Terms.{Term}
 use Rattle.definitions.specs.Tree.{Script, success, fromNamed, block, sequence}
 use Rattle.definitions.specs.Reading.{readScript, parsed}
-use Rattle.definitions.specs.Machine.{loaded, fresh}
+use Rattle.definitions.specs.Machine.{loaded}
 use Rattle.definitions.specs.Saved.{termTable, quadTable, quadBytes, offsetOf, savedItem, savedItems, savedOf}
-use Rattle.definitions.specs.Result.{Result, refused, passed, _>>=_, _>>_, require, given}
+use Rattle.definitions.specs.Result.{Result, refused, passed}
 use Rattle.definitions.specs.Calls.{Checked, Lent, LoadResult, tablesFit, loadTests, loadResult, check, sizesFit, reported}
 use Rattle.definitions.specs.Calls as Calls
 use Rattle.definitions.specs.declared.Loaded.{Loaded}
@@ -29,11 +29,11 @@ use Rattle.laws.proofs.Tables.{term-table-length, quad-table-length}
 use Rattle.laws.proofs.Tests.{andLeft, trueIs}
 use Rattle.laws.proofs.Valid.{check-valid}
 use Rattle.laws.proofs.Writing.{copied}
-use Rattle.engine.specs.Check.{numberOf, cardOf, TablesOf}
-use Rattle.engine.specs.Saved.{bareRun, refusedLoad, acceptedLoad, lentOf}
-use Rattle.engine.specs.declared.card.Card.{Card}
-use Rattle.engine.proofs.Numbers.{refused-number, passed-number}
-use Rattle.engine.proofs.CheckLaws.{card-number, check-not-zero}
+use Rattle.card.specs.Check.{numberOf, cardOf, TablesOf}
+use Rattle.engine.specs.BareRun.{bareRun, refusedLoad, acceptedLoad}
+use Rattle.card.specs.declared.refusals.Card.{Card}
+use Rattle.card.proofs.RefusalNumbers.{refused-number, passed-number}
+use Rattle.card.proofs.CheckLaws.{card-number, check-not-zero}
 
 -- ── the root stands at offset 0 ─────────────────────────────────────────────────────────────
 
@@ -112,7 +112,7 @@ module _ (l : Lent) where
             let c = found .0 in
             let p = check-passed (l .terms) (l .schema) (l .script) c (found .1) in
             let few = leb→le (length (c .terms)) termLimit
-            (andLeft (leb (length (c .terms)) termLimit) (leb (length (c .schema)) entryLimit && leb (length (l .script)) scriptLimit) (p .sizes)) in
+            (andLeft (leb (length (c .terms)) termLimit) (leb (length (c .schema)) entryLimit && leb (length (l .script)) scriptLimit) (p .reads .sizes)) in
             ap length slots ∙ term-table-length (c .terms) (check-valid (l .terms) (l .schema) (l .script) c (found .1)) few
 
         pub load-accepted : {r : Loaded} {termBytes quadBytes : List ℕ} (empty : List ℕ) → r ≡ acceptedLoad (card .types) → empty ≡ quadTable []
@@ -124,7 +124,7 @@ module _ (l : Lent) where
             let k = load-is (only-check ∙ found .1) in
             let p = check-passed (l .terms) (l .schema) (l .script) c (found .1) in
             let types : card .types ≡ reported c = ap (λ (k : Card). k .types) (ec ∙ ap cardOf (found .1)) in
-            let root = parsed-offset (length (c .terms)) (l .script) (c .root) (p .parses) in
+            let root = parsed-offset (length (c .terms)) (l .script) (c .root) (p .reads .parses) in
             let width : length empty ≡ length (l .quadTable) = ap length fe ∙ quad-table-length [] (omega arith) ∙ sym hq in (
               f ∙ ap acceptedLoad types
                   ∙ ap (λ (s : SavedRun). record { answer = LoadAnswers.Accepted; saved = s }) (saved-fresh (reported c) (c .terms) (c .root) root)

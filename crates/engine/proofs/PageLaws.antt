@@ -19,11 +19,11 @@ use Rattle.definitions.specs.Calls.{Checked, Lent, lengthsFit, soundIn, isGraph
 use Rattle.definitions.specs.declared.SavedRun.{SavedRun}
 use Rattle.definitions.specs.declared.Paged.{Paged}
 use Rattle.laws.proofs.Results.{given-bind, require-after, given-refused, require-refused}
-use Rattle.reader.specs.Fields.{isSome}
-use Rattle.records.specs.Answers.{countOf}
-use Rattle.records.specs.declared.Counted.{Counted}
-use Rattle.records.specs.declared.Counted.the-variants.{Count, Malformed}
-use Rattle.engine.specs.Answered.{refusedPaged}
+use Rattle.laws.specs.ReadAnswers.{isSome}
+use Rattle.fields.specs.Answers.{countOf}
+use Rattle.fields.specs.declared.Counted.{Counted}
+use Rattle.fields.specs.declared.Counted.the-variants.{Count, Malformed}
+use Rattle.engine.specs.Refused.{refusedPaged}
 
 -- ── whether a page reads ────────────────────────────────────────────────────────────────────
 

@@ -17,7 +17,7 @@ use Rattle.definitions.specs.Outcome.{Outcome, ok}
 use Rattle.definitions.specs.Machine.{State, Run, lastOf}
 use Rattle.definitions.specs.Machine as Machine
 use Rattle.definitions.specs.Saved.{savedOf, quadsFrom, quadsIn}
-use Rattle.definitions.specs.Result.{Result, refused, passed, _>>=_, _>>_, given}
+use Rattle.definitions.specs.Result.{Result, refused, passed, _>>=_, given}
 use Rattle.definitions.specs.Calls as Calls
 use Rattle.definitions.specs.Calls.{Checked, reported, Lent, lengthsFit, soundIn, runIn, Running, runTests, ranOf, runResult, runCall}
 use Rattle.definitions.specs.declared.SavedRun.{SavedRun}
@@ -28,16 +28,16 @@ use Rattle.laws.proofs.Results.{given-bind, require-after, given-refused, requi
 use Rattle.laws.proofs.Options.{provided-inv}
 use Rattle.laws.proofs.SoundIn.{SoundIn}
 use Rattle.machine.specs.declared.Stopped.{Stopped}
-use Rattle.machine.specs.Canonical.{canonicalOf}
+use Rattle.store.specs.Canonical.{canonicalOf}
 use Rattle.machine.specs.Running as Machines
 use Rattle.machine.specs.Running.{RunOf}
 use Rattle.machine.proofs.StartLaws.{types-here, lends-held}
 use Rattle.engine.specs.declared.Lending.{Lending}
-use Rattle.engine.specs.Answered.{refusedRan}
+use Rattle.engine.specs.Refused.{refusedRan}
 use Rattle.engine.specs.Lending.{Found}
-use Rattle.engine.specs.Saved.{lentOf}
-use Rattle.engine.proofs.Lent.{fit-terms}
-use Rattle.engine.proofs.Held.{passed-10, holding}
+use Rattle.engine.specs.BareRun.{lentOf}
+use Rattle.engine.proofs.LentLaws.{fit-terms}
+use Rattle.engine.proofs.PassedLaws.{passed-10, holding}
 
 -- ── refusals ────────────────────────────────────────────────────────────────────────────────
 

@@ -1,5 +1,5 @@
 -- Refusal 10, from the tests that the code makes.
-use Prim.Native.Nat.{ℕ, zero, suc, _+_, _*_, _≤_}
+use Prim.Native.Nat.{ℕ, zero, suc, _*_, _≤_}
 use native.Mathlib.Omega.{arith}
 use mathlib.Core.Path.{_≡_, refl, sym, ap, subst, _∙_}
 use mathlib.Core.List.{List, [], _∷_, _++_, map}
@@ -21,32 +21,31 @@ use Rattle.laws.proofs.Tests.{isTrue, trueIs}
 use Rattle.laws.proofs.Order.{type-of-code}
 use Rattle.laws.proofs.Options.{some-is, some-not-none, onward-inv, provided-inv}
 use Rattle.laws.proofs.Results.{passed-is}
-use Rattle.laws.proofs.Same.{same-bytes, bytes-refl}
-use Rattle.laws.proofs.Sorts.{least}
+use Rattle.laws.proofs.Equality.{same-bytes, bytes-refl}
+use Rattle.laws.specs.Sorts.{least}
 use Rattle.laws.proofs.Check.{Passed, check-passed, accepted, terms-fit, types-length}
 use Rattle.laws.proofs.Valid.{check-valid}
 use Rattle.laws.proofs.Tables.{terms-of, term-table-length}
 use Rattle.laws.proofs.Saved.{held-inv}
 use Rattle.laws.proofs.SoundIn.{sound-in}
-use Rattle.records.specs.Answers as Records
-use Rattle.records.specs.Answers.{countOf}
-use Rattle.records.specs.Marks.{entryWidth}
-use Rattle.records.specs.Table.{HoldsTerms}
-use Rattle.records.specs.declared.Counted.{Counted}
-use Rattle.records.specs.declared.Counted.the-variants.{Count, Malformed}
-use Rattle.reader.specs.Fields.{isSome}
-use Rattle.query.specs.Codes.{rowsFrom}
+use Rattle.fields.specs.Answers.{countOf, distinctIn}
+use Rattle.definitions.specs.Limits.{entryWidth}
+use Rattle.table.specs.Table.{HoldsTerms}
+use Rattle.fields.specs.declared.Counted.{Counted}
+use Rattle.fields.specs.declared.Counted.the-variants.{Count, Malformed}
+use Rattle.laws.specs.ReadAnswers.{isSome}
+use Rattle.laws.specs.Quads.{rowsFrom}
 use Rattle.soundness.specs.Store.{LeastOf, SoundStore, passes, storeIn, storeSound}
 use Rattle.soundness.specs.Control.{ControlOf, controlSound}
 use Rattle.soundness.proofs.StateLaws.{sound-test, not-loaded, first-fails, then-second}
 use Rattle.engine.specs.declared.Lending.{Lending}
-use Rattle.engine.specs.declared.card.Card.{Card}
-use Rattle.engine.specs.Check.{numberOf, cardOf, TablesOf}
-use Rattle.engine.specs.Leasts.{codeOf, leastCodes}
+use Rattle.card.specs.declared.refusals.Card.{Card}
+use Rattle.card.specs.Check.{numberOf, cardOf, TablesOf}
+use Rattle.card.specs.Leasts.{codeOf, leastCodes}
 use Rattle.engine.specs.Lending.{notSound, Lends}
-use Rattle.engine.specs.Saved.{lentOf}
-use Rattle.engine.proofs.Numbers.{refused-number, passed-number}
-use Rattle.engine.proofs.CheckLaws.{card-number, passed-short, check-not-zero}
+use Rattle.engine.specs.BareRun.{lentOf}
+use Rattle.card.proofs.RefusalNumbers.{refused-number, passed-number}
+use Rattle.card.proofs.CheckLaws.{card-number, passed-short, check-not-zero}
 
 -- ── the codes of least types ────────────────────────────────────────────────────────────────
 
@@ -162,15 +161,14 @@ module _ (terms schema script table store : List ℕ) (saved : SavedRun) where
 
       -- ── what the tests are lent ────────────────────────────────────────────────────────────
 
-      pub schema-good : Records.isSome (readSchema schema) ≡ true
-      unfolding Records.isSome
-      schema-good = rw (passes-all .entries) refl
+      pub schema-good : isSome (readSchema schema) ≡ true
+      schema-good = rw (passes-all .reads .entries) refl
 
       pub schema-short : length schema ≤ entryLimit * entryWidth
       schema-short = passed-short terms schema script c passes-all
 
       pub script-good : isSome (parsed (card .count) script) ≡ true
-      script-good = rw (known-is, passes-all .parses) refl
+      script-good = rw (known-is, passes-all .reads .parses) refl
 
       few : length (c .terms) ≤ termLimit
       few = terms-fit terms schema script c passes-all
@@ -179,9 +177,9 @@ module _ (terms schema script table store : List ℕ) (saved : SavedRun) where
       loading-in t = ap termsIn (t c (checks .1) .slots) ∙ terms-of (c .terms) (check-valid terms schema script c (checks .1)) few
 
       pub loading-apart : {loading leasts : List ℕ} → ((c : Checked) → check terms schema script ≡ passed c → TablesOf c loading leasts)
-          → Records.distinctIn sameTerm (termsIn loading) ≡ true
-      unfolding Records.distinctIn
-      loading-apart t = ap (Records.distinctIn sameTerm) (loading-in t) ∙ isTrue (distinct sameTerm (c .terms)) (accepted terms schema script c passes-all .apart)
+          → distinctIn sameTerm (termsIn loading) ≡ true
+      unfolding distinctIn
+      loading-apart t = ap (distinctIn sameTerm) (loading-in t) ∙ isTrue (distinct sameTerm (c .terms)) (accepted terms schema script c passes-all .apart)
 
       pub loading-holds : {loading leasts : List ℕ} → ((c : Checked) → check terms schema script ≡ passed c → TablesOf c loading leasts) → HoldsTerms loading (card .count)
       unfolding countOf
@@ -203,7 +201,7 @@ module _ (terms schema script table store : List ℕ) (saved : SavedRun) where
 
         codes-are : leasts ≡ map (codeOf (c .schema)) (used .0) ++ drop count old
         unfolding leastCodes
-        codes-are = el ∙ rw (passes-all .entries, used .1) refl
+        codes-are = el ∙ rw (passes-all .reads .entries, used .1) refl
 
         codes : LeastOf (c .schema) (used .0) leasts
         codes = subst (LeastOf (c .schema) (used .0)) (sym codes-are) (codes-at (c .schema) (used .0) (drop count old))
@@ -231,7 +229,7 @@ module _ (terms schema script table store : List ℕ) (saved : SavedRun) where
               control-is =
                   ek c (used .0)
                   (record {
-                    parses = ap (λ (n : ℕ). parsed n script) known-is ∙ passes-all .parses;
+                    parses = ap (λ (n : ℕ). parsed n script) known-is ∙ passes-all .reads .parses;
                     types = types-same;
                     each = types-length terms schema script c passes-all;
                     counted = sym (used .2);

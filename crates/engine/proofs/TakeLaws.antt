@@ -22,20 +22,21 @@ use Rattle.laws.proofs.Tests.{trueIs}
 use Rattle.laws.proofs.Bytes.{AreBytes}
 use Rattle.laws.proofs.Bindings.{is-below}
 use Rattle.laws.proofs.Options.{provided-inv}
-use Rattle.laws.proofs.Sound.{Accepted}
+use Rattle.laws.specs.Sound.{Accepted}
 use Rattle.laws.proofs.SoundIn.{SoundIn, terms-held, valid-held, quads-held}
 use Rattle.laws.proofs.Saved.{terms-few, quads-few, graphs-few, quads-small}
-use Rattle.machine.specs.Stack.{graphFits, paged}
-use Rattle.machine.specs.Canonical.{canonicalOf}
-use Rattle.machine.specs.Page.{PageReads, Reads}
-use Rattle.machine.specs.Taking.{HeldStore, HeldTables, PageDone, takenPage, refusedPage as notTaken}
-use Rattle.machine.proofs.DoneLaws.{no-room, saved-paged}
-use Rattle.engine.specs.Answered.{refusedPaged}
-use Rattle.engine.specs.Saved.{lentOf}
+use Rattle.store.specs.Stack.{graphFits, paged}
+use Rattle.store.specs.Canonical.{canonicalOf}
+use Rattle.pages.specs.Page.{PageReads, Reads}
+use Rattle.pages.specs.Taking.{HeldStore, HeldTables, PageDone, takenPage, refusedPage as notTaken}
+use Rattle.pages.proofs.DoneLaws.{no-room}
+use Rattle.store.proofs.Fetched.{saved-paged}
+use Rattle.engine.specs.Refused.{refusedPaged}
+use Rattle.engine.specs.BareRun.{lentOf}
 use Rattle.engine.specs.Paging.{Passed}
-use Rattle.engine.proofs.Lent.{and-right, fit-terms, fit-quads}
-use Rattle.engine.proofs.Held.{passed-10, accepted, loads, stack-low, graphs-low, is-saved}
-use Rattle.engine.proofs.CheckLaws.{passed-short}
+use Rattle.engine.proofs.LentLaws.{and-right, fit-terms, fit-quads}
+use Rattle.engine.proofs.PassedLaws.{passed-10, accepted, loads, stack-low, graphs-low, is-saved}
+use Rattle.card.proofs.CheckLaws.{passed-short}
 use Rattle.engine.proofs.PageLaws.{refused-14, taken-in}
 
 a-term : (o : Option Term) → isGraph o ≡ true → (t : Term) × (o ≡ some t)
@@ -96,7 +97,7 @@ module _ (terms schema script table store : List ℕ) (saved : SavedRun) (n g : 
   page-fits = leb→le (length page) pageLimit (provided-inv (leb (length page) pageLimit) (readPage page) (p .reads) .0)
 
   pub schema-is : readSchema schema ≡ some (c .schema)
-  schema-is = loads terms schema script table store saved (p .found) (p .sound) .entries
+  schema-is = loads terms schema script table store saved (p .found) (p .sound) .reads .entries
 
   pub schema-read : Reads schema
   schema-read = (c .schema, schema-is, passed-short terms schema script c (loads terms schema script table store saved (p .found) (p .sound)))

@@ -10,8 +10,8 @@ use Rattle.definitions.specs.Saved.{quadsFrom}
 use Rattle.definitions.specs.Calls as Calls
 use Rattle.definitions.specs.Calls.{Lent, soundIn}
 use Rattle.definitions.specs.declared.SavedRun.{SavedRun}
-use Rattle.reader.specs.Fields.{isSome}
-use Rattle.query.specs.Codes.{rowsFrom}
+use Rattle.laws.specs.ReadAnswers.{isSome}
+use Rattle.laws.specs.Quads.{rowsFrom}
 use Rattle.soundness.specs.Store.{LeastOf}
 use Rattle.engine.specs.declared.Lending.{Lending}
 

@@ -1,6 +1,4 @@
-pub mod Check
-pub mod Leasts
-pub mod Saved
-pub mod Answered
+pub mod BareRun
+pub mod Refused
 pub mod Lending
 pub mod Paging

@@ -6,25 +6,30 @@ ghost use lib.ListN.{length, getElem?};
 ghost use Rattle.definitions.specs.Limits.{termLimit};
 ghost use Rattle.definitions.specs.Terms.{Term, Schema};
 ghost use Rattle.definitions.specs.Calls.{tablesFit, isGraph, pageIn, pageCall};
-ghost use Rattle.reader.specs.Fields.{isSome};
-ghost use Rattle.engine.specs.Answered.{refusedPaged};
-ghost use Rattle.engine.specs.Saved.{lentOf};
+ghost use Rattle.laws.specs.ReadAnswers.{isSome};
+ghost use Rattle.engine.specs.Refused.{refusedPaged};
+ghost use Rattle.engine.specs.BareRun.{lentOf};
 ghost use Rattle.soundness.specs.Store.{LeastOf};
 ghost use Rattle.engine.specs.Paging.{Passed};
-use crate::QUAD_TABLE;
-use crate::ROWS;
-use crate::TERM_TABLE;
 use crate::sound::sound;
+use definitions::BAD_PAGE;
+use definitions::NO_GRAPH;
+use definitions::NO_ROOM;
 use definitions::PAGE_LIMIT;
 use definitions::PageAnswer;
 use definitions::Paged;
+use definitions::QUAD_NUMBERS;
+use definitions::QUAD_TABLE_WIDTH;
 use definitions::SavedRun;
 use definitions::TERM_LIMIT;
-use machine::canonical::canonical;
-use machine::taking::take_in;
-use records::Counted;
+use definitions::TERM_TABLE_WIDTH;
+use definitions::UNSOUND;
+use definitions::WRONG_LENGTH;
+use fields::Counted;
+use pages::intake::take_in;
 use records::lists::count_triples;
 use soundness::graphs::is_uri;
+use store::canonical::canonical;
 
 fn refused(saved: SavedRun, number: u8) -> Paged
     ensures { λ r. ⌜ r ≡ refusedPaged saved number ⌝ }
@@ -39,7 +44,7 @@ fn refused(saved: SavedRun, number: u8) -> Paged
 pub fn tables_fit(table: &[u8], store: &[u8]) -> bool
     ensures { λ r. ⌜ r ≡ tablesFit (length (now (table .entry))) (length (now (store .entry))) ⌝ }
 {
-    (table.len() == TERM_TABLE) & (store.len() == QUAD_TABLE)
+    (table.len() == TERM_TABLE_WIDTH) & (store.len() == QUAD_TABLE_WIDTH)
 }
 
 // Whether a number is that of a URI among the terms in use.
@@ -86,7 +91,7 @@ fn take(
     let done = take_in(clean, graph as u16, count, schema, page, table, store);
     let answer = done.answer;
     let PageAnswer::Taken(_) = answer else {
-        return refused(saved, 14);
+        return refused(saved, NO_ROOM);
     };
     done
 }
@@ -105,9 +110,9 @@ pub fn page(
     ensures { λ r. ⌜ pageCall (lentOf (now (terms .entry)) (now (schema .entry)) (now (script .entry)) (now (table .entry)) (now (store .entry))) saved graph (now (page .entry)) ≡ record { returned = r; termTable = now (table .exit); quadTable = now (store .exit) } ⌝ }
 {
     if !tables_fit(table, store) {
-        return refused(saved, 1);
+        return refused(saved, WRONG_LENGTH);
     }
-    let mut rows = [0u16; ROWS];
+    let mut rows = [0u16; QUAD_NUMBERS];
     let mut leasts = [0u8; TERM_LIMIT];
     let lent = sound(
         terms,
@@ -120,13 +125,13 @@ pub fn page(
         &mut leasts,
     );
     if !lent.sound {
-        return refused(saved, 10);
+        return refused(saved, UNSOUND);
     }
     if !is_graph(&leasts, lent.count, graph) {
-        return refused(saved, 12);
+        return refused(saved, NO_GRAPH);
     }
     if !page_ok(page) {
-        return refused(saved, 13);
+        return refused(saved, BAD_PAGE);
     }
     take(
         terms,

@@ -7,24 +7,24 @@ ghost use Rattle.definitions.specs.Bytes.{signed};
 ghost use Rattle.definitions.specs.Terms.{isDateTime};
 ghost use Rattle.definitions.specs.Outcome.{ok};
 ghost use Rattle.definitions.specs.Calls.{runCall};
-ghost use Rattle.engine.specs.Answered.{refusedRan};
-ghost use Rattle.engine.specs.Saved.{lentOf};
-use crate::ROWS;
+ghost use Rattle.engine.specs.Refused.{refusedRan};
+ghost use Rattle.engine.specs.BareRun.{lentOf};
 use crate::page::tables_fit;
 use crate::sound::sound;
+use definitions::BAD_RUN;
 use definitions::BUDGET_LIMIT;
+use definitions::QUAD_NUMBERS;
 use definitions::Ran;
 use definitions::RunAnswer;
+use definitions::SECONDS_AFTER;
+use definitions::SECONDS_BEFORE;
 use definitions::SavedRun;
 use definitions::TERM_LIMIT;
-use machine::canonical::canonical;
-use machine::running::run_steps;
-use records::numbers::within;
-
-// The limits of a dateTime, in seconds before and after 1970.
-const SECONDS_BEFORE: u64 = 62135596800;
-
-const SECONDS_AFTER: u64 = 253402300799;
+use definitions::UNSOUND;
+use definitions::WRONG_LENGTH;
+use fields::numbers::within;
+use machine::run::run_steps;
+use store::canonical::canonical;
 
 fn refused(saved: SavedRun, number: u8) -> Ran
     ensures { λ r. ⌜ r ≡ refusedRan saved number ⌝ }
@@ -68,9 +68,9 @@ pub fn run(
     ensures { λ r. ⌜ runCall (lentOf (now (terms .entry)) (now (schema .entry)) (now (script .entry)) (now (table .entry)) (now (store .entry))) saved budget clock ≡ ok r ⌝ }
 {
     if !tables_fit(table, store) {
-        return refused(saved, 1);
+        return refused(saved, WRONG_LENGTH);
     }
-    let mut rows = [0u16; ROWS];
+    let mut rows = [0u16; QUAD_NUMBERS];
     let mut leasts = [0u8; TERM_LIMIT];
     let lent = sound(
         terms,
@@ -83,11 +83,11 @@ pub fn run(
         &mut leasts,
     );
     if !lent.sound {
-        return refused(saved, 10);
+        return refused(saved, UNSOUND);
     }
     let second = bits(clock);
     if !in_limits(budget, second) {
-        return refused(saved, 11);
+        return refused(saved, BAD_RUN);
     }
     let clean = canonical(saved, script);
     let known = lent.known;

@@ -4,20 +4,20 @@ ghost use lib.ListN.{length};
 ghost use Prim.Native.Nat.{_*_};
 ghost use Rattle.definitions.specs.Limits.{termLimit, quadLimit, termTableWidth, quadTableWidth};
 ghost use Rattle.definitions.specs.Saved.{termsIn};
-ghost use Rattle.records.specs.Answers.{countOf};
-ghost use Rattle.records.specs.Table.{HoldsTerms};
+ghost use Rattle.fields.specs.Answers.{countOf};
+ghost use Rattle.table.specs.Table.{HoldsTerms};
 ghost use Rattle.engine.specs.Lending.{notSound, Lends};
-ghost use Rattle.engine.specs.Saved.{lentOf};
+ghost use Rattle.engine.specs.BareRun.{lentOf};
 use crate::Lending;
-use crate::TERM_TABLE;
-use crate::card::check_card;
-use crate::leasts::least_codes;
+use card::leasts::least_codes;
+use card::refusals::check_card;
 use definitions::SavedRun;
-use records::Counted;
-use records::numbers::same_bytes;
-use records::table::used_terms;
+use definitions::TERM_TABLE_WIDTH;
+use fields::Counted;
+use fields::numbers::same_bytes;
 use soundness::control::control_sound;
 use soundness::store::store_sound;
+use table::slots::used_terms;
 
 fn unsound() -> Lending
     ensures { λ r. ⌜ r ≡ notSound ⌝ }
@@ -59,7 +59,7 @@ pub fn sound(
     requires { ⌜ length (now leasts) ≡ termLimit ⌝ }
     ensures { λ r. ⌜ Lends (lentOf (now (terms .entry)) (now (schema .entry)) (now (script .entry)) (now (table .entry)) (now (store .entry))) saved r (now (rows .exit)) (now (leasts .exit)) ⌝ }
 {
-    let mut loading = [0u8; TERM_TABLE];
+    let mut loading = [0u8; TERM_TABLE_WIDTH];
     let card = check_card(terms, schema, script, &mut loading, leasts);
     if card.refusal != 0 {
         return unsound();

@@ -3,7 +3,7 @@ use Prim.Native.Nat.{ℕ}
 use mathlib.Core.Bool.{Bool, _&&_}
 use lib.Dec.{eqb}
 use Rattle.definitions.specs.Calls.{tablesFit}
-use Rattle.definitions.specs.Exports.{savedWidth}
+use Rattle.definitions.specs.Limits.{savedWidth}
 
 -- tables, saved run and report have their lengths
 unfoldable pub buffersFit : (termBytes quadBytes savedBytes reportBytes reportWidth : ℕ) → Bool

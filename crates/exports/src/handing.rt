@@ -1,22 +1,23 @@
 // What the three calls have in common: the lengths of what is lent, and the saved run handed back.
 ghost use mathlib.Core.Path.{_≡_};
-ghost use Rattle.definitions.specs.Exports.{savedWidth, savedAfter};
+ghost use Rattle.definitions.specs.Limits.{savedWidth};
+ghost use Rattle.definitions.specs.Exports.{savedAfter};
 ghost use Rattle.exports.specs.Buffers.{buffersFit};
-use super::SAVED_WIDTH;
-use super::writing::write_saved;
+use definitions::QUAD_TABLE_WIDTH;
+use definitions::SAVED_WIDTH;
 use definitions::SavedRun;
-use engine::QUAD_TABLE;
-use engine::TERM_TABLE;
+use definitions::TERM_TABLE_WIDTH;
+use layout::writing::write_saved;
 
 // Tables, saved run and report have their lengths.
 // Ruled out: a report of another length taken for good; a test of the tables alone.
 pub fn buffers_fit(terms: usize, quads: usize, saved: usize, report: usize, width: usize) -> bool
     ensures { λ r. ⌜ r ≡ buffersFit terms quads saved report width ⌝ }
 {
-    if terms != TERM_TABLE {
+    if terms != TERM_TABLE_WIDTH {
         return false;
     }
-    if quads != QUAD_TABLE {
+    if quads != QUAD_TABLE_WIDTH {
         return false;
     }
     if saved != SAVED_WIDTH {

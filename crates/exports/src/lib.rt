@@ -1,39 +1,14 @@
 // The C interface: the three calls as other programs link them, over the saved run as bytes and back, and the reports.
 pub mod handing; // handing.rt: what the three calls have in common
-pub mod reading;
 pub mod reports;
-pub mod writing;
 
 ghost use mathlib.Core.Path.{_≡_};
 ghost use Rattle.definitions.specs.Outcome.{ok};
 ghost use Rattle.definitions.specs.Exports.{loadExport, runExport, pageExport};
-use definitions::SavedRun;
-
-// Where the parts of a saved run's bytes begin, the width of an item, and the whole width.
-pub const TYPES: usize = 6;
-
-pub const BOUND: usize = 22;
-
-pub const BINDINGS: usize = 38;
-
-pub const FETCHED: usize = 70;
-
-pub const ITEMS: usize = 198;
-
-pub const ITEM_WIDTH: usize = 12;
-
-pub const SAVED_WIDTH: usize = 486;
-
-// The lengths of the reports.
-pub const RUN_REPORT_WIDTH: usize = 8;
-
-pub const PAGE_REPORT_WIDTH: usize = 4;
-
-// What reading a saved run's bytes gives; an enum holds no array.
-pub struct SavedRead {
-    pub ok: bool,
-    pub saved: SavedRun,
-}
+use definitions::PAGE_REPORT_WIDTH;
+use definitions::RUN_REPORT_WIDTH;
+use definitions::SAVED_WIDTH;
+use layout::reading;
 
 // Load: 1 to 9.
 // Ruled out: a load that ignores the saved buffer's length; a refused load that writes the saved run of zeros.

@@ -1,12 +1,13 @@
 // The numbers of the answers, and the reports of a run and of a page.
 ghost use mathlib.Core.Path.{_≡_};
 ghost use Rattle.definitions.specs.Numbers.{loadNumber, runNumber, pageNumber, stateNumber, wantedGraph};
-ghost use Rattle.definitions.specs.Exports.{runReportWidth, pageReportWidth, runReport, pageReport};
-use super::writing;
+ghost use Rattle.definitions.specs.Limits.{runReportWidth, pageReportWidth};
+ghost use Rattle.definitions.specs.Exports.{runReport, pageReport};
 use definitions::LoadAnswer;
 use definitions::PageAnswer;
 use definitions::RunAnswer;
 use definitions::RunState;
+use layout::writing;
 
 // 0, or the refusal's number.
 pub fn load_number(answer: LoadAnswer) -> u32

@@ -6,15 +6,11 @@ use mathlib.Core.Bool.{Bool, true, false, cond, not, _&&_, _||_}
 use lib.Dec.{T, T-not, not-T}
 use Rattle.definitions.specs.Lists.{every, some?, keep, distinct}
 use Rattle.laws.proofs.Tests.{andLeft, andRight, andMake, orCases, by-test}
+use Rattle.laws.specs.Lists.{All}
 
 notOr : (a b : Bool) → T (not (a || b)) → T (not a) × T (not b)
 notOr true b h = absurd h
 notOr false b h = (tt, h)
-
-module _ {A : Type 0} where
-  abbrev pub All : (A → Type 0) → List A → Type 0
-  All P [] = Unit {0}
-  All P (x ∷ xs) = P x × All P xs
 
 module _ {A : Type 0} (P : A → Type 0) where
   pub all-append : (xs ys : List A) → All P xs → All P ys → All P (xs ++ ys)

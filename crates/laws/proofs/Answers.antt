@@ -19,11 +19,13 @@ use Rattle.definitions.specs.Evaluate.{Bindings, Quad, query}
 use Rattle.definitions.specs.Search.{Typing, Tuple, fitting, eachInFront, tuples, earlier, after, first, bind, answer}
 use Rattle.definitions.specs.Calls.{constantsOf}
 use Rattle.laws.proofs.Tests.{andMake}
-use Rattle.laws.proofs.All.{All, all-append, all-cond, all-keep, all-map}
-use Rattle.laws.proofs.Fine.{Fine, fine, Any, fine-then}
-use Rattle.laws.proofs.Bindings.{Extends, Holds, Bound, WellBound, BoundIn, Fits}
+use Rattle.laws.specs.Lists.{All}
+use Rattle.laws.proofs.All.{all-append, all-cond, all-keep, all-map}
+use Rattle.laws.specs.Outcomes.{Fine, fine, Any}
+use Rattle.laws.proofs.NoFault.{fine-then}
+use Rattle.laws.specs.Bindings.{Extends, Holds, Bound, WellBound, BoundIn, Fits}
 use Rattle.laws.proofs.Evaluate.{query-fine}
-use Rattle.laws.proofs.Sound.{QueryBounded}
+use Rattle.laws.specs.Sound.{QueryBounded}
 
 -- a property of what there is, if there is something
 abbrev pub IfSome : {A : Type 0} → (A → Type 0) → Option A → Type 0

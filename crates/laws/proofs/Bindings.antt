@@ -7,14 +7,14 @@ use mathlib.Core.Bool.{Bool, _||_}
 use mathlib.Core.Option.{Option, none, some, Option·none-ne-some, Option·some-injective}
 use lib.Dec.{T}
 use lib.ListN.{length, getElem?}
-use Rattle.definitions.specs.Types.{Datatype, Ty, plain}
-use Rattle.definitions.specs.Terms.{Term, Schema, sortOf, hasType}
+use Rattle.definitions.specs.Types.{Ty}
+use Rattle.definitions.specs.Terms.{Term, Schema, sortOf}
 use Rattle.definitions.specs.Evaluate.{Bindings}
-use Rattle.definitions.specs.Search.{Typing, Tuple}
 use Rattle.definitions.specs.Saved.{isBound}
 use Rattle.definitions.specs.Sound.{termHas, numberHas}
 use Rattle.definitions.specs.Calls.{constantsOf}
 use Rattle.laws.proofs.Tests.{orLeft, orRight}
+use Rattle.laws.specs.Bindings.{Extends, Holds, Bound, BoundIn}
 
 -- ── elements by number ──────────────────────────────────────────────────────────────────────
 
@@ -28,20 +28,6 @@ module _ {A : Type 0} where
   is-below [] i a e = absurd (Option·none-ne-some a e)
   is-below (x ∷ xs) zero a e = omega arith
   is-below (x ∷ xs) (suc i) a e = omega (arith, is-below xs i a e)
-
--- a table goes on with more terms, or with none
-abbrev pub Extends : List Term → List Term → Type 0
-Extends known terms = (i : ℕ) (t : Term) → getElem? known i ≡ some t → getElem? terms i ≡ some t
-
--- number i of the table is a term of type τ
-pub record Holds (S : Schema) (terms : List Term) (i : ℕ) (τ : Ty) : Type 0 where
-  pub term : Term
-  pub there : getElem? terms i ≡ some term
-  pub typed : T (hasType S term τ)
-
--- number i of the table is a URI
-abbrev pub HoldsURI : Schema → List Term → ℕ → Type 0
-HoldsURI S terms i = Holds S terms i (plain Datatype.anyURI)
 
 pub holds-more : (S : Schema) (old new : List Term) → Extends old new → (i : ℕ) (τ : Ty) → Holds S old i τ → Holds S new i τ
 holds-more S old new more i τ h = record { term = h .term; there = more i (h .term) (h .there); typed = h .typed }
@@ -66,10 +52,6 @@ constant-sort S (x ∷ xs) (suc c) t e = constant-sort S xs c t e
 
 -- ── bindings ────────────────────────────────────────────────────────────────────────────────
 
-pub record Bound (β : Bindings) (v : ℕ) : Type 0 where
-  pub number : ℕ
-  pub is : β v ≡ some number
-
 pub test-bound : (β : Bindings) (v : ℕ) → T (isBound (β v)) → Bound β v
 test-bound β v h = go (β v) refl h
   where
@@ -80,14 +62,6 @@ test-bound β v h = go (β v) refl h
 pub bound-test : (β : Bindings) (v : ℕ) → Bound β v → T (isBound (β v))
 bound-test β v h = rw (h .is) tt
 
--- each bound variable holds a term of its type
-abbrev pub WellBound : Schema → Typing → List Term → Bindings → Type 0
-WellBound S Γ terms β = (v i : ℕ) → β v ≡ some i → Holds S terms i (Γ v)
-
--- the variables that a test names are bound
-abbrev pub BoundIn : Bindings → (ℕ → Bool) → Type 0
-BoundIn β names = (v : ℕ) → T (names v) → Bound β v
-
 module _ (β : Bindings) (f g : ℕ → Bool) where
   pub in-left : BoundIn β (λ v. f v || g v) → BoundIn β f
   in-left b v m = b v (orLeft (f v) (g v) m)
@@ -96,10 +70,3 @@ module _ (β : Bindings) (f g : ℕ → Bool) where
   in-right b v m = b v (orRight (f v) (g v) m)
 
 -- ── tuples ──────────────────────────────────────────────────────────────────────────────────
-
--- a tuple's terms have the variables' types
-abbrev pub Fits : Schema → Typing → List Term → (variables : List ℕ) → Tuple → Type 0
-Fits S Γ terms [] [] = Unit {0}
-Fits S Γ terms [] (i ∷ t) = ⊥
-Fits S Γ terms (v ∷ vs) [] = ⊥
-Fits S Γ terms (v ∷ vs) (i ∷ t) = Holds S terms i (Γ v) × Fits S Γ terms vs t

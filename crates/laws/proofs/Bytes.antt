@@ -10,7 +10,7 @@ use native.Mathlib.Nat.{pow-suc, div-lt-iff-lt-mul, mod-add-div}
 use lib.Dec.{T, T-not, eqb, leb, leb→le, eqb→eq}
 use lib.IntN.{ℤ, pos, negsuc, negℤ}
 use lib.Signed.{mag, leZ}
-use lib.ListN.{length, take, drop, replicate, length-append, length-replicate, length-take, List·getD-eq-default}
+use lib.ListN.{length, take, drop, replicate, length-append, length-replicate, length-take, length-drop, List·getD-eq-default}
 use lib.Seq.{getD-drop, getD-take}
 use borrow.Author.Tests.{lt-ltb, le-ltb, ne-eqb}
 use Rattle.definitions.specs.Lists.{every}
@@ -19,9 +19,12 @@ use Rattle.definitions.specs.Terms.{Text, fieldText, withinLimits}
 use Rattle.laws.proofs.Tests.{andLeft, andRight, andMake}
 use Rattle.laws.proofs.Ranges.{split}
 use Rattle.laws.proofs.Options.{some-is, provided-inv, provided-holds}
-use Rattle.laws.proofs.Same.{same-bytes, bytes-refl}
+use Rattle.laws.proofs.Equality.{same-bytes, bytes-refl}
 
 -- ── lists of bytes ──────────────────────────────────────────────────────────────────────────
+
+pub part-length : (s : List ℕ) (at n : ℕ) → at + n ≤ length s → length (part s at n) ≡ n
+part-length s at n h = simp (length-take, length-drop) (omega arith)
 
 -- each is below 256 (past the end it is 0)
 abbrev pub AreBytes : List ℕ → Type 0

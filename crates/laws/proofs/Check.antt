@@ -1,34 +1,36 @@
 -- What the checks of terms, schema and script (refusals 2 to 9) find where nothing is refused.
 use Prim.Native.Nat.{ℕ, suc, _≤_, _<_}
-use mathlib.Core.Bool.{Bool, true, false, not, _&&_, _||_}
-use mathlib.Core.List.{List, [], _∷_, map}
+use mathlib.Core.Bool.{Bool, not, _&&_, _||_}
+use mathlib.Core.List.{List, [], _∷_}
 use mathlib.Core.Option.{some}
 use mathlib.Core.Path.{_≡_, refl, sym, ap, subst, _∙_}
 use mathlib.Core.Logic.{⊎-elim}
 use native.Mathlib.Omega.{arith}
-use borrow.Author.Needs.{zero≤}
 use lib.Dec.{T, T-not, eqb, leb, ltb, leb→le, ltb→lt, eqb→eq}
 use lib.ListN.{length}
 use Rattle.definitions.specs.Limits.{termLimit, entryLimit, scriptLimit, depthLimit, variableLimit}
 use Rattle.definitions.specs.Lists.{every, distinct, isIn}
 use Rattle.definitions.specs.Types.{Ty, typeCode}
-use Rattle.definitions.specs.Terms.{Term, Schema, Sort, sameTerm, sameProperty, readTerms, readSchema}
+use Rattle.definitions.specs.Terms.{Term, Schema, sameTerm, sameProperty, readTerms, readSchema}
 use Rattle.definitions.specs.Tree.{Name, var, const, Expr, Cond, Query, Script, success, fromNamed, block, sequence}
 use Rattle.definitions.specs.Reading.{parsed}
 use Rattle.definitions.specs.Scope.{variables, variablesOf, inName, inExpr, inCond, inQuery, isFree, bindersOf, inScope}
-use Rattle.definitions.specs.Typing.{Written, unbound, undecided, fixed, writtenTypes, choices, eachWith, assignments, typeAt, those, typings}
-use Rattle.definitions.specs.Typing.{above, scriptTyped, Verdict, noTyping, noGreatest, greatest, firstAbove, judge, verdict}
+use Rattle.definitions.specs.Typing.{Written, unbound, undecided, fixed, writtenTypes}
+use Rattle.definitions.specs.Typing.{Verdict, noTyping, noGreatest, greatest, verdict}
 use Rattle.definitions.specs.Machine.{withProperties}
 use Rattle.definitions.specs.Result.{Result, passed, _>>=_, _>>_, require, given}
-use Rattle.definitions.specs.Calls.{Checked, constantsOf, typesOf, sizesFit, check, reportedType, reportedTypes, reported}
-use Rattle.laws.proofs.Tests.{andLeft, andRight, orCases, trueIs}
+use Rattle.definitions.specs.Calls.{Listed, recordTests, sizesFit, scriptTests, Parsed, readTests, Checked, constantsOf, typesOf, typeTests, check}
+use Rattle.definitions.specs.Calls.{reportedType, reportedTypes, reported}
+use Rattle.laws.proofs.Tests.{andLeft, andRight, orCases}
 use Rattle.laws.proofs.Order.{byType}
-use Rattle.laws.proofs.Ranges.{every-in}
-use Rattle.laws.proofs.All.{All, all-append, all-map}
+use Rattle.laws.proofs.Variables.{every-variable}
+use Rattle.laws.specs.Lists.{All}
 use Rattle.laws.proofs.Numbering.{distinct-properties}
 use Rattle.laws.proofs.Results.{passed-is, not-refused, bind-inv, given-bind-inv, require-after-inv}
-use Rattle.laws.proofs.Sound.{NameBounded, ExprBounded, CondBounded, QueryBounded, ScriptBounded, Placed, Accepted}
+use Rattle.laws.specs.Sound.{NameBounded, ExprBounded, CondBounded, QueryBounded, ScriptBounded, Placed, Accepted}
 use Rattle.laws.proofs.ReadBounds.{ScriptIn, parsed-in}
+use Rattle.laws.specs.Typings.{IsTyping}
+use Rattle.laws.proofs.Typings.{fits-length, verdict-is}
 
 -- ── the checks, one by one ──────────────────────────────────────────────────────────────────
 
@@ -38,71 +40,89 @@ types-inv noTyping e = absurd (not-refused e)
 types-inv noGreatest e = absurd (not-refused e)
 types-inv (greatest Γ) e = ap greatest (passed-is e)
 
--- what each check found, in document 01's order
-pub record Passed (terms schema script : List ℕ) (c : Checked) : Type 0 where
+-- what each check found, in document 01's order: 2 to 7
+pub record ReadPassed (terms schema script : List ℕ) (x : Parsed) : Type 0 where
   pub listed : List Term
   pub read : readTerms terms ≡ some listed
   pub apart : T (distinct sameTerm listed)
-  pub entries : readSchema schema ≡ some (c .schema)
-  pub properties : T (distinct sameProperty (c .schema))
-  pub numbering : withProperties (c .schema) listed ≡ c .terms
-  pub sizes : T (sizesFit (c .terms) (c .schema) script)
-  pub parses : parsed (length (c .terms)) script ≡ some (c .root)
-  pub scope : T (inScope (c .root))
+  pub entries : readSchema schema ≡ some (x .schema)
+  pub properties : T (distinct sameProperty (x .schema))
+  pub numbering : withProperties (x .schema) listed ≡ x .terms
+  pub sizes : T (sizesFit (x .terms) (x .schema) script)
+  pub parses : parsed (length (x .terms)) script ≡ some (x .root)
+  pub scope : T (inScope (x .root))
+
+-- and 8 and 9
+pub record Passed (terms schema script : List ℕ) (c : Checked) : Type 0 where
+  pub reads : ReadPassed terms schema script (record { schema = c .schema; terms = c .terms; root = c .root })
   pub worked : verdict (constantsOf (c .schema) (c .terms)) (writtenTypes (c .root)) (c .root) ≡ greatest (c .types)
 
--- the checks from a number on, over what the ones before it found
-module _ (script : List ℕ) (S : Schema) (terms : List Term) where
-  from8 : Script → Result Checked
-  from8 root = typesOf (verdict (constantsOf S terms) (writtenTypes root) root) >>= λ Γ. passed (record { schema = S; terms = terms; root = root; types = Γ })
+-- the tests of terms and schema, and of the script
+pub records-inv : (terms schema : List ℕ) (l : Listed) → recordTests terms schema ≡ passed l
+    → (readTerms terms ≡ some (l .terms)) × T (distinct sameTerm (l .terms)) × (readSchema schema ≡ some (l .schema)) × T (distinct sameProperty (l .schema))
+unfolding recordTests
+records-inv terms schema l e =
+    let last : List Term → Schema → Result Listed = λ listed S. passed (record { terms = listed; schema = S }) in
+    let five : List Term → Schema → Result Listed = λ listed S. require 5 (distinct sameProperty S) >> last listed S in
+    let three : List Term → Result Listed = λ listed. require 3 (distinct sameTerm listed) >> (given 4 (readSchema schema) >>= five listed) in
+    let i₂ = given-bind-inv 2 (readTerms terms) three e in
+    let i₃ = require-after-inv 3 (distinct sameTerm (i₂ .0)) (given 4 (readSchema schema) >>= five (i₂ .0)) (i₂ .2) in
+    let i₄ = given-bind-inv 4 (readSchema schema) (five (i₂ .0)) (i₃ .1) in
+    let i₅ = require-after-inv 5 (distinct sameProperty (i₄ .0)) (last (i₂ .0) (i₄ .0)) (i₄ .2) in
+    let found : Listed = record { terms = i₂ .0; schema = i₄ .0 } in
+    subst
+    (λ (l : Listed). (readTerms terms ≡ some (l .terms)) × T (distinct sameTerm (l .terms)) × (readSchema schema ≡ some (l .schema)) × T (distinct sameProperty (l .schema)))
+    {x = found} (passed-is {a = found} (i₅ .1)) (i₂ .1, i₃ .0, i₄ .1, i₅ .0)
 
-  from7 : Script → Result Checked
-  from7 root = require 7 (inScope root) >> from8 root
+script-inv : (terms : List Term) (S : Schema) (script : List ℕ) (root : Script) → scriptTests terms S script ≡ passed root
+    → T (sizesFit terms S script) × (parsed (length terms) script ≡ some root) × T (inScope root)
+unfolding scriptTests
+script-inv terms S script root e =
+    let seven : Script → Result Script = λ c. require 7 (inScope c) >> passed c in
+    let i₆ = require-after-inv 6 (sizesFit terms S script) (given 6 (parsed (length terms) script) >>= seven) e in
+    let i₇ = given-bind-inv 6 (parsed (length terms) script) seven (i₆ .1) in
+    let i₈ = require-after-inv 7 (inScope (i₇ .0)) (passed (i₇ .0)) (i₇ .2) in
+    let same = passed-is (i₈ .1) in
+    (i₆ .0, i₇ .1 ∙ ap some same, subst (λ (c : Script). T (inScope c)) same (i₈ .0))
 
-  from6 : Result Checked
-  from6 = require 6 (sizesFit terms S script) >> (given 6 (parsed (length terms) script) >>= from7)
-
-from5 : (script : List ℕ) → List Term → Schema → Result Checked
-from5 script listed S = require 5 (distinct sameProperty S) >> from6 script S (withProperties S listed)
-
-from3 : (schema script : List ℕ) → List Term → Result Checked
-from3 schema script listed = require 3 (distinct sameTerm listed) >> (given 4 (readSchema schema) >>= from5 script listed)
-
-pub check-passed : (terms schema script : List ℕ) (c : Checked) → check terms schema script ≡ passed c → Passed terms schema script c
-unfolding check from3 from5 from6 from7 from8
-check-passed terms schema script c e =
-    let i₂ = given-bind-inv 2 (readTerms terms) (from3 schema script) e in
-    let i₃ = require-after-inv 3 (distinct sameTerm (i₂ .0)) (given 4 (readSchema schema) >>= from5 script (i₂ .0)) (i₂ .2) in
-    let i₄ = given-bind-inv 4 (readSchema schema) (from5 script (i₂ .0)) (i₃ .1) in
-    let S = i₄ .0 in
-    let numbered = withProperties S (i₂ .0) in
-    let i₅ = require-after-inv 5 (distinct sameProperty S) (from6 script S numbered) (i₄ .2) in
-    let i₆ = require-after-inv 6 (sizesFit numbered S script) (given 6 (parsed (length numbered) script) >>= from7 script S numbered) (i₅ .1) in
-    let i₇ = given-bind-inv 6 (parsed (length numbered) script) (from7 script S numbered) (i₆ .1) in
-    let root = i₇ .0 in
-    let i₈ = require-after-inv 7 (inScope root) (from8 script S numbered root) (i₇ .2) in
-    let v = verdict (constantsOf S numbered) (writtenTypes root) root in
-    let i₉ = bind-inv (typesOf v) (λ Γ. passed (record { schema = S; terms = numbered; root = root; types = Γ })) (i₈ .1) in
-    let found : Checked = record { schema = S; terms = numbered; root = root; types = i₉ .0 } in
-    subst (Passed terms schema script) {x = found} (passed-is {a = found} (i₉ .2))
+pub read-passed : (terms schema script : List ℕ) (x : Parsed) → readTests terms schema script ≡ passed x → ReadPassed terms schema script x
+unfolding readTests
+read-passed terms schema script x e =
+    let last : Listed → Script → Result Parsed = λ l root.
+    passed (record { schema = l .schema; terms = withProperties (l .schema) (l .terms); root = root }) in
+    let rest : Listed → Result Parsed = λ l. scriptTests (withProperties (l .schema) (l .terms)) (l .schema) script >>= last l in
+    let i = bind-inv (recordTests terms schema) rest e in
+    let l = i .0 in
+    let numbered = withProperties (l .schema) (l .terms) in
+    let j = bind-inv (scriptTests numbered (l .schema) script) (last l) (i .2) in
+    let r = records-inv terms schema l (i .1) in
+    let k = script-inv numbered (l .schema) script (j .0) (j .1) in
+    let found : Parsed = record { schema = l .schema; terms = numbered; root = j .0 } in
+    subst (ReadPassed terms schema script) {x = found} (passed-is {a = found} (j .2))
     (record {
-      listed = i₂ .0;
-      read = i₂ .1;
-      apart = i₃ .0;
-      entries = i₄ .1;
-      properties = i₅ .0;
+      listed = l .terms;
+      read = r .0;
+      apart = r .1;
+      entries = r .2;
+      properties = r .3;
       numbering = refl;
-      sizes = i₆ .0;
-      parses = i₇ .1;
-      scope = i₈ .0;
-      worked = types-inv v {Γ = i₉ .0} (i₉ .1);
+      sizes = k .0;
+      parses = k .1;
+      scope = k .2;
     })
 
--- ── no variable is free ─────────────────────────────────────────────────────────────────────
+pub check-passed : (terms schema script : List ℕ) (c : Checked) → check terms schema script ≡ passed c → Passed terms schema script c
+unfolding check typeTests
+check-passed terms schema script c e =
+    let i = bind-inv (readTests terms schema script) typeTests e in
+    let x = i .0 in
+    let v = verdict (constantsOf (x .schema) (x .terms)) (writtenTypes (x .root)) (x .root) in
+    let made : List Ty → Checked = λ Γ. record { schema = x .schema; terms = x .terms; root = x .root; types = Γ } in
+    let j = bind-inv (typesOf v) (λ Γ. passed (made Γ)) (i .2) in
+    subst (Passed terms schema script) {x = made (j .0)} (passed-is {a = made (j .0)} (j .2))
+    (record { reads = read-passed terms schema script x (i .1); worked = types-inv v {Γ = j .0} (j .1) })
 
--- a test of the 16 variables
-pub every-variable : (p : ℕ → Bool) → T (every p variables) → (v : ℕ) → v < variableLimit → T (p v)
-every-variable p h v l = every-in p 0 variableLimit h v zero≤ l
+-- ── no variable is free ─────────────────────────────────────────────────────────────────────
 
 -- what stands in a tree that was read is one of them
 module _ (terms v : ℕ) where
@@ -163,54 +183,6 @@ in-scope-closed terms c b h v f =
 
 -- ── the types worked out are a typing of the 16 variables ───────────────────────────────────
 
-module _ (P : List Ty → Type 0) where
-  first-above : (Γs all : List (List Ty)) (Γ : List Ty) → All P Γs → firstAbove Γs all ≡ greatest Γ → P Γ
-  unfolding firstAbove
-  first-above [] all Γ h e = absurd (let z : _≡_ {A = ℕ} 0 1 = cc in omega arith)
-  first-above (Δ ∷ Γs) all Γ h e = go (every (above Δ) all) (first-above Γs all Γ (h .1)) e
-    where
-      go : (b : Bool) → (firstAbove Γs all ≡ greatest Γ → P Γ) → (elim b as (λ c. Verdict) [ true ↦ greatest Δ | false ↦ firstAbove Γs all ]) ≡ greatest Γ → P Γ
-      go true rest e = subst P (let d : Δ ≡ Γ = cc in d) (h .0)
-      go false rest e = rest e
-
-  judged : (Γs : List (List Ty)) (Γ : List Ty) → All P Γs → judge Γs ≡ greatest Γ → P Γ
-  unfolding judge
-  judged [] Γ h e = absurd (let z : _≡_ {A = ℕ} 0 1 = cc in omega arith)
-  judged (Δ ∷ Γs) Γ h e = first-above (Δ ∷ Γs) (Δ ∷ Γs) Γ h e
-
--- those that pass a test, of all that have a property
-all-those : {A : Type 0} (P : A → Type 0) (p : A → Bool) (xs : List A) → All P xs → All (λ x. T (p x) × P x) (those p xs)
-unfolding those
-all-those P p [] h = tt
-all-those {A} P p (x ∷ xs) h = go (p x) refl (all-those P p xs (h .1))
-  where
-    go : (b : Bool) → p x ≡ b → All (λ y. T (p y) × P y) (those p xs)
-        → All (λ y. T (p y) × P y) (elim b as (λ c. List A) [ true ↦ x ∷ those p xs | false ↦ those p xs ])
-    go true e r = ((trueIs (p x) e, h .0), r)
-    go false e r = r
-
--- an assignment has a type for each variable
-each-with-length : (n : ℕ) (τs : List Ty) (rest : List (List Ty)) → All (λ Γ. length Γ ≡ n) rest → All (λ Γ. length Γ ≡ suc n) (eachWith τs rest)
-unfolding eachWith
-each-with-length n [] rest h = tt
-each-with-length n (τ ∷ τs) rest h =
-    all-append (λ Γ. length Γ ≡ suc n) (map (λ Γ. τ ∷ Γ) rest) (eachWith τs rest)
-    (all-map (λ Γ. length Γ ≡ n) (λ Γ. length Γ ≡ suc n) (λ Γ. τ ∷ Γ) (λ Γ e. ap suc e) rest h)
-    (each-with-length n τs rest h)
-
-assignments-length : (ws : List Written) → All (λ Γ. length Γ ≡ length ws) (assignments ws)
-unfolding assignments
-assignments-length [] = (refl, tt)
-assignments-length (w ∷ ws) = each-with-length (length ws) (choices w) (assignments ws) (assignments-length ws)
-
--- the rules take it, and it has as many types as there are variables
-pub verdict-typing : (constants : ℕ → Sort) (ws : List Written) (s : Script) (Γ : List Ty)
-    → verdict constants ws s ≡ greatest Γ → T (scriptTyped constants (typeAt Γ) s) × (length Γ ≡ length ws)
-unfolding verdict typings
-verdict-typing constants ws s Γ e =
-    judged (λ Γ. T (scriptTyped constants (typeAt Γ) s) × (length Γ ≡ length ws)) (typings constants ws s) Γ
-    (all-those (λ Γ. length Γ ≡ length ws) (λ Γ. scriptTyped constants (typeAt Γ) s) (assignments ws) (assignments-length ws)) e
-
 pub variable-count : (s : Script) → length (writtenTypes s) ≡ variableLimit
 unfolding writtenTypes
 variable-count s = refl
@@ -232,8 +204,8 @@ module _ (terms schema script : List ℕ) (c : Checked) (p : Passed terms schema
       let terms-test = leb (length (c .terms)) termLimit in
       let schema-test = leb (length (c .schema)) entryLimit in
       let script-test = leb (length script) scriptLimit in
-      let rest = andRight terms-test (schema-test && script-test) (p .sizes) in (
-        leb→le (length (c .terms)) termLimit (andLeft terms-test (schema-test && script-test) (p .sizes)),
+      let rest = andRight terms-test (schema-test && script-test) (p .reads .sizes) in (
+        leb→le (length (c .terms)) termLimit (andLeft terms-test (schema-test && script-test) (p .reads .sizes)),
         leb→le (length (c .schema)) entryLimit (andLeft schema-test script-test rest),
         leb→le (length script) scriptLimit (andRight schema-test script-test rest),
       )
@@ -248,22 +220,27 @@ module _ (terms schema script : List ℕ) (c : Checked) (p : Passed terms schema
   script-fits = sizes .2
 
   pub script-in : ScriptIn script (length (c .terms)) depthLimit 0 (c .root) (length script)
-  script-in = parsed-in (length (c .terms)) script (c .root) (p .parses)
+  script-in = parsed-in (length (c .terms)) script (c .root) (p .reads .parses)
+
+  -- the types worked out are a typing
+  types-typing : IsTyping (constantsOf (c .schema) (c .terms)) (writtenTypes (c .root)) (c .root) (c .types)
+  types-typing = verdict-is (constantsOf (c .schema) (c .terms)) (writtenTypes (c .root)) (c .root) (greatest (c .types)) .0 (p .worked) .0
 
   pub accepted : Accepted c
   accepted = record {
-    apart = subst (λ (ts : List Term). T (distinct sameTerm ts)) (p .numbering) (distinct-properties (c .schema) (p .listed) (p .apart));
+    apart = subst (λ (ts : List Term). T (distinct sameTerm ts)) (p .reads .numbering) (distinct-properties (c .schema) (p .reads .listed) (p .reads .apart));
     fits = terms-fit;
     bounded = script-in .bounded;
     placed = placed-to 0 (length script) scriptLimit (c .root) script-fits (script-in .placed);
     shallow = script-in .shallow;
-    closed = in-scope-closed (length (c .terms)) (c .root) (script-in .bounded) (p .scope);
-    typed = verdict-typing (constantsOf (c .schema) (c .terms)) (writtenTypes (c .root)) (c .root) (c .types) (p .worked) .0;
+    closed = in-scope-closed (length (c .terms)) (c .root) (script-in .bounded) (p .reads .scope);
+    written = types-typing .0;
+    typed = types-typing .1;
   }
 
   -- a type for each of the 16 variables
   pub types-length : length (c .types) ≡ variableLimit
-  types-length = verdict-typing (constantsOf (c .schema) (c .terms)) (writtenTypes (c .root)) (c .root) (c .types) (p .worked) .1 ∙ variable-count (c .root)
+  types-length = fits-length (writtenTypes (c .root)) (c .types) (types-typing .0) ∙ variable-count (c .root)
 
 -- ── the reported types ──────────────────────────────────────────────────────────────────────
 

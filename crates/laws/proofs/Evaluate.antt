@@ -13,16 +13,19 @@ use Rattle.definitions.specs.Tree.{Name, var, const, Expr, Cond, Query}
 use Rattle.definitions.specs.Scope.{inName, inExpr, inCond, inQuery}
 use Rattle.definitions.specs.Typing.{allows, nameHas, exprHas, condTyped, propertyTyped, queryTyped}
 use Rattle.definitions.specs.Outcome.{ok, _>>=_, graphNoURI, subjectNoURI, objectNotOfDatatype}
-use Rattle.definitions.specs.Values.{Value, kind, valueOf, Number, whole, millionths, numberIn, combine, distance, sum, difference, absolute, Pair, paired, stringIn, equalPair, lessPair}
+use Rattle.definitions.specs.Values.{Value, valueOf, Number, whole, millionths, numberIn, combine, distance, sum, difference, absolute, Pair, paired, stringIn, equalPair, lessPair}
 use Rattle.definitions.specs.Evaluate.{Bindings, Quad, Named, named, termOfNumber, isURI, inSchema, propertyDatatype, expression, condition, query}
 use Rattle.definitions.specs.Search.{Typing}
 use Rattle.definitions.specs.Calls.{constantsOf}
 use Rattle.laws.proofs.Tests.{andLeft, andRight, implies, apply}
 use Rattle.laws.proofs.Order.{byDatatype3, leq-trans, leq-refl, same-datatype, same-type}
-use Rattle.laws.proofs.Sorts.{least, has-of-least, least-of-has, has-above, is-uri}
-use Rattle.laws.proofs.Fine.{Fine, fine, Any, fine-then, fine-and, fine-demand}
-use Rattle.laws.proofs.Bindings.{Extends, Holds, there-is, constant-sort, WellBound, BoundIn, in-left, in-right}
-use Rattle.laws.proofs.Sound.{NameBounded, ExprBounded, CondBounded, QueryBounded}
+use Rattle.laws.specs.Sorts.{least}
+use Rattle.laws.proofs.Sorts.{has-of-least, least-of-has, has-above, is-uri}
+use Rattle.laws.specs.Outcomes.{Fine, fine, Any}
+use Rattle.laws.proofs.NoFault.{fine-then, fine-and, fine-demand}
+use Rattle.laws.specs.Bindings.{Extends, Holds, WellBound, BoundIn}
+use Rattle.laws.proofs.Bindings.{there-is, constant-sort, in-left, in-right}
+use Rattle.laws.specs.Sound.{NameBounded, ExprBounded, CondBounded, QueryBounded}
 
 -- ── one of the five datatypes ───────────────────────────────────────────────────────────────
 
@@ -47,6 +50,13 @@ same-below : (τ σ : Ty) → T (sameType τ σ) → T (leq τ σ)
 same-below τ σ h = rw (same-type τ σ h) (leq-refl σ)
 
 -- ── values ──────────────────────────────────────────────────────────────────────────────────
+
+abbrev kind : Value → Datatype
+kind (Value.uri u) = Datatype.anyURI
+kind (Value.string s) = Datatype.string
+kind (Value.integer n) = Datatype.integer
+kind (Value.decimal n) = Datatype.decimal
+kind (Value.dateTime n) = Datatype.dateTime
 
 -- a value's kind is below a datatype or equal to it
 abbrev HasKind : Datatype → Value → Type 0

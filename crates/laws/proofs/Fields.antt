@@ -1,8 +1,8 @@
 -- The text of a field, byte by byte: bytes that pass a test, then zeros.
-use Prim.Native.Nat.{ℕ, zero, suc, _-_}
-use mathlib.Core.Bool.{Bool, true, false, cond, _&&_, and-assoc, and-true, and-false}
-use mathlib.Core.List.{List, [], _∷_, _++_}
-use mathlib.Core.Option.{Option, none, some}
+use Prim.Native.Nat.{ℕ}
+use mathlib.Core.Bool.{Bool, true, false, cond, _&&_, and-true, and-false}
+use mathlib.Core.List.{List, [], _∷_}
+use mathlib.Core.Option.{some}
 use mathlib.Core.Path.{_≡_, refl, sym, ap, _∙_}
 use mathlib.Core.Logic.{_⊎_, inl, inr, ⊎-elim}
 use native.Mathlib.Nat.{sub-zero, suc-sub-suc}
@@ -12,7 +12,7 @@ use lib.ListN.{length, replicate}
 use borrow.Author.Tests.{eqb-true, eq-eqb}
 use Rattle.definitions.specs.Lists.{every, isEmpty}
 use Rattle.definitions.specs.Bytes.{sameBytes, allZero, filled, unfilled, provided}
-use Rattle.definitions.specs.Terms.{Text, fieldText}
+use Rattle.definitions.specs.Terms.{fieldText}
 
 -- a number is another, or a test says that it is not
 pub same? : (b k : ℕ) → (b ≡ k) ⊎ (eqb b k ≡ false)

@@ -1,11 +1,12 @@
 -- A list and what fills it up: its places taken and given back one by one.
-use Prim.Native.Nat.{ℕ, zero, suc, _+_, _-_, _≤_, _<_}
+use Prim.Native.Nat.{ℕ, suc, _+_, _≤_, _<_}
+use native.Mathlib.Decide.{ℕ-discrete}
 use native.Mathlib.Omega.{arith}
-use mathlib.Core.Path.{_≡_, refl, ap, sym, _∙_}
+use mathlib.Core.Path.{_≡_, refl, ap, sym, subst, _∙_}
 use mathlib.Core.List.{List, [], _∷_, _++_, append-nil}
 use native.Mathlib.Numerals.{add-one}
 use lib.ListN.{length, set, getD, drop, replicate, drop-of-length-le}
-use lib.Seq.{drop-cons}
+use lib.Seq.{drop-cons, getD-set-same, getD-set-other}
 
 module _ {A : Type 0} (z x : A) where
   -- the first place after the list is taken
@@ -43,3 +44,12 @@ module _ {A : Type 0} where
 
   pub write-done : (old array l : List A) (i : ℕ) → length old ≤ i → array ≡ l ++ drop i old → array ≡ l
   write-done old array l i h e = e ∙ (ap (λ (m : List A). l ++ m) (drop-of-length-le old h) ∙ append-nil l)
+
+-- one more place of a list whose first places are known
+pub filled-more : {A : Type 0} (d : A) (R : ℕ → A) (l : List A) (x : ℕ) {v : A} → x < length l → ((k : ℕ) → k < x → getD l k d ≡ R k) → v ≡ R x
+    → (k : ℕ) → k < x + 1 → getD (set l x v) k d ≡ R k
+filled-more d R l x {v} inside h e k m = go (ℕ-discrete k x)
+  where
+    go : Dec (k ≡ x) → getD (set l x v) k d ≡ R k
+    go (yes s) = subst (λ j. getD (set l x v) j d ≡ R j) (sym s) (getD-set-same l x v d inside ∙ e)
+    go (no n) = getD-set-other l x k v d n ∙ h k (omega (arith, n))

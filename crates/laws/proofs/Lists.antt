@@ -3,13 +3,14 @@ use mathlib.Core.Path.{_≡_, refl, ap, ap₂, sym, _∙_, subst}
 use mathlib.Core.Logic.{_⊎_, inl, inr}
 use Prim.Native.Nat.{ℕ, zero, suc, _<_}
 use native.Mathlib.Omega.{arith}
-use mathlib.Core.List.{List, [], _∷_, _++_, List·Memᴰ, List·Memᴰ·head, List·Memᴰ·tail, List·Memᴰ·not-nil, List·Memᴰ·cases-cons, List·Memᴰ·append-cases}
+use mathlib.Core.List.{List, [], _∷_, _++_, List·Memᴰ·head, List·Memᴰ·tail, List·Memᴰ·not-nil, List·Memᴰ·cases-cons, List·Memᴰ·append-cases}
 use mathlib.Core.Bool.{Bool, true, false, cond, _&&_, _||_, and-assoc, or-assoc}
 use lib.Dec.{T}
 use lib.ListN.{getD, length}
 use Rattle.definitions.specs.Lists.{every, some?, keep}
 use Rattle.definitions.specs.Typing.{those}
 use Rattle.laws.proofs.Tests.{andLeft, andRight, andMake, orCases, orLeft, orRight, notBoth, by-test}
+use Rattle.laws.specs.Lists.{_∈_}
 
 -- a choice that waits until it is asked is a choice
 pub elim-is-cond : {A : Type 0} (b : Bool) (x y : A) → elim b as (λ c. A) [ true ↦ x | false ↦ y ] ≡ cond b x y
@@ -17,11 +18,7 @@ elim-is-cond true x y = refl
 elim-is-cond false x y = refl
 
 module _ {A : Type 0} where
-  infix 50 _∈_
   -- ── members ───────────────────────────────────────────────────────────────────────────────
-
-  abbrev pub _∈_ : A → List A → Type 0
-  x ∈ xs = List·Memᴰ x xs
 
   pub here : {x : A} {xs : List A} → x ∈ x ∷ xs
   here = List·Memᴰ·head refl

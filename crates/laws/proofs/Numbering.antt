@@ -7,8 +7,9 @@ use Rattle.definitions.specs.Lists.{every, distinct}
 use Rattle.definitions.specs.Terms.{Term, Schema, sameTerm}
 use Rattle.definitions.specs.Machine.{Numbered, numbered, afterTerm, withProperties}
 use Rattle.laws.proofs.Tests.{andLeft, andRight, andMake}
-use Rattle.laws.proofs.All.{All, not-other-way}
-use Rattle.laws.proofs.Same.{same-term, term-refl}
+use Rattle.laws.specs.Lists.{All}
+use Rattle.laws.proofs.All.{not-other-way}
+use Rattle.laws.proofs.Equality.{same-term, term-refl}
 
 -- by the cases of a term that is numbered: it is there, or it joins
 pub by-numbered : (P : List Term → Type 0) (t x : Term) (ts : List Term)

@@ -1,13 +1,15 @@
 -- The order of the types. A fact about all datatypes, or all types, is one computed test over them.
 use mathlib.Core.Path.{_≡_, refl, ap, sym, _∙_}
-use Prim.Native.Nat.{ℕ}
-use mathlib.Core.Bool.{Bool, true, false, _&&_, _||_}
-use mathlib.Core.Option.{Option, none, some, Option·some-injective}
-use lib.Dec.{T, eqb, eqb→eq, eqb-refl}
-use Rattle.definitions.specs.Types.{Datatype, anyURI, string, decimal, dateTime, integer, Ty, plain, range, leqDatatype, leq, datatypeCode, typeCode, datatypeOfCode, typeOfCode, sameDatatype, sameType, everyDatatype}
+use mathlib.Core.Bool.{Bool, _&&_}
+use mathlib.Core.Option.{some, Option·some-injective}
+use lib.Dec.{T, eqb→eq, eqb-refl}
+use Rattle.definitions.specs.Types.{Datatype, anyURI, string, decimal, dateTime, integer, Ty, plain, range, leq, typeCode, typeOfCode, sameDatatype, sameType}
 use Rattle.laws.proofs.Tests.{andLeft, andRight, implies, apply}
 
 -- ── by computation over all of them ─────────────────────────────────────────────────────────
+
+abbrev pub everyDatatype : (Datatype → Bool) → Bool
+everyDatatype p = p anyURI && p string && p decimal && p dateTime && p integer
 
 abbrev pub everyType : (Ty → Bool) → Bool
 everyType p = everyDatatype (λ d. p (plain d)) && everyDatatype (λ d. p (range d))

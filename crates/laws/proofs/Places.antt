@@ -17,7 +17,7 @@ use Rattle.definitions.specs.Scope.{variablesOf, bindersOf}
 use Rattle.definitions.specs.Typing.{nameHas, queryTyped, scriptTyped}
 use Rattle.definitions.specs.Saved.{Place, offsetOf, orElse, placeFrom, placeIn}
 use Rattle.laws.proofs.Tests.{andLeft, andRight, orLeft, orRight, orCases}
-use Rattle.laws.proofs.Sound.{ScriptBounded, Placed, height}
+use Rattle.laws.specs.Sound.{ScriptBounded, Placed, height}
 
 -- a script inside the root, at a depth; the root's is 1
 pub data At (root : Script) : ℕ → Script → Type 0 where

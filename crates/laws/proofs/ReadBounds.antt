@@ -19,7 +19,7 @@ use Rattle.laws.proofs.Tests.{andLeft, andRight}
 use Rattle.laws.proofs.Ranges.{split}
 use Rattle.laws.proofs.Options.{some-not-none, some-is, onward-inv, provided-inv}
 use Rattle.laws.proofs.Reading.{byte-out, row-all}
-use Rattle.laws.proofs.Sound.{NameBounded, ExprBounded, CondBounded, QueryBounded, BindersBounded, ScriptBounded, Placed, height}
+use Rattle.laws.specs.Sound.{NameBounded, ExprBounded, CondBounded, QueryBounded, BindersBounded, ScriptBounded, Placed, height}
 
 -- ── a property of what is read and of where it ends ─────────────────────────────────────────
 

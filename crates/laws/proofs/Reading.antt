@@ -4,6 +4,7 @@ use mathlib.Core.Bool.{Bool, true, not, _&&_}
 use mathlib.Core.List.{List, [], _∷_}
 use mathlib.Core.Option.{Option, none, some}
 use mathlib.Core.Path.{_≡_, refl, sym, ap, subst, _∙_}
+use mathlib.Core.Logic.{⊎-elim}
 use native.Mathlib.Omega.{arith}
 use native.Mathlib.Numerals.{sub-one}
 use lib.Dec.{T, ltb, eqb, ltb→lt, eqb→eq}
@@ -16,7 +17,7 @@ use Rattle.definitions.specs.Reading.{andThen, oneOf, twoOf, fourOf, NameShape,
 use Rattle.definitions.specs.Reading.{CondShape, condRows, condOf, readCond, withBody, QueryShape, queryRows, queryOf, readQuery}
 use Rattle.definitions.specs.Reading.{ScriptShape, scriptRows, scriptOf, readScript, withBinders, bindersAt, isEach}
 use Rattle.laws.proofs.Tests.{andLeft, andRight, isFalse, by-test}
-use Rattle.laws.proofs.Ranges.{everyFrom, every-in}
+use Rattle.laws.proofs.Ranges.{everyFrom, every-in, either}
 use Rattle.laws.proofs.Options.{some-not-none}
 
 -- ── the combinators where the children are known ────────────────────────────────────────────
@@ -114,6 +115,11 @@ module _ {A : Type 0} where
   row-others N (p ∷ rows) other k h =
       rw (ne-eqb k (p .0) (others-first (N × (k ≡ p .0 → ⊥)) k rows h .1)) (row-others (N × (k ≡ p .0 → ⊥)) rows other k h)
 
+  -- of two keys that follow each other and whose rows have one shape, the row that is picked has it
+  pub row-either : {X : Type 0} (shape : X → A) (rows : List (ℕ × A)) (other : A) (lo : ℕ) {x y : X} → row lo rows other ≡ shape x
+      → row (lo + 1) rows other ≡ shape y → {k : ℕ} → lo ≤ k → k < lo + 2 → (z : X) × (row k rows other ≡ shape z)
+  row-either shape rows other lo {x} {y} e f from below = ⊎-elim (λ h. (x, rw h e)) (λ h. (y, rw h f)) (either lo from below)
+
   -- what holds of each row and of the last value holds of the row that is picked
   abbrev pub AllRows : (A → Type 0) → List (ℕ × A) → Type 0
   AllRows P [] = Unit {0}
@@ -137,7 +143,8 @@ module _ {A : Type 0} where
 -- ── one level of each reader ────────────────────────────────────────────────────────────────
 
 -- For each reader x: with no level left it reads nothing (x-none); it reads by the row of its kind (x-step), which at a numeral computes to the row's
--- case (x-is); and it reads nothing past the end (x-out), nor at a kind that the table does not have (x-others, x-gap, x-above).
+-- case (x-is); of two kinds that follow each other, where both have one shape, it reads by that shape (x-either); and it reads nothing past the end (x-out),
+-- nor at a kind that the table does not have (x-others, x-gap, x-above).
 
 module _ (s : List ℕ) (terms : ℕ) where
   pub name-none : (at : ℕ) → readName s terms 0 at ≡ none
@@ -217,6 +224,25 @@ module _ (s : List ℕ) (terms : ℕ) where
 
     pub script-is : (k : ℕ) → byte s at ≡ k → readScript s terms left at ≡ scriptBy left at (row k scriptRows ScriptShape.unknown)
     script-is k e = rw (script-step left at pos, e)
+
+    module _ (lo : ℕ) (from : lo ≤ byte s at) (below : byte s at < lo + 2) {X : Type 0} where
+      pub expr-either : (shape : X → ExprShape) {a b : X} → row lo exprRows ExprShape.unknown ≡ shape a → row (lo + 1) exprRows ExprShape.unknown ≡ shape b
+          → (z : X) × (readExpr s terms left at ≡ exprBy left at (shape z))
+      expr-either shape e f =
+          let r = row-either shape exprRows ExprShape.unknown lo e f from below in
+          (r .0, expr-step left at pos ∙ ap (exprBy left at) (r .1))
+
+      pub cond-either : (shape : X → CondShape) {a b : X} → row lo condRows CondShape.unknown ≡ shape a → row (lo + 1) condRows CondShape.unknown ≡ shape b
+          → (z : X) × (readCond s terms left at ≡ condBy left at (shape z))
+      cond-either shape e f =
+          let r = row-either shape condRows CondShape.unknown lo e f from below in
+          (r .0, cond-step left at pos ∙ ap (condBy left at) (r .1))
+
+      pub query-either : (shape : X → QueryShape) {a b : X} → row lo queryRows QueryShape.unknown ≡ shape a → row (lo + 1) queryRows QueryShape.unknown ≡ shape b
+          → (z : X) × (readQuery s terms left at ≡ queryBy left at (shape z))
+      query-either shape e f =
+          let r = row-either shape queryRows QueryShape.unknown lo e f from below in
+          (r .0, query-step left at pos ∙ ap (queryBy left at) (r .1))
 
     pub name-out : length s ≤ at → readName s terms left at ≡ none
     name-out h = name-is 0 (byte-out s at h)
@@ -341,60 +367,3 @@ module _ (s : List ℕ) (at : ℕ) (query : ℕ → Got Query) (rest : ℕ → G
   pub block-cut : length s < past at blockWidth → withBinders s at query rest ≡ none
   unfolding withBinders provided
   block-cut h = rw (lt-leb (past at blockWidth) (length s) h)
-
--- ── the end that is reported, by what was read ──────────────────────────────────────────────
-
--- where what was read ends; none where it is malformed
-unfoldable pub endOf : {A : Type 0} → Got A → Option ℕ
-endOf none = none
-endOf (some p) = some (p .1)
-
-pub got : {A : Type 0} (o : Got A) (n : ℕ) → endOf o ≡ some n → (a : A) × (o ≡ some (a, n))
-unfolding endOf
-got none n e = absurd (some-not-none e refl)
-got {A} (some p) n e = let e′ : p .1 ≡ n = cc in (p .0, ap {B = Got A} (λ (m : ℕ). some (p .0, m)) e′)
-
-pub lost : {A : Type 0} (o : Got A) → endOf o ≡ none → o ≡ none
-unfolding endOf
-lost none e = refl
-lost (some p) e = absurd (some-not-none {o = some (p .1)} refl e)
-
-one-end : {A B : Type 0} (f : A → B) (o : Got A) → endOf (oneOf f o) ≡ endOf o
-unfolding oneOf andThen endOf
-one-end f none = refl
-one-end f (some p) = refl
-
-module _ {A : Type 0} {g : Got A} where
-  pub none-ends : g ≡ none → none ≡ endOf g
-  unfolding endOf
-  none-ends h = rw h
-
-  pub leaf-ends : {a : A} {n : ℕ} → g ≡ some (a, n) → some n ≡ endOf g
-  unfolding endOf
-  leaf-ends h = rw h
-
-  pub one-ends : {B : Type 0} (f : B → A) (o : Got B) {r : Option ℕ} → g ≡ oneOf f o → r ≡ endOf o → r ≡ endOf g
-  one-ends f o h e = e ∙ sym (one-end f o) ∙ ap endOf (sym h)
-
-  module _ {B C : Type 0} (f : B → C → A) (p : ℕ → Got B) (q : ℕ → Got C) (at : ℕ) (h : g ≡ twoOf f p q at) {o : Option ℕ} (e : o ≡ endOf (p at)) where
-    pub two-ends : {m : ℕ} {r : Option ℕ} → o ≡ some m → r ≡ endOf (q m) → r ≡ endOf g
-    two-ends {m} n e₂ =
-        let a = got (p at) m (sym e ∙ n) in
-        one-ends (f (a .0)) (q m) (h ∙ two-rest f p q at (a .1)) e₂
-
-    pub two-fails : o ≡ none → none ≡ endOf g
-    two-fails n = none-ends (h ∙ two-first f p q at (lost (p at) (sym e ∙ n)))
-
-  -- four children: the last two are as two, once the first two are there
-  module _ {B : Type 0} (f : B → B → B → B → A) (p : ℕ → Got B) (at : ℕ) (h : g ≡ fourOf f p at) {o₁ : Option ℕ} (e₁ : o₁ ≡ endOf (p at)) where
-    pub four-fails : o₁ ≡ none → none ≡ endOf g
-    unfolding fourOf andThen endOf
-    four-fails n = rw (h, lost (p at) (sym e₁ ∙ n))
-
-    module _ {m₁ : ℕ} (n₁ : o₁ ≡ some m₁) {o₂ : Option ℕ} (e₂ : o₂ ≡ endOf (p m₁)) where
-      pub four-fails₂ : o₂ ≡ none → none ≡ endOf g
-      unfolding fourOf andThen endOf
-      four-fails₂ n = rw (h, got (p at) m₁ (sym e₁ ∙ n₁) .1, lost (p m₁) (sym e₂ ∙ n))
-
-      pub four-two : {m₂ : ℕ} (n₂ : o₂ ≡ some m₂) → g ≡ twoOf (f (got (p at) m₁ (sym e₁ ∙ n₁) .0) (got (p m₁) m₂ (sym e₂ ∙ n₂) .0)) p p m₂
-      four-two {m₂} n₂ = h ∙ four-rest f p at (got (p at) m₁ (sym e₁ ∙ n₁) .1) (got (p m₁) m₂ (sym e₂ ∙ n₂) .1)

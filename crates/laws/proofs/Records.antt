@@ -5,6 +5,7 @@ use mathlib.Core.List.{List, [], _∷_, _++_}
 use mathlib.Core.Option.{Option, none, some}
 use mathlib.Core.Path.{_≡_, sym, ap, _∙_}
 use mathlib.Core.Logic.{⊎-elim}
+use native.Mathlib.Omega.{arith}
 use native.Mathlib.Nat.{eq-zero-or-pos}
 use lib.Dec.{ltb, eqb, leb→le, ltb→lt, eqb→eq}
 use lib.ListN.{length}
@@ -18,10 +19,11 @@ use Rattle.definitions.specs.Reading.{QueryShape, queryRows, readQuery, ScriptS
 use Rattle.laws.proofs.Tests.{andLeft, andRight, decide, isFalse}
 use Rattle.laws.proofs.Ranges.{split}
 use Rattle.laws.proofs.Options.{onward-inv, provided-inv}
-use Rattle.laws.proofs.Walking.{Loads, not-none}
-use Rattle.laws.proofs.Reading.{one-inv, Others, others-first, nameBy, exprBy, condBy, queryBy, scriptBy}
+use Rattle.laws.specs.Walks.{Loads}
+use Rattle.laws.proofs.Walking.{not-none}
+use Rattle.laws.proofs.Reading.{Others, others-first, nameBy, exprBy, condBy, queryBy, scriptBy}
 use Rattle.laws.proofs.Reading.{name-none, expr-none, cond-none, query-none, script-none}
-use Rattle.laws.proofs.Reading.{name-step, expr-step, cond-step, query-step, script-step, name-is, expr-is, cond-is, script-is}
+use Rattle.laws.proofs.Reading.{name-step, expr-step, cond-step, query-step, script-step, name-is, expr-is, expr-gap, cond-is, script-is}
 use Rattle.laws.proofs.Reading.{name-out, expr-out, cond-out, query-out, script-out, body-is, block-is}
 
 -- ── of any reader ───────────────────────────────────────────────────────────────────────────
@@ -46,6 +48,14 @@ row-last N [] key value other k h has =
 row-last N (p ∷ rows) key value other k h has =
     row-last (N × (k ≡ p .0 → ⊥)) rows key value other k h (λ e. has (rw (ne-eqb k (p .0) (others-first (N × (k ≡ p .0 → ⊥)) k rows h .1)) e))
 
+-- kinds that a match has passed, in order
+abbrev pub Passed : ℕ → List ℕ → Type 0
+Passed k keys = go (Unit {0}) keys
+  where
+    go : Type 0 → List ℕ → Type 0
+    go N [] = N
+    go N (key ∷ keys) = go (N × (k ≡ key → ⊥)) keys
+
 -- ── names ───────────────────────────────────────────────────────────────────────────────────
 
 -- Where a record is read: x-pos, levels are left; x-inside, it begins within the script; x-last, its kind is the table's last where it is none of the
@@ -63,7 +73,7 @@ module _ (s : List ℕ) (terms left at : ℕ) (l : Loads (readName s terms left 
       row-last (Unit {0}) (front nameRows) 0x32 NameShape.constant NameShape.unknown (byte s at) h
       (λ e. not-none l (name-step s terms left at name-pos ∙ ap (nameBy s terms left at) e))
 
-  -- 31: a variable below 16; 32: a constant below the number of terms
+  -- 31: a variable below the limit; 32: a constant below the number of terms
   pub variable-of : byte s at ≡ 0x31 → (past at 1 ≤ length s) × (byte s (at + 1) < variableLimit)
       × (readName s terms left at ≡ some (var (byte s (at + 1)), past at 1))
   unfolding provided
@@ -97,13 +107,23 @@ module _ (s : List ℕ) (terms left at : ℕ) (l : Loads (readExpr s terms left 
       row-last (Unit {0}) (front exprRows) 0x45 (ExprShape.two Expr.minus) ExprShape.unknown (byte s at) h
       (λ e. not-none l (expr-step s terms left at expr-pos ∙ ap (exprBy s terms left at) e))
 
-  -- 31 and 32: the name at the same place, with the same levels left
-  pub name-in-expr : (k : ℕ) → byte s at ≡ k → row k exprRows ExprShape.unknown ≡ ExprShape.named
-      → Loads (readName s terms left at) × (readExpr s terms left at ≡ oneOf Expr.name (readName s terms left at))
-  name-in-expr k key sh =
-      let e = expr-is s terms left at expr-pos k key ∙ ap (exprBy s terms left at) sh in
-      let i = one-inv Expr.name (readName s terms left at) (sym e ∙ l .2) in
-      ((i .0, l .1, i .1), e)
+  -- where names were told apart before
+  pub operator-last : 0x41 ≤ byte s at → Passed (byte s at) (0x41 ∷ 0x42 ∷ 0x43 ∷ 0x44 ∷ []) → byte s at ≡ 0x45
+  operator-last h n = expr-last ((((((tt, (λ e. omega arith)), (λ e. omega arith)), n .0 .0 .0 .1), n .0 .0 .1), n .0 .1), n .1)
+
+  -- below the kinds of operators an expression is a name
+  pub expr-name : byte s at < 0x41 → readExpr s terms left at ≡ oneOf Expr.name (readName s terms left at)
+  expr-name h =
+      ⊎-elim
+      (λ j. absurd (not-none l (expr-gap s terms left at expr-pos 0x33 14 j (omega arith) tt)))
+      (λ j. ⊎-elim
+      (λ i. ⊎-elim
+      (λ e. expr-is s terms left at expr-pos 0x32 (omega arith))
+      (λ e. expr-is s terms left at expr-pos 0x31 (omega arith))
+      (split 0x32 (byte s at)))
+      (λ i. absurd (not-none l (expr-gap s terms left at expr-pos 0 0x31 (omega arith) i tt)))
+      (split 0x31 (byte s at)))
+      (split 0x33 (byte s at))
 
 -- ── booleans ────────────────────────────────────────────────────────────────────────────────
 

@@ -8,22 +8,16 @@ use native.Mathlib.Omega.{arith}
 use lib.Dec.{leb, eqb, leb→le}
 use lib.ListN.{length}
 use borrow.Author.Tests.{le-leb, lt-leb, leb-false}
-use Rattle.definitions.specs.Limits.{textWidth}
+use Rattle.definitions.specs.Limits.{textWidth, uriWidth, entryWidth, propertyOffset, objectOffset}
 use Rattle.definitions.specs.Bytes.{Got, byte, part, onward, whole, inFront, recordsFrom, records}
 use Rattle.definitions.specs.Types.{Datatype, datatypeOfCode}
 use Rattle.definitions.specs.Terms.{Text, Term, Entry, Triple, bodyWidth, termOfBody, bodyAt, uriText, uriAt, ofTermKind, ofPageKind, readTerm, readEntry, readTriple, readTerms, readSchema, readPage}
 use Rattle.laws.proofs.Tests.{andRight}
 use Rattle.laws.proofs.Options.{some-is, pair-is, provided-inv, onward-inv}
 use Rattle.laws.proofs.Valid.{body-at-inv}
+use Rattle.laws.specs.Records.{TermAt, EntryAt, TripleAt, recordsAt}
 
 -- ── what a record at an offset holds ────────────────────────────────────────────────────────
-
-pub record TermAt (s : List ℕ) (at : ℕ) (t : Term) (next : ℕ) : Type 0 where
-  pub datatype : Datatype
-  pub kind : ofTermKind (byte s at) ≡ some datatype
-  pub body : termOfBody datatype (part s (at + 1) (bodyWidth datatype)) ≡ some t
-  pub ends : next ≡ at + 1 + bodyWidth datatype
-  pub fits : next ≤ length s
 
 pub term-inv : (s : List ℕ) (at : ℕ) (t : Term) (n : ℕ) → readTerm s at ≡ some (t, n) → TermAt s at t n
 unfolding readTerm
@@ -42,39 +36,24 @@ uri-at-inv s at r e =
     let q = some-is (x .2) in
     (leb→le (at + textWidth) (length s) (p .0), x .1 ∙ ap (λ r. some (r .0)) q, sym (ap (λ r. r .1) q))
 
-pub record EntryAt (s : List ℕ) (at : ℕ) (x : Entry) (next : ℕ) : Type 0 where
-  pub property : uriText (part s (at + 1) textWidth) ≡ some (x .property)
-  pub datatype : datatypeOfCode (byte s (at + 41)) ≡ some (x .datatype)
-  pub ends : next ≡ at + 42
-  pub fits : next ≤ length s
-
 pub entry-inv : (s : List ℕ) (at : ℕ) (x : Entry) (n : ℕ) → readEntry s at ≡ some (x, n) → EntryAt s at x n
 unfolding readEntry
 entry-inv s at x n e =
     let made : Text × ℕ → Datatype → Got Entry = λ p d. some (record { property = p .0; datatype = d }, p .1 + 1) in
     let rest : Text × ℕ → Got Entry = λ p. onward (datatypeOfCode (byte s (p .1))) (made p) in
     let p = provided-inv (eqb (byte s at) 0x21 && whole s at (textWidth + 1)) (onward (uriAt s (at + 1)) rest) e in
-    let fits = leb→le (at + 42) (length s) (andRight (eqb (byte s at) 0x21) (whole s at (textWidth + 1)) (p .0)) in
+    let fits = leb→le (at + entryWidth) (length s) (andRight (eqb (byte s at) 0x21) (whole s at (textWidth + 1)) (p .0)) in
     let u = onward-inv (uriAt s (at + 1)) rest (p .1) in
     let i = uri-at-inv s (at + 1) (u .0) (u .1) in
     let d = onward-inv (datatypeOfCode (byte s (u .0 .1))) (made (u .0)) (u .2) in
     let made-is = pair-is (d .2) in
-    let after : u .0 .1 ≡ at + 41 = omega (arith, i .2) in
+    let after : u .0 .1 ≡ at + uriWidth = omega (arith, i .2) in
     record {
       property = i .1 ∙ ap (λ (x : Entry). some (x .property)) (made-is .0);
       datatype = ap (λ (k : ℕ). datatypeOfCode (byte s k)) (sym after) ∙ d .1 ∙ ap (λ (x : Entry). some (x .datatype)) (made-is .0);
       ends = omega (arith, made-is .1, after);
       fits = omega (arith, made-is .1, after);
     }
-
-pub record TripleAt (s : List ℕ) (at : ℕ) (x : Triple) (next : ℕ) : Type 0 where
-  pub datatype : Datatype
-  pub kind : ofPageKind (byte s at) ≡ some datatype
-  pub subject : uriText (part s (at + 1) textWidth) ≡ some (x .subject)
-  pub property : uriText (part s (at + 41) textWidth) ≡ some (x .property)
-  pub object : termOfBody datatype (part s (at + 81) (bodyWidth datatype)) ≡ some (x .object)
-  pub ends : next ≡ at + 81 + bodyWidth datatype
-  pub fits : next ≤ length s
 
 pub triple-inv : (s : List ℕ) (at : ℕ) (x : Triple) (n : ℕ) → readTriple s at ≡ some (x, n) → TripleAt s at x n
 unfolding readTriple
@@ -91,8 +70,8 @@ triple-inv s at x n e =
     let i = uri-at-inv s (at + 1) (u .0) (u .1) in
     let j = uri-at-inv s (u .0 .1) (p .0) (p .1) in
     let b = body-at-inv (d .0) s (p .0 .1) (o .0 .0) (o .0 .1) (o .1) in
-    let first : u .0 .1 ≡ at + 41 = omega (arith, i .2) in
-    let second : p .0 .1 ≡ at + 81 = omega (arith, j .2, first) in
+    let first : u .0 .1 ≡ at + propertyOffset = omega (arith, i .2) in
+    let second : p .0 .1 ≡ at + objectOffset = omega (arith, j .2, first) in
     record {
       datatype = d .0;
       kind = d .1;
@@ -119,11 +98,7 @@ pub triple-forward : Forward readTriple
 triple-forward s at x n e = let r = triple-inv s at x n e in (omega (arith, r .ends), r .fits)
 
 module _ {A : Type 0} (read : List ℕ → ℕ → Got A) where
-  -- the records from an offset on
-  unfoldable pub recordsAt : List ℕ → ℕ → Option (List A)
-  recordsAt s at = recordsFrom read (suc (length s)) s at
-
-  pub records-at : (s : List ℕ) → records read s ≡ recordsAt s 0
+  pub records-at : (s : List ℕ) → records read s ≡ recordsAt read s 0
   unfolding records recordsAt
   records-at s = refl
 

@@ -64,3 +64,17 @@ given-refused n f e = rw e
 pub require-refused : {B : Type 0} (n : ℕ) {t : Bool} (k : Result B) → t ≡ false → (require n t >> k) ≡ refused n
 unfolding require _>>_
 require-refused n k e = rw e
+
+-- ── tests in two parts ──────────────────────────────────────────────────────────────────────
+
+-- what holds of tests one after the other holds where some of them stand together
+module _ {A B C : Type 0} (P : Result C → Type 0) where
+  pub by-bind : (m : Result A) (f : A → Result B) (k : B → Result C) → P (m >>= λ a. f a >>= k) → P ((m >>= f) >>= k)
+  unfolding _>>=_
+  by-bind (refused n) f k h = h
+  by-bind (passed a) f k h = h
+
+  pub by-after : (m : Result A) (n : Result B) (k : B → Result C) → P (m >> (n >>= k)) → P ((m >> n) >>= k)
+  unfolding _>>=_ _>>_
+  by-after (refused n) r k h = h
+  by-after (passed a) r k h = h

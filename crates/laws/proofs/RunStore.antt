@@ -17,8 +17,9 @@ use Rattle.definitions.specs.Machine.{Item, State, Store, Next, step, stand, fr
 use Rattle.definitions.specs.Machine.{Run, still, preceded, goOn, look, run, lastOf}
 use Rattle.definitions.specs.declared.RunState.the-variants.{Ended, Wanted}
 use Rattle.laws.proofs.Tests.{by-test}
-use Rattle.laws.proofs.All.{All, all-weaken}
-use Rattle.laws.proofs.Valid.{Valid, ValidIn}
+use Rattle.laws.specs.Lists.{All}
+use Rattle.laws.proofs.All.{all-weaken}
+use Rattle.laws.specs.Valid.{Valid, ValidIn}
 
 -- ── what an outcome gives, if it is no fault ────────────────────────────────────────────────
 

@@ -1,12 +1,11 @@
 -- The saved run: what it holds of a sound state is that state again (stack, last tuples, bindings, fetched graphs).
 use Prim.Native.Nat.{ℕ, zero, suc, _+_, _-_, _≤_, _<_}
 use mathlib.Core.Bool.{Bool, true, false, cond, _&&_}
-use mathlib.Core.List.{List, [], _∷_, _++_, map, append-assoc}
+use mathlib.Core.List.{List, [], _∷_, _++_, append-assoc}
 use mathlib.Core.Option.{Option, none, some}
-use mathlib.Core.Path.{_≡_, refl, sym, ap, subst, fun-ext, _∙_}
+use mathlib.Core.Path.{_≡_, refl, ap, subst, fun-ext, _∙_}
 use mathlib.Core.Logic.{⊎-elim}
 use native.Mathlib.Omega.{arith}
-use native.Mathlib.Nat.{add-zero}
 use lib.Dec.{T, eqb, leb, ltb, leb→le, le→leb, eqb→eq}
 use lib.ListN.{length, getD, take, replicate, length-append, length-replicate}
 use lib.Seq.{take-at, getD-at}
@@ -16,7 +15,6 @@ use Rattle.definitions.specs.Lists.{every}
 use Rattle.definitions.specs.Bytes.{filled, provided, onward}
 use Rattle.definitions.specs.Terms.{Term}
 use Rattle.definitions.specs.Tree.{Script, success, fromNamed, block, sequence}
-use Rattle.definitions.specs.Scope.{variables}
 use Rattle.definitions.specs.Evaluate.{Quad, Bindings}
 use Rattle.definitions.specs.Search.{Tuple}
 use Rattle.definitions.specs.Machine.{Item, State, inLimits}
@@ -29,15 +27,21 @@ use Rattle.definitions.specs.declared.SavedRun.{SavedRun}
 use Rattle.laws.proofs.Tests.{andLeft, andRight, isTrue}
 use Rattle.laws.proofs.Ranges.{split}
 use Rattle.laws.proofs.Options.{some-is, some-not-none, onward-inv, provided-inv}
-use Rattle.laws.proofs.All.{All, all-append, all-weaken}
+use Rattle.laws.proofs.Variables.{at-variable}
+use Rattle.laws.specs.Lists.{All}
+use Rattle.laws.proofs.All.{all-append, all-weaken}
 use Rattle.laws.proofs.Bindings.{is-below}
 use Rattle.laws.proofs.Places.{found, inherits, depth-fits}
-use Rattle.laws.proofs.Sound.{height, Accepted, Sound, Own}
-use Rattle.laws.proofs.SoundMeans.{Facts, facts, StackFacts, QuadFacts}
-use Rattle.laws.proofs.Valid.{ValidIn}
+use Rattle.laws.specs.Sound.{height, Accepted, Sound, Own}
+use Rattle.laws.proofs.SoundMeans.{Facts, facts, StackFacts}
+use Rattle.laws.specs.Quads.{QuadFacts}
+use Rattle.laws.specs.Valid.{ValidIn}
 use Rattle.laws.proofs.Bytes.{filled-length}
 use Rattle.laws.proofs.ReadBounds.{PairsFit}
-use Rattle.laws.proofs.Tables.{terms-of, quads-of, Small}
+use Rattle.laws.proofs.Tables.{terms-of, quads-of}
+use Rattle.laws.specs.Quads.{Small}
+use Rattle.definitions.specs.Limits.{itemWidth}
+use Rattle.definitions.specs.Exports.{itemsFrom}
 
 -- ── lists with something after them ─────────────────────────────────────────────────────────
 
@@ -96,20 +100,6 @@ stack-height root terms β [] f = omega arith
 stack-height root terms β (i ∷ rest) f = omega (arith, f .0 .deep, depth-fits (f .0 .inRoot))
 
 -- ── bindings ────────────────────────────────────────────────────────────────────────────────
-
--- numbers from one on
-abbrev upFrom : (lo n : ℕ) → List ℕ
-upFrom lo zero = []
-upFrom lo (suc n) = lo ∷ upFrom (suc lo) n
-
-at-number : {A : Type 0} (f : ℕ → A) (d : A) (lo n v : ℕ) → v < n → getD (map f (upFrom lo n)) v d ≡ f (lo + v)
-at-number f d lo zero v l = absurd (omega arith)
-at-number f d lo (suc n) zero l = ap f (sym (add-zero lo))
-at-number f d lo (suc n) (suc v) l = at-number f d (suc lo) n v (omega arith) ∙ ap f (omega arith)
-
--- what stands at a variable's place
-pub at-variable : {A : Type 0} (f : ℕ → A) (d : A) (v : ℕ) → v < variableLimit → getD (map f variables) v d ≡ f v
-at-variable f d v l = let e : 0 + v ≡ v = omega arith in at-number f d 0 variableLimit v l ∙ ap f e
 
 bound-again : (o : Option ℕ) → cond (isBound o) (some (numberOrZero o)) none ≡ o
 bound-again none = refl
@@ -333,3 +323,11 @@ saved-shaped c accepted pairs s sound types n =
       lasts = all-append (λ i. length (i .last) ≡ pairLimit) (savedItems stack) (replicate after zeroItem)
           (items-shaped (c .root) (length (s .store .terms)) (s .control .bindings) stack pairs f) (zero-items after);
     }
+
+-- ── as bytes ────────────────────────────────────────────────────────────────────────────────
+
+-- no item is in use
+pub items-none : (b : List ℕ) (left at : ℕ) → itemsFrom left 0 b at ≡ replicate left zeroItem
+unfolding itemsFrom
+items-none b zero at = refl
+items-none b (suc left) at = ap (λ (l : List SavedItem). zeroItem ∷ l) (items-none b left (at + itemWidth))

@@ -1,69 +1,34 @@
 -- A script that was read: what stands at its record, and what its children read; and every record of kinds 71 to 74 in it reads as its node.
-use Prim.Native.Nat.{ℕ, zero, suc, _+_, _≤_, _<_}
+use Prim.Native.Nat.{ℕ, zero, suc, _+_}
 use native.Mathlib.Omega.{arith}
 use mathlib.Core.Path.{_≡_, refl, sym, _∙_, ap, subst}
 use mathlib.Core.List.{List}
 use mathlib.Core.Bool.{Bool, true, false, _&&_}
 use mathlib.Core.Option.{Option, none, some}
-use lib.Dec.{T, eqb, leb, ltb, leb→le, ltb→lt, eqb→eq}
+use lib.Dec.{T, eqb, ltb, leb→le, ltb→lt, eqb→eq}
 use lib.ListN.{length}
 use Rattle.definitions.specs.Limits.{blockWidth, pairLimit, depthLimit}
-use Rattle.definitions.specs.Bytes.{byte, past, whole, provided, onward, row, Got}
-use Rattle.definitions.specs.Tree.{Name, Query, Binder, Script, success, fromNamed, block, sequence}
+use Rattle.definitions.specs.Bytes.{byte, past, whole, provided, onward, Got}
+use Rattle.definitions.specs.Tree.{Binder, Script, success, fromNamed, block, sequence}
 use Rattle.definitions.specs.Reading.{twoOf, readName, readQuery, readScript, ScriptShape, scriptRows, scriptOf, withBinders, bindersAt, isEach, parsed}
 use Rattle.definitions.specs.Saved.{Place, placeFrom, placeIn, orElse}
-use Rattle.laws.proofs.Tests.{andLeft, andRight, by-test}
+use Rattle.laws.proofs.Tests.{andLeft, andRight}
 use Rattle.laws.proofs.Options.{some-not-none, pair-is, provided-inv, onward-inv, some-is}
-use Rattle.laws.proofs.Reading.{two-inv, AllKeys, row-keys, script-none}
+use Rattle.laws.proofs.Reading.{two-inv, row-keys, script-none}
+use Rattle.laws.specs.ScriptReads.{ReadsAs}
 
 -- ── what a record reads as, its children one level further down ─────────────────────────────
 
 module _ (s : List ℕ) (terms left at : ℕ) where
-  pub record SuccessAt (o n : ℕ) : Type 0 where
-    pub here : o ≡ at
-    pub kind : byte s at ≡ 0x71
-    pub ends : n ≡ at + 1
-
-  pub record NamedAt (o : ℕ) (x : Name) (c : Script) (n : ℕ) : Type 0 where
-    pub here : o ≡ at
-    pub kind : byte s at ≡ 0x72
-    pub next : ℕ
-    pub name : readName s terms left (at + 1) ≡ some (x, next)
-    pub script : readScript s terms left next ≡ some (c, n)
-
-  pub record BlockAt (o : ℕ) (each : Bool) (bs : List Binder) (q : Query) (c : Script) (n : ℕ) : Type 0 where
-    pub here : o ≡ at
-    pub kind : byte s at ≡ 0x73
-    pub room : past at blockWidth ≤ length s
-    pub mode : byte s (at + 1) < 2
-    pub isMode : isEach s at ≡ each
-    pub binders : bindersAt pairLimit (byte s (at + 2)) s (at + 3) ≡ some bs
-    pub next : ℕ
-    pub query : readQuery s terms left (past at blockWidth) ≡ some (q, next)
-    pub script : readScript s terms left next ≡ some (c, n)
-
-  pub record SequenceAt (o : ℕ) (c d : Script) (n : ℕ) : Type 0 where
-    pub here : o ≡ at
-    pub kind : byte s at ≡ 0x74
-    pub next : ℕ
-    pub first : readScript s terms left (at + 1) ≡ some (c, next)
-    pub second : readScript s terms left next ≡ some (d, n)
-
-  abbrev pub ReadsAs : Script → ℕ → Type 0
-  ReadsAs (success o) n = SuccessAt o n
-  ReadsAs (fromNamed o x c) n = NamedAt o x c n
-  ReadsAs (block o each bs q c) n = BlockAt o each bs q c n
-  ReadsAs (sequence o c d) n = SequenceAt o c d n
-
   abbrev by : ScriptShape → Got Script
   by sh = scriptOf sh s at (readName s terms left) (readQuery s terms left) (readScript s terms left)
 
   -- a row of the table and its key
   abbrev Inverts : Script → ℕ → ℕ → ScriptShape → Type 0
-  Inverts c n k sh = byte s at ≡ k → by sh ≡ some (c, n) → ReadsAs c n
+  Inverts c n k sh = byte s at ≡ k → by sh ≡ some (c, n) → ReadsAs s terms left at c n
 
-  to : (c e : Script) (n : ℕ) → e ≡ c → ReadsAs e n → ReadsAs c n
-  to c e n p h = subst (λ (x : Script). ReadsAs x n) p h
+  to : (c e : Script) (n : ℕ) → e ≡ c → ReadsAs s terms left at e n → ReadsAs s terms left at c n
+  to c e n p h = subst (λ (x : Script). ReadsAs s terms left at x n) p h
 
   done-inv : (c : Script) (n : ℕ) → Inverts c n 0x71 ScriptShape.done
   done-inv c n k e =
@@ -101,7 +66,7 @@ module _ (s : List ℕ) (terms left at : ℕ) where
       let h = two-inv (Script.sequence at) (readScript s terms left) (readScript s terms left) (at + 1) e in
       to c (sequence at (h .0) (h .2)) n (h .5) (record { here = refl; kind = k; next = h .1; first = h .3; second = h .4 })
 
-  pub script-reads : (c : Script) (n : ℕ) → readScript s terms (suc left) at ≡ some (c, n) → ReadsAs c n
+  pub script-reads : (c : Script) (n : ℕ) → readScript s terms (suc left) at ≡ some (c, n) → ReadsAs s terms left at c n
   unfolding readScript
   script-reads c n e =
       row-keys (Inverts c n) (byte s at) scriptRows ScriptShape.unknown

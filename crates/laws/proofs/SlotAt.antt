@@ -1,19 +1,18 @@
 -- The slot of a number holds its term.
-use Prim.Native.Nat.{ℕ, zero, suc, _+_, _*_, _≤_, _<_}
+use Prim.Native.Nat.{ℕ, zero, suc, _+_, _*_, _≤_}
 use mathlib.Core.Bool.{Bool, true, false}
 use mathlib.Core.List.{List, [], _∷_}
 use mathlib.Core.Logic.{_⊎_, inl, inr}
-use mathlib.Core.Option.{Option, none, some}
-use mathlib.Core.Path.{_≡_, refl, sym, _∙_, ap, subst, subst⁻¹}
+use mathlib.Core.Option.{Option, some}
+use mathlib.Core.Path.{_≡_, refl, sym, _∙_, ap, subst}
 use native.Mathlib.Omega.{arith}
 use lib.Dec.{eqb}
 use lib.ListN.{length, getElem?, drop}
-use Rattle.definitions.specs.Limits.{slotWidth, termLimit, termTableWidth}
+use Rattle.definitions.specs.Limits.{slotWidth, termLimit}
 use Rattle.definitions.specs.Bytes.{byte, part, allZero, provided, onward}
 use Rattle.definitions.specs.Terms.{Term}
 use Rattle.definitions.specs.Saved.{slotTerm, termsFrom, termsIn}
 use Rattle.laws.proofs.Options.{some-is, some-not-none, provided-inv, onward-inv}
-use Rattle.laws.proofs.Bindings.{is-below}
 
 -- a slot and the slots after it
 record Slots (left : ℕ) (table : List ℕ) (at : ℕ) (ts : List Term) : Type 0 where

@@ -17,14 +17,16 @@ use Rattle.definitions.specs.Types.{Datatype}
 use Rattle.definitions.specs.Terms.{Text, Term, uriByte, textByte, tagByte, uriText, isInteger, isDecimal, isDateTime, datatype, termKind, kindRows, ofTermKind}
 use Rattle.definitions.specs.Terms.{bodyWidth, numberTerm, termOfBody, bodyOf, recordOf, slotOf, bodyAt, readTerm, sameTerm}
 use Rattle.definitions.specs.Saved.{slotTerm}
+use Rattle.laws.proofs.TestEquations.{both-ways}
 use Rattle.laws.proofs.Tests.{isTrue}
 use Rattle.laws.proofs.Options.{some-is, some-not-none, onward-inv, provided-holds, provided-inv}
 use Rattle.laws.proofs.Reading.{row-keys}
-use Rattle.laws.proofs.Same.{same-term, term-refl, same-bytes, bytes-refl}
+use Rattle.laws.proofs.Equality.{same-term, term-refl, same-bytes, bytes-refl}
 use Rattle.laws.proofs.Bytes.{AreBytes, part-bytes, little-length, little-of, bytes-of, little-small}
 use Rattle.laws.proofs.Bytes.{signed-unsigned, unsigned-signed, unsigned-small, within-limits}
 use Rattle.laws.proofs.Bytes.{all-zero, zeros, filled-length, no-zero, field-of}
-use Rattle.laws.proofs.Valid.{ValidURI, Valid, uri-inv, string-inv, number-inv, body-valid, body-at-inv}
+use Rattle.laws.specs.Valid.{ValidURI, Valid}
+use Rattle.laws.proofs.Valid.{uri-inv, string-inv, number-inv, body-valid, body-at-inv}
 
 -- ── numbers ─────────────────────────────────────────────────────────────────────────────────
 
@@ -196,17 +198,11 @@ slot-inv slot t l h e =
 
 -- ── slots are equal where the terms are ─────────────────────────────────────────────────────
 
--- two tests that hold together
-same-tests : (a b : Bool) → (T a → T b) → (T b → T a) → a ≡ b
-same-tests true b f g = sym (isTrue b (f tt))
-same-tests false true f g = absurd (g tt)
-same-tests false false f g = refl
-
 module _ (a b : Term) (va : Valid a) (vb : Valid b) where
   pub slot-one : slotOf a ≡ slotOf b → a ≡ b
   slot-one e = some-is (sym (slot-of a va) ∙ (ap slotTerm e ∙ slot-of b vb))
 
   pub same-slots : sameBytes (slotOf a) (slotOf b) ≡ sameTerm a b
-  same-slots = same-tests (sameBytes (slotOf a) (slotOf b)) (sameTerm a b)
+  same-slots = both-ways (sameBytes (slotOf a) (slotOf b)) (sameTerm a b)
       (λ h. rw (slot-one (same-bytes (slotOf a) (slotOf b) h)) (term-refl b))
       (λ h. rw (same-term a b h) (bytes-refl (slotOf b)))

@@ -1,32 +1,19 @@
 -- The types of a term: a sort has exactly the types above a least one.
 use mathlib.Core.Path.{_≡_, refl}
-use mathlib.Core.Bool.{Bool, true, false, Bool·beq}
 use mathlib.Core.Option.{Option, none, some}
 use lib.Dec.{T}
 use Rattle.definitions.specs.Types.{Datatype, Ty, plain, range, leq}
 use Rattle.definitions.specs.Terms.{Term, Schema, datatypeIn, Sort, has, sortOf, hasType}
 use Rattle.definitions.specs.Evaluate.{isURI}
-use Rattle.laws.proofs.Order.{byType, byDatatype, everyType, leq-trans}
-
--- the least type that a sort has
-unfoldable pub least : Sort → Ty
-least (Sort.uri none) = plain Datatype.anyURI
-least (Sort.uri (some d)) = range d
-least (Sort.literal d) = plain d
-
-agree : (a b : Bool) → T (Bool·beq a b) → a ≡ b
-agree true true h = refl
-agree true false h = absurd h
-agree false true h = absurd h
-agree false false h = refl
+use Rattle.laws.proofs.Order.{byDatatype, everyType, leq-trans}
+use Rattle.laws.proofs.TestEquations.{agree, type-equal}
+use Rattle.laws.specs.Sorts.{least}
 
 pub has-least : (σ : Sort) (τ : Ty) → has σ τ ≡ leq (least σ) τ
 unfolding least
-has-least (Sort.uri none) τ =
-    agree (has (Sort.uri none) τ) (leq (plain Datatype.anyURI) τ) (byType (λ τ. Bool·beq (has (Sort.uri none) τ) (leq (plain Datatype.anyURI) τ)) tt τ)
+has-least (Sort.uri none) τ = type-equal (has (Sort.uri none)) (leq (plain Datatype.anyURI)) tt τ
 has-least (Sort.uri (some d)) τ =
-    let same : Datatype → Ty → Bool = λ d τ. Bool·beq (has (Sort.uri (some d)) τ) (leq (range d) τ) in
-    agree (has (Sort.uri (some d)) τ) (leq (range d) τ) (byType (same d) (byDatatype (λ d. everyType (same d)) tt d) τ)
+    type-equal (has (Sort.uri (some d))) (leq (range d)) (byDatatype (λ d. everyType (λ τ. agree (has (Sort.uri (some d)) τ) (leq (range d) τ))) tt d) τ
 has-least (Sort.literal d) τ = refl
 
 pub has-of-least : (σ : Sort) (τ : Ty) → T (leq (least σ) τ) → T (has σ τ)

@@ -15,11 +15,11 @@ use Rattle.definitions.specs.Calls as Calls
 use Rattle.definitions.specs.Calls.{Checked, check, reported, Lent, tablesFit, lengthsFit, checkedOf, soundIn}
 use Rattle.definitions.specs.declared.SavedRun.{SavedRun}
 use Rattle.laws.proofs.Options.{some-is, some-not-none, onward-inv, provided-inv, provided-holds}
-use Rattle.laws.proofs.Same.{same-bytes, bytes-refl}
-use Rattle.laws.proofs.Sound.{Accepted, Sound}
+use Rattle.laws.proofs.Equality.{same-bytes, bytes-refl}
+use Rattle.laws.specs.Sound.{Accepted, Sound}
 use Rattle.laws.proofs.Check.{check-accepted}
 use Rattle.laws.proofs.Bytes.{AreBytes}
-use Rattle.laws.proofs.Valid.{ValidIn}
+use Rattle.laws.specs.Valid.{ValidIn}
 use Rattle.laws.proofs.Tables.{term-table-length, quad-table-length, terms-in-valid, terms-in-table, quads-in-table}
 use Rattle.laws.proofs.Saved.{Holding, held-inv, held-sound, held-again, terms-few, quads-few}
 

@@ -22,12 +22,16 @@ use Rattle.definitions.specs.Saved.{Place, placeIn, offsetOf, isBound}
 use Rattle.definitions.specs.Sound.{beginsWith, isURINumber, numberHas, pairFits, quadSound, deepEnough, freeBound, lastSound, itemSound, stackSound, bindingSound, stateSound}
 use Rattle.definitions.specs.Calls.{Checked}
 use Rattle.laws.proofs.Tests.{andLeft, andRight, andMake, orCases, orLeft, orRight, decide}
-use Rattle.laws.proofs.All.{All, conj-all, all-conj, all-of-every, every-of-all, every-any}
-use Rattle.laws.proofs.Same.{same-term, term-refl}
-use Rattle.laws.proofs.Bindings.{Extends, Holds, HoldsURI, test-holds, holds-test, is-below, Bound, test-bound, bound-test, BoundIn, Fits}
+use Rattle.laws.specs.Lists.{All}
+use Rattle.laws.proofs.All.{conj-all, all-conj, all-of-every, every-of-all, every-any}
+use Rattle.laws.proofs.Equality.{same-term, term-refl}
+use Rattle.laws.specs.Bindings.{Extends, Holds, HoldsURI, Bound, BoundIn, Fits}
+use Rattle.laws.proofs.Bindings.{test-holds, holds-test, is-below, test-bound, bound-test}
 use Rattle.laws.proofs.Places.{At, place-found, found, bounded-at}
-use Rattle.laws.proofs.Check.{every-variable, free-bounded}
-use Rattle.laws.proofs.Sound.{ScriptBounded, Placed, Accepted, Sound, Own}
+use Rattle.laws.proofs.Variables.{every-variable}
+use Rattle.laws.proofs.Check.{free-bounded}
+use Rattle.laws.specs.Sound.{ScriptBounded, Placed, Accepted, Sound, Own}
+use Rattle.laws.specs.Quads.{QuadFacts}
 
 -- ── terms that go on ────────────────────────────────────────────────────────────────────────
 
@@ -50,17 +54,6 @@ abbrev any : Ty
 any = plain Datatype.anyURI
 
 -- ── quads ───────────────────────────────────────────────────────────────────────────────────
-
--- a stored triple is in a fetched graph, its property is a schema URI and its object has the property's datatype
-pub record QuadFacts (S : Schema) (terms : List Term) (fetched : List ℕ) (q : Quad) : Type 0 where
-  pub isFetched : T (isIn (q .graph) fetched)
-  pub graph : HoldsURI S terms (q .graph)
-  pub subject : HoldsURI S terms (q .subject)
-  pub property : Text
-  pub isProperty : getElem? terms (q .property) ≡ some (Term.uri property)
-  pub datatype : Datatype
-  pub inSchema : datatypeIn S property ≡ some datatype
-  pub object : Holds S terms (q .object) (plain datatype)
 
 module _ (S : Schema) (terms : List Term) (fetched : List ℕ) where
   pair-facts : (q : Quad) → T (isIn (q .graph) fetched) → HoldsURI S terms (q .graph) → HoldsURI S terms (q .subject)

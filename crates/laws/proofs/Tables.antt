@@ -16,10 +16,11 @@ use Rattle.definitions.specs.Evaluate.{Quad}
 use Rattle.definitions.specs.Saved.{slots, termTable, slotTerm, termsFrom, termsIn, quadBytes, quadTable, quadAt, quadsFrom, quadsIn}
 use Rattle.laws.proofs.Tests.{andLeft, andRight, andMake, isTrue}
 use Rattle.laws.proofs.Options.{some-is, onward-inv, provided-holds, provided-inv}
-use Rattle.laws.proofs.All.{All}
+use Rattle.laws.specs.Lists.{All}
 use Rattle.laws.proofs.Bytes.{AreBytes, byte-from, word-from, drop-bytes, part-bytes, all-zero, zeros, filled-length}
-use Rattle.laws.proofs.Valid.{Valid}
+use Rattle.laws.specs.Valid.{Valid}
 use Rattle.laws.proofs.Slots.{kind-not-zero, slot-length, slot-of, slot-inv}
+use Rattle.laws.specs.Quads.{Small}
 
 -- the first byte from an offset on
 first-byte : (s : List ℕ) (at : ℕ) → byte s at ≡ byte (drop at s) 0
@@ -140,13 +141,6 @@ module _ (table : List ℕ) (h : AreBytes table) where
         x .bytes ∙ ap (λ (n : ℕ). slots ts ++ replicate n 0) n
 
 -- ── the quad table ──────────────────────────────────────────────────────────────────────────
-
--- four numbers that two bytes hold
-pub record Small (q : Quad) : Type 0 where
-  pub graph : q .graph < 65536
-  pub subject : q .subject < 65536
-  pub property : q .property < 65536
-  pub object : q .object < 65536
 
 pub quads-length : (qs : List Quad) → length (quadBytes qs) ≡ quadWidth * length qs
 unfolding quadBytes littleBytes

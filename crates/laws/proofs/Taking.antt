@@ -6,27 +6,23 @@ use mathlib.Core.List.{List, [], _∷_, _++_}
 use mathlib.Core.Bool.{Bool, true, false, not, _||_}
 use mathlib.Core.Option.{Option, none, some}
 use lib.Dec.{T, eqb, eqb→eq, eqb-refl}
-use lib.ListN.{getElem?}
 use Rattle.definitions.specs.Lists.{some?, isIn, distinct}
 use Rattle.definitions.specs.Types.{Datatype, plain}
 use Rattle.definitions.specs.Terms.{Term, Schema, Triple, datatypeIn, hasType, sameTerm}
 use Rattle.definitions.specs.Evaluate.{Quad, sameQuad, stored}
 use Rattle.definitions.specs.Machine.{numbered, Taken, skip, withQuad, store, objectFits, wellTyped, takeOne, takeAll, joined}
 use Rattle.laws.proofs.Tests.{orLeft, orRight, orCases, by-test}
-use Rattle.laws.proofs.Lists.{_∈_, here, there, some-append}
-use Rattle.laws.proofs.All.{All, all-append, distinct-end}
-use Rattle.laws.proofs.Same.{same-quad, quad-refl}
-use Rattle.laws.proofs.Bindings.{Extends}
+use Rattle.laws.specs.Lists.{_∈_}
+use Rattle.laws.proofs.Lists.{here, there, some-append}
+use Rattle.laws.specs.Lists.{All}
+use Rattle.laws.proofs.All.{all-append, distinct-end}
+use Rattle.laws.proofs.Equality.{same-quad, quad-refl}
+use Rattle.laws.specs.Bindings.{Extends}
 use Rattle.laws.proofs.Numbering.{distinct-numbered}
-use Rattle.laws.proofs.Numbers.{number-there, number-extends}
+use Rattle.laws.proofs.TermNumbers.{number-there, number-extends}
+use Rattle.laws.specs.Quads.{Names}
 
 -- ── one record ──────────────────────────────────────────────────────────────────────────────
-
--- a quad's numbers are those of a triple's terms
-pub record Names (terms : List Term) (q : Quad) (r : Triple) : Type 0 where
-  pub subject : getElem? terms (q .subject) ≡ some (Term.uri (r .subject))
-  pub property : getElem? terms (q .property) ≡ some (Term.uri (r .property))
-  pub object : getElem? terms (q .object) ≡ some (r .object)
 
 pub names-more : (old new : List Term) → Extends old new → (q : Quad) (r : Triple) → Names old q r → Names new q r
 names-more old new more q r h =

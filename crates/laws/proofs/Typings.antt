@@ -8,42 +8,17 @@ use mathlib.Core.Bool.{Bool, not}
 use lib.Dec.{T}
 use lib.ListN.{getD, length}
 use Rattle.definitions.specs.Lists.{every, some?}
-use Rattle.definitions.specs.Types.{Ty, plain, anyURI, leq, sameType, allTypes}
+use Rattle.definitions.specs.Types.{Ty, leq, sameType, allTypes}
 use Rattle.definitions.specs.Terms.{Sort}
 use Rattle.definitions.specs.Tree.{Script}
 use Rattle.definitions.specs.Typing.{scriptTyped, Written, unbound, undecided, fixed, choices, eachWith, assignments, typeAt, typings, above, Verdict, noTyping, noGreatest, greatest, firstAbove, judge, verdict}
 use Rattle.laws.proofs.Tests.{andLeft, andRight, andMake, notBoth, by-test}
-use Rattle.laws.proofs.Lists.{_∈_, here, there, by-cons, by-append, every-at, every-of, some-at, keep-at, keep-of, elim-is-cond, those-is-keep}
+use Rattle.laws.specs.Lists.{_∈_}
+use Rattle.laws.proofs.Lists.{here, there, by-cons, by-append, every-at, every-of, some-at, keep-at, keep-of, elim-is-cond, those-is-keep}
 use Rattle.laws.proofs.Order.{byType, leq-antisym, same-type}
+use Rattle.laws.specs.Typings.{Allowed, Fits, IsTyping, Says}
 
 -- ── what is claimed ─────────────────────────────────────────────────────────────────────────
-
--- A written type is fixed; an open one may be any of the ten. (A variable that no pair binds stands as anyURI.)
-abbrev pub Allowed : Written → Ty → Type 0
-Allowed unbound τ = τ ≡ plain anyURI
-Allowed undecided τ = Unit
-Allowed (fixed σ) τ = τ ≡ σ
-
--- a type for each variable, as its written type allows
-abbrev pub Fits : List Written → List Ty → Type 0
-Fits [] [] = Unit
-Fits [] (τ ∷ Γ) = ⊥
-Fits (w ∷ ws) [] = ⊥
-Fits (w ∷ ws) (τ ∷ Γ) = Allowed w τ × Fits ws Γ
-
--- types that the written ones allow and the rules take
-abbrev pub IsTyping : (ℕ → Sort) → List Written → Script → List Ty → Type 0
-IsTyping constants ws s Γ = Fits ws Γ × T (scriptTyped constants (typeAt Γ) s)
-
--- one of them, and above each of them
-abbrev pub IsGreatest : (List Ty → Type 0) → List Ty → Type 0
-IsGreatest Is Γ = Is Γ × ((Δ : List Ty) → Is Δ → T (above Γ Δ))
-
--- what a verdict says of them: there is none; there are some, and none is above all; this one is above all
-abbrev pub Says : (List Ty → Type 0) → Verdict → Type 0
-Says Is noTyping = (Γ : List Ty) → Is Γ → ⊥
-Says Is noGreatest = ((Γ : List Ty) × Is Γ) × ((Γ : List Ty) → IsGreatest Is Γ → ⊥)
-Says Is (greatest Γ) = IsGreatest Is Γ
 
 -- ── by variable ─────────────────────────────────────────────────────────────────────────────
 

@@ -9,7 +9,7 @@ use lib.Dec.{T, leb, eqb, leb→le}
 use lib.ListN.{length, drop, length-take}
 use lib.IntN.{ℤ}
 use Rattle.definitions.specs.Limits.{textWidth, tagWidth, pageLimit}
-use Rattle.definitions.specs.Lists.{every, keep}
+use Rattle.definitions.specs.Lists.{keep}
 use Rattle.definitions.specs.Bytes.{Got, part, byte, little, signed, provided, onward, whole, inFront, recordsFrom, records}
 use Rattle.definitions.specs.Types.{Datatype, datatypeOfCode}
 use Rattle.definitions.specs.Terms.{Text, Term, Entry, Schema, Triple, fieldText, uriByte, textByte, tagByte, uriText, isInteger, isDecimal, isDateTime}
@@ -17,35 +17,16 @@ use Rattle.definitions.specs.Terms.{bodyWidth, numberTerm, termOfBody, bodyAt, 
 use Rattle.definitions.specs.Terms.{readTerm, readEntry, readTriple, readTerms, readSchema, readPage}
 use Rattle.definitions.specs.Machine.{State, Taken, numbered, store, skip, wellTyped, takeOne, takeAll, taken, withPage, ofGraph, loaded}
 use Rattle.definitions.specs.Result.{passed}
-use Rattle.definitions.specs.Calls.{Checked, check, pageIn, PageTaken, takeIn}
+use Rattle.definitions.specs.Calls.{Parsed, Checked, check, pageIn, PageTaken, takeIn}
 use Rattle.laws.proofs.Options.{some-is, pair-is, some-not-none, provided-inv, onward-inv}
-use Rattle.laws.proofs.All.{All}
+use Rattle.laws.specs.Lists.{All}
 use Rattle.laws.proofs.Bytes.{FieldOf, field-inv}
 use Rattle.laws.proofs.Numbering.{all-numbered, all-properties}
-use Rattle.laws.proofs.Check.{check-passed}
+use Rattle.laws.proofs.Check.{ReadPassed, check-passed}
 use Rattle.laws.proofs.PageCheck.{page-passed}
+use Rattle.laws.specs.Valid.{Field, ValidURI, Valid, ValidTriple, ValidIn}
 
 -- ── what is valid ───────────────────────────────────────────────────────────────────────────
-
--- a text whose bytes pass a test and that fits its field
-pub record Field (ok : ℕ → Bool) (width : ℕ) (text : Text) : Type 0 where
-  pub good : T (every ok text)
-  pub fits : length text ≤ width
-
-abbrev pub ValidURI : Text → Type 0
-ValidURI u = Field uriByte textWidth u × (1 ≤ length u)
-
-abbrev pub Valid : Term → Type 0
-Valid (Term.uri u) = ValidURI u
-Valid (Term.string g t) = Field tagByte tagWidth g × Field textByte textWidth t
-Valid (Term.integer n) = T (isInteger n)
-Valid (Term.decimal n) = T (isDecimal n)
-Valid (Term.dateTime n) = T (isDateTime n)
-
-pub record ValidTriple (r : Triple) : Type 0 where
-  pub subject : ValidURI (r .subject)
-  pub property : ValidURI (r .property)
-  pub object : Valid (r .object)
 
 -- ── fields and bodies ───────────────────────────────────────────────────────────────────────
 
@@ -192,15 +173,15 @@ page-valid s rs e = records-all readTriple ValidTriple triple-valid s rs e
 
 -- ── loading and pages keep it ───────────────────────────────────────────────────────────────
 
+pub read-valid : (terms schema script : List ℕ) (x : Parsed) → ReadPassed terms schema script x → All Valid (x .terms)
+read-valid terms schema script x p =
+    let listed = terms-valid terms (p .listed) (p .read) in
+    subst (All Valid) (p .numbering) (all-properties Valid (x .schema) (p .listed) listed (schema-valid schema (x .schema) (p .entries)))
+
 pub check-valid : (terms schema script : List ℕ) (c : Checked) → check terms schema script ≡ passed c → All Valid (c .terms)
 check-valid terms schema script c e =
     let p = check-passed terms schema script c e in
-    let listed = terms-valid terms (p .listed) (p .read) in
-    subst (All Valid) (p .numbering) (all-properties Valid (c .schema) (p .listed) listed (schema-valid schema (c .schema) (p .entries)))
-
--- every term of a state is valid
-abbrev pub ValidIn : State → Type 0
-ValidIn s = All Valid (s .store .terms)
+    read-valid terms schema script (record { schema = c .schema; terms = c .terms; root = c .root }) (p .reads)
 
 pub loaded-valid : (c : Checked) → All Valid (c .terms) → ValidIn (loaded (c .terms) (c .root))
 unfolding loaded

@@ -1,17 +1,12 @@
--- Laws of walks whose answer is a relation: P holds of the tree that is read. (`Walking` has those whose answer is a function of it.)
+-- Laws of walks whose answer is a relation: P holds of the tree that is read.
 use Prim.Native.Nat.{ℕ}
-use mathlib.Core.Option.{none, some}
+use mathlib.Core.Option.{some}
 use mathlib.Core.Path.{_≡_, sym, ap, subst, _∙_}
 use Rattle.definitions.specs.Bytes.{Got}
 use Rattle.definitions.specs.Reading.{oneOf, twoOf, fourOf, andThen}
-use Rattle.laws.proofs.Reading.{one-some, two-rest, four-rest, one-inv, two-inv, then-inv, same-read}
-use Rattle.laws.proofs.Walking.{Loads}
-
--- n is the offset after the tree
-pub record Walked {A : Type 0} (P : A → Type 0) (o : Got A) (n : ℕ) : Type 0 where
-  pub tree : A
-  pub read : o ≡ some (tree, n)
-  pub holds : P tree
+use Rattle.laws.proofs.Reading.{one-some, two-rest, four-rest, two-inv, then-inv, same-read}
+use Rattle.laws.specs.Walks.{Loads}
+use Rattle.laws.specs.Walks.{Walked}
 
 module _ {A : Type 0} {g : Got A} {P : A → Type 0} where
   pub leaf-walked : {a : A} {n : ℕ} → g ≡ some (a, n) → P a → Walked P g n

@@ -13,45 +13,50 @@ use borrow.Author.Tests.{lt-ltb, le-ltb}
 use Rattle.definitions.specs.Limits.{variableLimit, pairLimit, termLimit}
 use Rattle.definitions.specs.Lists.{every, isIn}
 use Rattle.definitions.specs.Bytes.{byte, filled, onward, signed}
-use Rattle.definitions.specs.Types.{Ty, typeCode, typeOfCode}
+use Rattle.definitions.specs.Types.{typeOfCode}
 use Rattle.definitions.specs.Terms.{Term, Schema}
 use Rattle.definitions.specs.Tree.{Script, block, Binder, Query}
 use Rattle.definitions.specs.Reading.{readQuery, binderAt, bindersAt, writtenOf}
-use Rattle.definitions.specs.Scope.{variables, variablesOf, bindersOf}
-use Rattle.definitions.specs.Typing.{Written, unbound, annotated, writtenIn, writtenTypes, typeAt}
+use Rattle.definitions.specs.Scope.{variables, variablesOf}
+use Rattle.definitions.specs.Typing.{typeAt}
 use Rattle.definitions.specs.Outcome.{Outcome, ok}
 use Rattle.definitions.specs.Evaluate.{Bindings, Quad}
 use Rattle.definitions.specs.Search.{Typing, Tuple, answer}
 use Rattle.definitions.specs.Machine.{State, answerNow}
 use Rattle.definitions.specs.Saved.{isBound, numberOrZero, savedItem, savedOf, hasTuple, lastNumbers}
 use Rattle.definitions.specs.Sound.{lastSound}
-use Rattle.definitions.specs.Calls.{Checked, reportedType, reportedTypes, reported}
+use Rattle.definitions.specs.Calls.{Checked}
 use Rattle.definitions.specs.declared.SavedItem.{SavedItem}
 use Rattle.definitions.specs.declared.SavedRun.{SavedRun}
-use Rattle.laws.proofs.Tests.{andLeft, orLeft, orRight, orCases}
+use Rattle.laws.proofs.Tests.{andLeft, orLeft, orRight}
 use Rattle.laws.proofs.Options.{provided-inv, onward-inv}
-use Rattle.laws.proofs.Order.{type-of-code}
-use Rattle.laws.proofs.All.{All}
-use Rattle.laws.proofs.Fine.{Fine, fine-ok}
+use Rattle.laws.specs.Lists.{All}
+use Rattle.laws.specs.Outcomes.{Fine}
+use Rattle.laws.proofs.NoFault.{fine-ok}
 use Rattle.laws.proofs.Ranges.{split}
-use Rattle.laws.proofs.Bindings.{Fits, is-below}
+use Rattle.laws.specs.Bindings.{Fits}
+use Rattle.laws.proofs.Bindings.{is-below}
 use Rattle.laws.proofs.Answers.{IfSome, answer-fine}
 use Rattle.laws.proofs.Places.{block-binds}
-use Rattle.laws.proofs.Saved.{at-variable, terms-few}
-use Rattle.laws.proofs.More.{query-more}
+use Rattle.laws.proofs.Variables.{at-variable}
+use Rattle.laws.proofs.Saved.{terms-few}
+use Rattle.laws.proofs.Levels.{query-more}
 use Rattle.laws.proofs.SoundMeans.{ItemFacts, Facts, facts}
-use Rattle.query.specs.Codes.{soughtCode, freeCode, numberAt, bindingsOf, rowsFrom}
-use Rattle.query.specs.Ready.{Ready}
-use Rattle.query.proofs.AtBlock.{block-ready, answer-now}
-use Rattle.query.specs.Found.{numbersFrom, tupleOf, lastOf, Level, AnswerOf}
-use Rattle.query.specs.declared.Block.{Block}
-use Rattle.query.specs.declared.Found.{Found}
-use Rattle.machine.specs.Stack.{pairVariables, topOf}
+use Rattle.query.specs.Codes.{soughtCode, freeCode, numberAt, bindingsOf}
+use Rattle.laws.specs.Quads.{rowsFrom}
+use Rattle.search.specs.Ready.{Ready}
+use Rattle.search.proofs.AtBlock.{block-ready, answer-now}
+use Rattle.search.specs.Finding.{numbersFrom, tupleOf, lastOf, Level, AnswerOf}
+use Rattle.search.specs.declared.Block.{Block}
+use Rattle.search.specs.declared.Found.{Found}
+use Rattle.laws.specs.Pairs.{pairVariables}
+use Rattle.store.specs.Stack.{topOf}
 use Rattle.machine.specs.Steps.{answerOf}
 use Rattle.machine.specs.Answers.{knownCode, knownOf, pairNumbers, typesOf, fourOf, blockOf, shortNumber, shortNumbers}
 use Rattle.machine.specs.Running.{Lends, Top, onTop, AnswersNow}
-use Rattle.machine.proofs.Saved.{saved-top}
+use Rattle.store.proofs.RunStates.{saved-top}
 use Rattle.machine.proofs.StepLaws.{ok-is, run-is, room, item-facts, Blocked, blocked}
+use Rattle.laws.proofs.Reported.{type-reported}
 
 -- ── what is known of the variables ──────────────────────────────────────────────────────────
 
@@ -144,46 +149,6 @@ pairs-low s at h (suc (suc (suc zero))) = let e : at + 3 + 2 * 3 ≡ at + 9 = om
 pairs-low s at h (suc (suc (suc (suc k)))) = omega arith
 
 -- ── their types ─────────────────────────────────────────────────────────────────────────────
-
-reported-at : (ws : List Written) (Γ : List Ty) (v : ℕ) → v < length ws → length Γ ≡ length ws
-    → getD (reportedTypes ws Γ) v 0 ≡ reportedType (getD ws v unbound) (typeAt Γ v)
-unfolding reportedTypes
-reported-at [] Γ v l e = absurd (omega arith)
-reported-at (w ∷ ws) [] v l e = absurd (omega arith)
-reported-at (w ∷ ws) (τ ∷ Γ) zero l e = refl
-reported-at (w ∷ ws) (τ ∷ Γ) (suc v) l e = reported-at ws Γ v (omega arith) (omega arith)
-
-annotated-code : (o : Option Ty) (τ : Ty) → reportedType (annotated o) τ ≡ typeCode τ
-annotated-code none τ = refl
-annotated-code (some σ) τ = refl
-
-written-code : (bs : List Binder) (v : ℕ) (τ : Ty) → T (isIn v (variablesOf bs)) → reportedType (writtenIn bs v) τ ≡ typeCode τ
-unfolding writtenIn
-written-code [] v τ h = absurd h
-written-code (b ∷ bs) v τ h = go (written-code bs v τ) (eqb (b .variable) v) refl
-  where
-    other : eqb (b .variable) v ≡ false → T (eqb v (b .variable)) → ⊥
-    other e k =
-        let same : v ≡ b .variable = eqb→eq v (b .variable) k in
-        let yes : T (eqb (b .variable) v) = subst (λ (u : ℕ). T (eqb (b .variable) u)) (sym same) (eqb-refl (b .variable)) in
-        subst T e yes
-
-    go : (T (isIn v (variablesOf bs)) → reportedType (writtenIn bs v) τ ≡ typeCode τ) → (c : Bool) → eqb (b .variable) v ≡ c
-        → reportedType (elim c as (λ d. Written) [ true ↦ annotated (b .written) | false ↦ writtenIn bs v ]) τ ≡ typeCode τ
-    go later true e = annotated-code (b .written) τ
-    go later false e = later (⊎-elim (λ k. absurd (other e k)) (λ k. k) (orCases (eqb v (b .variable)) (isIn v (variablesOf bs)) h))
-
--- the reported type of a variable that the script binds
-type-reported : (c : Checked) → length (c .types) ≡ variableLimit → (v : ℕ) → v < variableLimit → T (isIn v (variablesOf (bindersOf (c .root))))
-    → typeOfCode (getD (reported c) v 0) ≡ some (typeAt (c .types) v)
-unfolding writtenTypes
-type-reported c full v l h =
-    let ws = map (writtenIn (bindersOf (c .root))) variables in
-    let code : getD (reported c) v 0 ≡ typeCode (typeAt (c .types) v) =
-    reported-at ws (c .types) v l full
-    ∙ (ap (λ (w : Written). reportedType w (typeAt (c .types) v)) (at-variable (writtenIn (bindersOf (c .root))) unbound v l)
-    ∙ written-code (bindersOf (c .root)) v (typeAt (c .types) v) h) in
-    ap typeOfCode code ∙ type-of-code (typeAt (c .types) v)
 
 types-at : (types vars : List ℕ) (k : ℕ) → k < 4 → getD (typesOf types vars) k 0 ≡ getD types (getD vars k 0) 0
 types-at types vars zero l = refl
@@ -386,7 +351,7 @@ module _ (script : List ℕ) (known : ℕ) (table : List ℕ) (count : ℕ) (qua
           subst (λ (vs : List ℕ). T (isIn v vs)) vars-are
           (subst (λ (i : ℕ). T (isIn (getD (pairNumbers script at) i 0) (numbersFrom n (pairNumbers script at) 0))) first (number-in n (pairNumbers script at) 0 k l)) in
           ap typeOfCode (types-at (run .types) (pairNumbers script at) k (omega (arith, b .four)) ∙ ap (λ (ts : List ℕ). getD ts v 0) (w .reports))
-          ∙ type-reported c (w .full) v (block-small k) (block-binds (item-here .inRoot) v there)
+          ∙ type-reported (c .root) (c .types) (w .full) v (block-small k) (block-binds (item-here .inRoot) v there)
 
       ready : Ready (c .schema) (typeAt (c .types)) (s .store .terms) (s .control .bindings) (variablesOf bs) q
       ready = block-ready c (w .here .accepted) s (w .here .sound) (item-here .inRoot) (item-here .bound)

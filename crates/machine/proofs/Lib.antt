@@ -1,12 +1,3 @@
-pub mod Saved
-pub mod Binding
-pub mod Filling
-pub mod Clean
-pub mod QuadLaws
-pub mod TermLaws
-pub mod TakeLaws
-pub mod PageLaws
-pub mod DoneLaws
 pub mod StepLaws
 pub mod AnswerLaws
 pub mod RunLaws

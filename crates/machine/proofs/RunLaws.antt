@@ -25,18 +25,18 @@ use Rattle.definitions.specs.declared.RunState.{RunState}
 use Rattle.definitions.specs.declared.RunState.the-variants.{Ended, Spent}
 use Rattle.definitions.specs.declared.SavedItem.{SavedItem}
 use Rattle.definitions.specs.declared.SavedRun.{SavedRun}
-use Rattle.laws.proofs.Fine.{fine-ok}
+use Rattle.laws.proofs.NoFault.{fine-ok}
 use Rattle.laws.proofs.RunStore.{next-keeps}
-use Rattle.laws.proofs.ScriptReads.{ReadsAs}
-use Rattle.laws.proofs.Sound.{Sound}
+use Rattle.laws.specs.ScriptReads.{ReadsAs}
+use Rattle.laws.specs.Sound.{Sound}
 use Rattle.safety.proofs.StepSound.{NextSound, next-sound}
-use Rattle.query.specs.Codes.{rowsFrom}
+use Rattle.laws.specs.Quads.{rowsFrom}
 use Rattle.machine.specs.declared.Stepped.{Stepped}
 use Rattle.machine.specs.declared.Stopped.{Stopped}
-use Rattle.machine.specs.Stack.{topOf}
+use Rattle.store.specs.Stack.{topOf}
 use Rattle.machine.specs.Steps.{Standing, OnTop, answerOf, standsAt, steppedOf, EntersOnce, EntersEach}
 use Rattle.machine.specs.Running.{Lends, Top, onTop, eachOn, ActsNow, AnswersNow, StepOf, LookOf, RunOf}
-use Rattle.machine.proofs.Saved.{saved-top}
+use Rattle.store.proofs.RunStates.{saved-top}
 use Rattle.machine.proofs.StepLaws.{ok-is, run-is, room, height-is, item-facts, top, inside, Blocked, blocked}
 
 false-not-true : false ≡ true → ⊥

@@ -16,14 +16,14 @@ use Rattle.definitions.specs.Calls as Calls
 use Rattle.definitions.specs.Calls.{Lent}
 use Rattle.definitions.specs.declared.SavedRun.{SavedRun}
 use Rattle.laws.proofs.Options.{provided-inv, some-is}
-use Rattle.laws.proofs.Sorts.{least}
+use Rattle.laws.specs.Sorts.{least}
 use Rattle.laws.proofs.Check.{Passed, check-passed, script-fits, types-length}
 use Rattle.laws.proofs.Saved.{Holding, held-inv}
 use Rattle.laws.proofs.SoundIn.{SoundIn, is-accepted}
-use Rattle.query.specs.Codes.{rowsFrom}
-use Rattle.machine.specs.Canonical.{canonicalOf}
+use Rattle.laws.specs.Quads.{rowsFrom}
+use Rattle.store.specs.Canonical.{canonicalOf}
 use Rattle.machine.specs.Running.{Lends}
-use Rattle.machine.proofs.Clean.{canonical-is}
+use Rattle.store.proofs.CanonicalLaws.{canonical-is}
 
 -- the saved run without what means nothing
 module _ (l : Lent) (saved : SavedRun) (x : Calls.Sound) (h : SoundIn l saved x) (run : SavedRun) (clean : run ≡ canonicalOf (l .script) saved) where
@@ -43,7 +43,7 @@ module _ (l : Lent) (saved : SavedRun) (x : Calls.Sound) (h : SoundIn l saved x)
       → run ≡ savedOf (run .types) (x .state)
   saved-here sixteen places levels =
       clean
-      ∙ (canonical-is (length (x .checked .terms)) (l .script) (x .checked .root) (loads-here .parses) (l .termTable) (l .quadTable) saved (x .state)
+      ∙ (canonical-is (length (x .checked .terms)) (l .script) (x .checked .root) (loads-here .reads .parses) (l .termTable) (l .quadTable) saved (x .state)
       sixteen places levels holds-here
       ∙ ap (λ (ts : List ℕ). savedOf ts (x .state)) (sym types-here))
 
@@ -69,11 +69,11 @@ module _ (l : Lent) (saved : SavedRun) (x : Calls.Sound) (h : SoundIn l saved x)
           state = x .state;
           accepted = is-accepted l saved x h;
           short = script-fits (l .terms) (l .schema) (l .script) (x .checked) loads-here;
-          reads = ap (λ (n : ℕ). parsed n (l .script)) (sym e) ∙ loads-here .parses;
+          reads = ap (λ (n : ℕ). parsed n (l .script)) (sym e) ∙ loads-here .reads .parses;
           sound = h .sound;
           saved = saved-here sixteen places levels;
         };
-        scope = loads-here .scope;
+        scope = loads-here .reads .scope;
         full = types-length (l .terms) (l .schema) (l .script) (x .checked) loads-here;
         reports = types-here ∙ h .types;
         tabled = holds-here .terms;

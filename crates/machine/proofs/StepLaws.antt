@@ -28,24 +28,28 @@ use Rattle.definitions.specs.declared.SavedRun.{SavedRun}
 use Rattle.definitions.specs.declared.RunState.the-variants.{Wanted, Waiting}
 use Rattle.laws.proofs.Tests.{andLeft, andRight}
 use Rattle.laws.proofs.Options.{some-not-none, pair-is, provided-inv}
-use Rattle.laws.proofs.All.{All}
+use Rattle.laws.specs.Lists.{All}
 use Rattle.laws.proofs.Places.{place-found}
 use Rattle.laws.proofs.Reading.{script-none, byte-out, row-keys}
-use Rattle.laws.proofs.More.{name-more, query-more, script-more}
+use Rattle.laws.proofs.Levels.{name-more, query-more, script-more}
 use Rattle.laws.proofs.ReadBounds.{script-within, binders-bounded}
-use Rattle.laws.proofs.Saved.{stack-low, graphs-few, at-variable}
+use Rattle.laws.proofs.Saved.{stack-low, graphs-few}
+use Rattle.laws.proofs.Variables.{at-variable}
 use Rattle.laws.proofs.Ranges.{split}
-use Rattle.laws.proofs.ScriptReads.{ReadsAs, NamedAt, BlockAt, SequenceAt, script-reads, parsed-reads, ReadAt}
-use Rattle.laws.proofs.Sound.{BindersBounded}
+use Rattle.laws.specs.ScriptReads.{ReadsAs, NamedAt, BlockAt, SequenceAt}
+use Rattle.laws.proofs.ScriptReads.{script-reads, parsed-reads, ReadAt}
+use Rattle.laws.specs.Sound.{BindersBounded}
 use Rattle.laws.proofs.SoundMeans.{ItemFacts, StackFacts, facts}
-use Rattle.reader.specs.Next.{nextOf}
-use Rattle.reader.specs.declared.Read.{Read}
-use Rattle.reader.specs.declared.Read.the-variants as Reads
+use Rattle.laws.specs.ReadAnswers.{nextOf}
+use Rattle.definitions.specs.declared.Read.{Read}
+use Rattle.definitions.specs.declared.Read.the-variants as Reads
 use Rattle.machine.specs.declared.Stepped.{Stepped}
-use Rattle.machine.specs.Stack.{pushed, popped, replaced, freshItem, fetchedIn, pairVariables, boundAll}
+use Rattle.store.specs.Stack.{pushed, popped, replaced, freshItem, fetchedIn, boundAll}
+use Rattle.laws.specs.Pairs.{pairVariables}
 use Rattle.machine.specs.Steps.{movedTo, standsAt, steppedOf, OnTop, Acts, NameReads, NumberOf, BlockReads, BodyAt, answerOf, EntersOnce, EntersEach}
-use Rattle.machine.proofs.Saved.{saved-push, saved-pop, saved-replace, fresh-is, withBindings}
-use Rattle.machine.proofs.Binding.{pair-variables, saved-bind-all}
+use Rattle.store.proofs.RunStates.{saved-push, saved-pop, saved-replace, fresh-is, withBindings}
+use Rattle.laws.proofs.Pairs.{pair-variables}
+use Rattle.store.proofs.BindLaws.{saved-bind-all}
 
 -- ── what the code reads ─────────────────────────────────────────────────────────────────────
 

@@ -20,8 +20,8 @@ use Rattle.definitions.specs.Saved.{offsetOf, savedOf, termsIn}
 use Rattle.definitions.specs.Calls.{reported}
 use Rattle.definitions.specs.declared.RunState.{RunState}
 use Rattle.definitions.specs.declared.SavedRun.{SavedRun}
-use Rattle.laws.proofs.Sorts.{least}
-use Rattle.query.specs.Codes.{rowsFrom}
+use Rattle.laws.specs.Sorts.{least}
+use Rattle.laws.specs.Quads.{rowsFrom}
 use Rattle.machine.specs.declared.Stepped.{Stepped}
 use Rattle.machine.specs.declared.Stopped.{Stopped}
 use Rattle.machine.specs.Steps.{Standing, OnTop, answerOf, steppedOf}

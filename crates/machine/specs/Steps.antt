@@ -20,8 +20,8 @@ use Rattle.definitions.specs.Calls.{Checked}
 use Rattle.definitions.specs.declared.SavedRun.{SavedRun}
 use Rattle.definitions.specs.declared.RunState.{RunState}
 use Rattle.definitions.specs.declared.RunState.the-variants.{Spent}
-use Rattle.laws.proofs.Sound.{Accepted, Sound}
-use Rattle.laws.proofs.ScriptReads.{BlockAt}
+use Rattle.laws.specs.Sound.{Accepted, Sound}
+use Rattle.laws.specs.ScriptReads.{BlockAt}
 use Rattle.machine.specs.declared.Stepped.{Stepped}
 
 -- ── what a step says ────────────────────────────────────────────────────────────────────────

@@ -1,18 +1,23 @@
 // A block's answer: what the search is given, and what it finds.
 use crate::Answered;
-use crate::stack::index;
-use crate::stack::top;
 use definitions::SavedRun;
-use query::Block;
 use query::FREE;
-use query::answer::answer;
+use search::Block;
+use search::answer::answer;
+use store::stack::index;
+use store::stack::top;
 ghost use mathlib.Core.Path.{_≡_};
 ghost use mathlib.Core.Bool.{cond};
 ghost use Prim.Native.Nat.{ℕ, _+_, _≤_, _<_};
 ghost use lib.ListN.{length, getD};
-ghost use Rattle.definitions.specs.Bytes.{byte};
+ghost use Rattle.definitions.specs.Bytes.{byte, past};
 ghost use Rattle.machine.specs.Answers.{knownOf, pairNumbers, typesOf, fourOf, blockOf, shortNumber, shortNumbers};
 ghost use Rattle.machine.specs.Running.{Lends, Top, AnswersNow};
+ghost use Rattle.definitions.specs.Limits.{blockWidth, variableLimit};
+use definitions::DEPTH_LIMIT;
+use definitions::PAIR_LIMIT;
+use definitions::QUERY_OFFSET;
+use definitions::VARIABLES;
 
 // The number of a bound variable's term; none where it is not bound.
 fn code_of(bound: bool, number: u16) -> usize
@@ -22,12 +27,12 @@ fn code_of(bound: bool, number: u16) -> usize
 }
 
 // What is known of the 16 variables.
-fn known_of(bound: [bool; 16], bindings: [u16; 16]) -> [usize; 16]
+fn known_of(bound: [bool; VARIABLES], bindings: [u16; VARIABLES]) -> [usize; VARIABLES]
     ensures { λ r. ⌜ r ≡ knownOf bound bindings ⌝ }
 {
-    let mut known = [FREE; 16];
+    let mut known = [FREE; VARIABLES];
     let mut v = 0;
-    while v < 16 {
+    while v < VARIABLES {
         known[v] = code_of(bound[v], bindings[v]);
         v += 1;
     }
@@ -35,8 +40,8 @@ fn known_of(bound: [bool; 16], bindings: [u16; 16]) -> [usize; 16]
 }
 
 // The variables of a block's four pairs, of which the unused are zero.
-fn pair_numbers(script: &[u8], at: usize) -> [usize; 4]
-    requires { ⌜ at + 11 ≤ length (now script) ⌝ }
+fn pair_numbers(script: &[u8], at: usize) -> [usize; PAIR_LIMIT]
+    requires { ⌜ past at blockWidth ≤ length (now script) ⌝ }
     ensures { λ r. ⌜ r ≡ pairNumbers (now (script .entry)) at ⌝ }
 {
     let first = at + 3;
@@ -51,8 +56,8 @@ fn pair_numbers(script: &[u8], at: usize) -> [usize; 4]
 }
 
 // The reported types of four variables.
-fn types_of(types: [u8; 16], vars: [usize; 4]) -> [u8; 4]
-    requires { ⌜ ((k : ℕ) → getD vars k 0 < 16) ⌝ }
+fn types_of(types: [u8; VARIABLES], vars: [usize; PAIR_LIMIT]) -> [u8; PAIR_LIMIT]
+    requires { ⌜ ((k : ℕ) → getD vars k 0 < variableLimit) ⌝ }
     ensures { λ r. ⌜ r ≡ typesOf types vars ⌝ }
 {
     let a = vars[0];
@@ -73,7 +78,7 @@ fn wide_number(n: u16) -> usize
 }
 
 // Four numbers as the search counts them.
-fn wide_numbers(numbers: [u16; 4]) -> [usize; 4]
+fn wide_numbers(numbers: [u16; PAIR_LIMIT]) -> [usize; PAIR_LIMIT]
     ensures { λ r. ⌜ r ≡ fourOf numbers ⌝ }
 {
     let a = wide_number(numbers[0]);
@@ -90,7 +95,7 @@ fn short_number(n: usize) -> u16
     if n < 65536 { n as u16 } else { 0 }
 }
 
-fn short_numbers(numbers: [usize; 4]) -> [u16; 4]
+fn short_numbers(numbers: [usize; PAIR_LIMIT]) -> [u16; PAIR_LIMIT]
     ensures { λ r. ⌜ r ≡ shortNumbers numbers ⌝ }
 {
     let a = short_number(numbers[0]);
@@ -101,12 +106,12 @@ fn short_numbers(numbers: [usize; 4]) -> [u16; 4]
 }
 
 // The block at an offset as the search sees it.
-fn block_of(script: &[u8], at: usize, reported: [u8; 16], used: [u16; 4]) -> Block
-    requires { ⌜ at + 11 ≤ length (now script) ⌝ }
-    requires { ⌜ ((k : ℕ) → getD (pairNumbers (now script) at) k 0 < 16) ⌝ }
+fn block_of(script: &[u8], at: usize, reported: [u8; VARIABLES], used: [u16; PAIR_LIMIT]) -> Block
+    requires { ⌜ past at blockWidth ≤ length (now script) ⌝ }
+    requires { ⌜ ((k : ℕ) → getD (pairNumbers (now script) at) k 0 < variableLimit) ⌝ }
     ensures { λ r. ⌜ r ≡ blockOf (now (script .entry)) at reported used ⌝ }
 {
-    let query = at + 11;
+    let query = at + QUERY_OFFSET;
     let second = at + 2;
     let size = index(script[second]);
     let vars = pair_numbers(script, at);
@@ -114,7 +119,7 @@ fn block_of(script: &[u8], at: usize, reported: [u8; 16], used: [u16; 4]) -> Blo
     let last = wide_numbers(used);
     Block {
         at: query,
-        left: 24,
+        left: DEPTH_LIMIT,
         size,
         vars,
         types,

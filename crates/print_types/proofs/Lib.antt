@@ -1,6 +1,6 @@
--- What the proofs of several functions use.
-pub mod Ends
-pub mod Parts
+-- In this order: where the parts of the input end, the parts, what writing leaves, the texts by their codes, and last all that is printed.
+pub mod EndLaws
+pub mod PartLaws
 pub mod Writing
 pub mod Texts
 pub mod Printed

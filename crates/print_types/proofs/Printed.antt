@@ -1,11 +1,9 @@
 -- What is printed of a check's result, by its number and the reported types.
-use Prim.Native.Nat.{ℕ, zero, suc, _+_, _-_, _≤_, _<_, min}
+use Prim.Native.Nat.{ℕ, zero, suc, _-_, _≤_, _<_, min}
 use native.Mathlib.Omega.{arith}
 use mathlib.Core.Path.{_≡_, refl, sym, ap, ap₂, _∙_}
-use mathlib.Core.Bool.{_&&_}
 use mathlib.Core.List.{List, [], _∷_, _++_}
 use mathlib.Core.Option.{Option, none, some}
-use lib.Dec.{leb}
 use lib.ListN.{length, take, drop}
 use borrow.Author.Tests.{le-leb, lt-leb}
 use Rattle.definitions.specs.Limits.{printerLimit}
@@ -13,22 +11,20 @@ use Rattle.definitions.specs.Lists.{distinct}
 use Rattle.definitions.specs.Ascii.{ascii}
 use Rattle.definitions.specs.Types.{Datatype, Ty, plain, range, typeCode}
 use Rattle.definitions.specs.Terms.{Term, Schema, readTerms, readSchema, sameTerm, sameProperty}
-use Rattle.definitions.specs.Tree.{Script}
 use Rattle.definitions.specs.Reading.{parsed}
 use Rattle.definitions.specs.Scope.{inScope}
 use Rattle.definitions.specs.Typing.{Written, unbound, undecided, fixed, writtenTypes, Verdict, noTyping, noGreatest, greatest, verdict}
 use Rattle.definitions.specs.Values.{naturalText}
 use Rattle.definitions.specs.Machine.{withProperties}
-use Rattle.definitions.specs.Result.{Result, refused, passed, _>>=_, _>>_, require, given}
-use Rattle.definitions.specs.Calls.{Checked, check, constantsOf, typesOf, sizesFit, reportedTypes, reported}
-use Rattle.definitions.specs.Printer.{line, datatypeName, typeName, typeLines, counted, boundCount, printedResult, printed}
-use Rattle.definitions.specs.Printer.{entryWidth, endFrom, termsEnd, schemaEnd, termsPart, schemaPart, scriptPart}
+use Rattle.definitions.specs.Result.{Result, refused, passed, _>>=_, given}
+use Rattle.definitions.specs.Calls.{Checked, recordTests, scriptTests, readTests, typeTests, check, constantsOf, typesOf, sizesFit, reportedTypes}
+use Rattle.definitions.specs.Printer.{line, datatypeName, typeName, typeLines, boundCount, printedResult, printed, entryBody, endFrom, termsEnd, schemaEnd, termsPart, schemaPart, scriptPart}
 use Rattle.laws.proofs.Refusing.{by-require}
 use Rattle.laws.proofs.Check.{check-passed, types-length, variable-count}
 use Rattle.print_types.specs.Lines.{datatypeText, typeText, variableLine, boundLine, boundLines, counts, boundOnes, cardText}
-use Rattle.engine.specs.Check.{cardOf}
-use Rattle.engine.specs.declared.card.Card.{Card}
-use Rattle.print_types.proofs.Parts.{first-part, second-part, last-part}
+use Rattle.card.specs.Check.{cardOf}
+use Rattle.card.specs.declared.refusals.Card.{Card}
+use Rattle.print_types.proofs.PartLaws.{first-part, second-part, last-part}
 
 -- ── a type by its code ──────────────────────────────────────────────────────────────────────
 
@@ -110,18 +106,32 @@ by-types noTyping f = λ e. omega (arith, e)
 by-types noGreatest f = λ e. omega (arith, e)
 by-types (greatest Γ) f = tt
 
-check-named : (terms schema script : List ℕ) → Named (check terms schema script)
-unfolding check
-check-named terms schema script =
+by-bind : {A B : Type 0} (m : Result A) (f : A → Result B) → Named m → ((a : A) → Named (f a)) → Named (m >>= f)
+unfolding _>>=_
+by-bind (refused n) f h k = h
+by-bind (passed a) f h k = k a
+
+records-named : (terms schema : List ℕ) → Named (recordTests terms schema)
+unfolding recordTests
+records-named terms schema =
     by-given 2 (readTerms terms) _ (λ e. omega (arith, e)) λ listed.
     by-require Named 3 (distinct sameTerm listed) _ (λ e. omega (arith, e))
-    (by-given 4 (readSchema schema) _ (λ e. omega (arith, e)) λ S.
-    by-require Named 5 (distinct sameProperty S) _ (λ e. omega (arith, e))
-    (by-require Named 6 (sizesFit (withProperties S listed) S script) _ (λ e. omega (arith, e))
-    (by-given 6 (parsed (length (withProperties S listed)) script) _ (λ e. omega (arith, e)) λ root.
-    by-require Named 7 (inScope root) _ (λ e. omega (arith, e))
-    (by-types (verdict (constantsOf S (withProperties S listed)) (writtenTypes root) root)
-    (λ Γ. record { schema = S; terms = withProperties S listed; root = root; types = Γ })))))
+    (by-given 4 (readSchema schema) _ (λ e. omega (arith, e)) λ S. by-require Named 5 (distinct sameProperty S) _ (λ e. omega (arith, e)) tt)
+
+script-named : (terms : List Term) (S : Schema) (script : List ℕ) → Named (scriptTests terms S script)
+unfolding scriptTests
+script-named terms S script =
+    by-require Named 6 (sizesFit terms S script) _ (λ e. omega (arith, e))
+    (by-given 6 (parsed (length terms) script) _ (λ e. omega (arith, e)) λ root. by-require Named 7 (inScope root) _ (λ e. omega (arith, e)) tt)
+
+check-named : (terms schema script : List ℕ) → Named (check terms schema script)
+unfolding check readTests typeTests
+check-named terms schema script =
+    by-bind (readTests terms schema script) typeTests
+    (by-bind (recordTests terms schema) _ (records-named terms schema) λ l.
+    by-bind (scriptTests (withProperties (l .schema) (l .terms)) (l .schema) script) _ (script-named (withProperties (l .schema) (l .terms)) (l .schema) script) λ root. tt)
+    (λ x. by-types (verdict (constantsOf (x .schema) (x .terms)) (writtenTypes (x .root)) (x .root))
+    (λ Γ. record { schema = x .schema; terms = x .terms; root = x .root; types = Γ }))
 
 -- ── the whole ───────────────────────────────────────────────────────────────────────────────
 
@@ -139,12 +149,12 @@ unfolding printed printedResult cardText
 too-long s codes h = sym (rw (printed, lt-leb (length s) printerLimit h))
 
 -- the parts as the code cuts them
-pub parts-checked : (s : List ℕ) {a b first second : ℕ} → first ≡ termsEnd s → second ≡ endFrom entryWidth (length s) s first → a ≡ min first (length s)
+pub parts-checked : (s : List ℕ) {a b first second : ℕ} → first ≡ termsEnd s → second ≡ endFrom entryBody (length s) s first → a ≡ min first (length s)
     → b ≡ min second (length s)
     → check (take (a - 0) (drop 0 s)) (take (b - a) (drop a s)) (take (length s - b) (drop b s)) ≡ check (termsPart s) (schemaPart s) (scriptPart s)
 unfolding schemaEnd
 parts-checked s {a} {b} {first} {second} e k cut end =
-    let m : second ≡ schemaEnd s = k ∙ ap (endFrom entryWidth (length s) s) e in
+    let m : second ≡ schemaEnd s = k ∙ ap (endFrom entryBody (length s) s) e in
     let one = first-part s first second cut end ∙ ap (λ (n : ℕ). take n s) e in
     let two = second-part s first second cut end ∙ (λ i. drop (e i) (take (m i) s)) in
     let three = last-part s first second cut end ∙ ap (λ (n : ℕ). drop n s) m in

@@ -1,5 +1,5 @@
 -- The texts of the lines: digits, names, and a line after the other.
-use Prim.Native.Nat.{ℕ, zero, suc, _+_, _-_, _*_, _/_, _%_, _≤_, _<_}
+use Prim.Native.Nat.{ℕ, zero, suc, _+_, _-_, _/_, _%_, _≤_, _<_}
 use native.Mathlib.Omega.{arith}
 use native.Mathlib.Numerals.{add-one}
 use mathlib.Core.Path.{_≡_, refl, sym, ap, _∙_}
@@ -10,36 +10,36 @@ use borrow.Author.Tests.{lt-ltb, le-ltb, ne-eqb}
 use Rattle.definitions.specs.Ascii.{ascii}
 use Rattle.definitions.specs.Values.{shortDigits, naturalText}
 use Rattle.definitions.specs.Printer.{line}
-use Rattle.print_types.proofs.Parts.{drop-out}
+use Rattle.print_types.proofs.PartLaws.{drop-out}
 use Rattle.print_types.specs.Lines.{datatypeText, typeText, variableLine, boundLine, boundLines, counts, boundOnes, cardText}
 
 -- ── digits ──────────────────────────────────────────────────────────────────────────────────
 
-short-one : (left n : ℕ) → n < 10 → shortDigits (suc left) n ≡ (48 + n) ∷ []
+short-one : (left n : ℕ) → n < 10 → shortDigits (suc left) n ≡ (0x30 + n) ∷ []
 unfolding shortDigits
 short-one left n h = rw (shortDigits, lt-ltb n 10 h)
 
-short-more : (left n : ℕ) → 10 ≤ n → shortDigits (suc left) n ≡ shortDigits left (n / 10) ++ ((48 + n % 10) ∷ [])
+short-more : (left n : ℕ) → 10 ≤ n → shortDigits (suc left) n ≡ shortDigits left (n / 10) ++ ((0x30 + n % 10) ∷ [])
 unfolding shortDigits
 short-more left n h = rw (shortDigits, le-ltb n 10 h)
 
-pub one-digit : (n : ℕ) → n < 10 → (48 + n) ∷ [] ≡ naturalText n
+pub one-digit : (n : ℕ) → n < 10 → (0x30 + n) ∷ [] ≡ naturalText n
 unfolding naturalText
 one-digit n h = sym (short-one 19 n h)
 
-pub two-digits : (n : ℕ) → 10 ≤ n → n < 100 → ((48 + n / 10) ∷ []) ++ ((48 + n % 10) ∷ []) ≡ naturalText n
+pub two-digits : (n : ℕ) → 10 ≤ n → n < 100 → ((0x30 + n / 10) ∷ []) ++ ((0x30 + n % 10) ∷ []) ≡ naturalText n
 unfolding naturalText
 two-digits n low high =
-    sym (short-more 19 n low ∙ ap (λ (t : List ℕ). t ++ ((48 + n % 10) ∷ [])) (short-one 18 (n / 10) (omega arith)))
+    sym (short-more 19 n low ∙ ap (λ (t : List ℕ). t ++ ((0x30 + n % 10) ∷ [])) (short-one 18 (n / 10) (omega arith)))
 
-pub three-digits : (n : ℕ) → 100 ≤ n → n < 256 → (((48 + n / 100) ∷ []) ++ ((48 + n / 10 % 10) ∷ [])) ++ ((48 + n % 10) ∷ []) ≡ naturalText n
+pub three-digits : (n : ℕ) → 100 ≤ n → n < 256 → (((0x30 + n / 100) ∷ []) ++ ((0x30 + n / 10 % 10) ∷ [])) ++ ((0x30 + n % 10) ∷ []) ≡ naturalText n
 unfolding naturalText
 three-digits n low high =
     let first : n / 10 / 10 ≡ n / 100 = omega arith in
-    let two : shortDigits 19 (n / 10) ≡ ((48 + n / 100) ∷ []) ++ ((48 + n / 10 % 10) ∷ []) =
-    short-more 18 (n / 10) (omega arith) ∙ ap (λ (t : List ℕ). t ++ ((48 + n / 10 % 10) ∷ []))
-    (short-one 17 (n / 10 / 10) (omega arith) ∙ ap (λ (k : ℕ). (48 + k) ∷ []) first) in
-    sym (short-more 19 n (omega arith) ∙ ap (λ (t : List ℕ). t ++ ((48 + n % 10) ∷ [])) two)
+    let two : shortDigits 19 (n / 10) ≡ ((0x30 + n / 100) ∷ []) ++ ((0x30 + n / 10 % 10) ∷ []) =
+    short-more 18 (n / 10) (omega arith) ∙ ap (λ (t : List ℕ). t ++ ((0x30 + n / 10 % 10) ∷ []))
+    (short-one 17 (n / 10 / 10) (omega arith) ∙ ap (λ (k : ℕ). (0x30 + k) ∷ []) first) in
+    sym (short-more 19 n (omega arith) ∙ ap (λ (t : List ℕ). t ++ ((0x30 + n % 10) ∷ [])) two)
 
 -- ── names ───────────────────────────────────────────────────────────────────────────────────
 

@@ -1,14 +1,37 @@
 -- The printer's lines by the codes of the reported types, 0 for a variable that no pair binds; and what writing a text leaves.
-use Prim.Native.Nat.{ℕ, zero, suc, _+_, _-_}
+use Prim.Native.Nat.{ℕ, zero, suc, _+_, _-_, _*_}
 use mathlib.Core.Path.{_≡_}
 use mathlib.Core.List.{List, [], _∷_, _++_}
 use mathlib.Core.Bool.{true, false}
-use lib.Dec.{eqb, ltb}
+use lib.Dec.{ltb}
 use lib.ListN.{length, take, drop}
+use Rattle.definitions.specs.Limits.{variableLimit}
 use Rattle.definitions.specs.Ascii.{ascii}
 use Rattle.definitions.specs.Bytes.{row}
 use Rattle.definitions.specs.Values.{naturalText}
 use Rattle.definitions.specs.Printer.{line}
+
+-- the most bytes that a number takes, a datatype, a type, a variable's line, all of these, the first line, and all that is printed
+abbrev pub numberRoom : ℕ
+numberRoom = 3
+
+abbrev pub datatypeRoom : ℕ
+datatypeRoom = 12
+
+abbrev pub typeRoom : ℕ
+typeRoom = datatypeRoom + 7
+
+abbrev pub lineRoom : ℕ
+lineRoom = numberRoom + 1 + typeRoom + 1
+
+abbrev pub linesRoom : ℕ
+linesRoom = variableLimit * lineRoom
+
+abbrev pub firstRoom : ℕ
+firstRoom = 9 + numberRoom + 1
+
+abbrev pub outputRoom : ℕ
+outputRoom = firstRoom + linesRoom
 
 -- a text stands from an offset on, and nothing else has changed; r is the offset after it
 pub record Written (text old new : List ℕ) (at r : ℕ) : Type 0 where

@@ -1,10 +1,26 @@
 // The printer's lines, written one after the other.
+use definitions::VARIABLES;
 ghost use mathlib.Core.Path.{_≡_};
 ghost use mathlib.Core.List.{[], _∷_};
 ghost use Prim.Native.Nat.{_+_, _*_, _≤_, _<_};
 ghost use lib.ListN.{length};
+ghost use Rattle.definitions.specs.Limits.{variableLimit};
 ghost use Rattle.definitions.specs.Values.{naturalText};
+ghost use Rattle.print_types.specs.Lines.{numberRoom, datatypeRoom, typeRoom, lineRoom, linesRoom, outputRoom};
 ghost use Rattle.print_types.specs.Lines.{Written, datatypeText, typeText, variableLine, boundLine, boundLines, counts, boundOnes, cardText};
+
+// The most bytes that a number takes, a datatype, a type, a variable's line, the first line, and all that is printed.
+const NUMBER_ROOM: usize = 3;
+
+const DATATYPE_ROOM: usize = 12;
+
+const TYPE_ROOM: usize = DATATYPE_ROOM + 7;
+
+const LINE_ROOM: usize = NUMBER_ROOM + 1 + TYPE_ROOM + 1;
+
+const FIRST_ROOM: usize = 9 + NUMBER_ROOM + 1;
+
+pub const OUTPUT_ROOM: usize = FIRST_ROOM + VARIABLES * LINE_ROOM;
 
 fn put_text(text: &[u8], out: &mut [u8], at: usize) -> usize
     requires { ⌜ at + length (now text) ≤ length (now out) ⌝ }
@@ -25,27 +41,27 @@ fn put_byte(b: u8, out: &mut [u8], at: usize) -> usize
 
 // A number's digits, with no zero in front.
 fn put_number(n: u8, out: &mut [u8], at: usize) -> usize
-    requires { ⌜ at + 3 ≤ length (now out) ⌝ }
+    requires { ⌜ at + numberRoom ≤ length (now out) ⌝ }
     ensures { λ r. ⌜ Written (naturalText n) (now (out .entry)) (now (out .exit)) at r ⌝ }
-    ensures { λ r. ⌜ r ≤ at + 3 ⌝ }
+    ensures { λ r. ⌜ r ≤ at + numberRoom ⌝ }
 {
     if n < 10 {
-        return put_byte(48 + n, out, at);
+        return put_byte(b'0' + n, out, at);
     }
     if n < 100 {
-        let a = put_byte(48 + n / 10, out, at);
-        return put_byte(48 + n % 10, out, a);
+        let a = put_byte(b'0' + n / 10, out, at);
+        return put_byte(b'0' + n % 10, out, a);
     }
-    let a = put_byte(48 + n / 100, out, at);
-    let b = put_byte(48 + n / 10 % 10, out, a);
-    put_byte(48 + n % 10, out, b)
+    let a = put_byte(b'0' + n / 100, out, at);
+    let b = put_byte(b'0' + n / 10 % 10, out, a);
+    put_byte(b'0' + n % 10, out, b)
 }
 
 // A datatype by its code.
 fn put_datatype(code: u8, out: &mut [u8], at: usize) -> usize
-    requires { ⌜ at + 12 ≤ length (now out) ⌝ }
+    requires { ⌜ at + datatypeRoom ≤ length (now out) ⌝ }
     ensures { λ r. ⌜ Written (datatypeText code) (now (out .entry)) (now (out .exit)) at r ⌝ }
-    ensures { λ r. ⌜ r ≤ at + 12 ⌝ }
+    ensures { λ r. ⌜ r ≤ at + datatypeRoom ⌝ }
 {
     match code {
         1 => put_text(b"xsd:anyURI", out, at),
@@ -59,9 +75,9 @@ fn put_datatype(code: u8, out: &mut [u8], at: usize) -> usize
 
 // A type by its code.
 fn put_type(code: u8, out: &mut [u8], at: usize) -> usize
-    requires { ⌜ at + 19 ≤ length (now out) ⌝ }
+    requires { ⌜ at + typeRoom ≤ length (now out) ⌝ }
     ensures { λ r. ⌜ Written (typeText code) (now (out .entry)) (now (out .exit)) at r ⌝ }
-    ensures { λ r. ⌜ r ≤ at + 19 ⌝ }
+    ensures { λ r. ⌜ r ≤ at + typeRoom ⌝ }
 {
     if code < 9 {
         return put_datatype(code, out, at);
@@ -73,9 +89,9 @@ fn put_type(code: u8, out: &mut [u8], at: usize) -> usize
 
 // Variable number and type.
 fn put_variable(v: u8, code: u8, out: &mut [u8], at: usize) -> usize
-    requires { ⌜ at + 24 ≤ length (now out) ⌝ }
+    requires { ⌜ at + lineRoom ≤ length (now out) ⌝ }
     ensures { λ r. ⌜ Written (variableLine v code) (now (out .entry)) (now (out .exit)) at r ⌝ }
-    ensures { λ r. ⌜ r ≤ at + 24 ⌝ }
+    ensures { λ r. ⌜ r ≤ at + lineRoom ⌝ }
 {
     let a = put_number(v, out, at);
     let b = put_byte(b' ', out, a);
@@ -85,9 +101,9 @@ fn put_variable(v: u8, code: u8, out: &mut [u8], at: usize) -> usize
 
 // Nothing of a variable that no pair binds.
 fn put_bound(v: u8, code: u8, out: &mut [u8], at: usize) -> usize
-    requires { ⌜ at + 24 ≤ length (now out) ⌝ }
+    requires { ⌜ at + lineRoom ≤ length (now out) ⌝ }
     ensures { λ r. ⌜ Written (boundLine v code) (now (out .entry)) (now (out .exit)) at r ⌝ }
-    ensures { λ r. ⌜ r ≤ at + 24 ⌝ }
+    ensures { λ r. ⌜ r ≤ at + lineRoom ⌝ }
 {
     if code == 0 {
         return at;
@@ -97,10 +113,10 @@ fn put_bound(v: u8, code: u8, out: &mut [u8], at: usize) -> usize
 
 // A line for each variable that a pair binds, by number.
 fn put_lines(codes: &[u8], out: &mut [u8], from: usize) -> usize
-    requires { ⌜ length (now codes) ≡ 16 ⌝ }
-    requires { ⌜ from + 384 ≤ length (now out) ⌝ }
+    requires { ⌜ length (now codes) ≡ variableLimit ⌝ }
+    requires { ⌜ from + linesRoom ≤ length (now out) ⌝ }
     ensures { λ r. ⌜ Written (boundLines 0 (now (codes .entry))) (now (out .entry)) (now (out .exit)) from r ⌝ }
-    ensures { λ r. ⌜ r ≤ from + 384 ⌝ }
+    ensures { λ r. ⌜ r ≤ from + linesRoom ⌝ }
 {
     let mut at = from;
     let mut i = 0;
@@ -121,7 +137,7 @@ fn one_if(code: u8) -> u8
 
 // How many variables are bound by pairs, used or not.
 fn bound_ones(codes: &[u8]) -> u8
-    requires { ⌜ length (now codes) ≡ 16 ⌝ }
+    requires { ⌜ length (now codes) ≡ variableLimit ⌝ }
     ensures { λ r. ⌜ r ≡ boundOnes (now (codes .entry)) ⌝ }
 {
     let mut n = 0;
@@ -136,10 +152,10 @@ fn bound_ones(codes: &[u8]) -> u8
 // What is printed of a refusal's number, 0 for none, and of the reported types.
 // Ruled out: the number of a refusal that did not come; a count of used variables only.
 pub fn put_card(refusal: u8, codes: &[u8], out: &mut [u8]) -> usize
-    requires { ⌜ length (now codes) ≡ 16 ⌝ }
-    requires { ⌜ length (now out) ≡ 512 ⌝ }
+    requires { ⌜ length (now codes) ≡ variableLimit ⌝ }
+    requires { ⌜ length (now out) ≡ outputRoom ⌝ }
     ensures { λ r. ⌜ Written (cardText refusal (now (codes .entry))) (now (out .entry)) (now (out .exit)) 0 r ⌝ }
-    ensures { λ r. ⌜ r ≤ 512 ⌝ }
+    ensures { λ r. ⌜ r ≤ outputRoom ⌝ }
 {
     if refusal != 0 {
         let a = put_text(b"refused ", out, 0);

@@ -4,9 +4,9 @@ mod printing;
 mod splitting;
 
 fn main() {
-    let mut input = [0u8; 32513];
+    let mut input = [0u8; printing::INPUT_WIDTH];
     let n = io::read_full(libc::STDIN_FILENO, &mut input);
-    let mut out = [0u8; 512];
+    let mut out = [0u8; lines::OUTPUT_ROOM];
     let end = printing::print(&input[..n], &mut out);
     io::write_all(libc::STDOUT_FILENO, &out[..end]);
 }

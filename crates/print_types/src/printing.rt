@@ -5,13 +5,21 @@ ghost use lib.ListN.{length};
 ghost use Rattle.definitions.specs.Limits.{printerLimit};
 ghost use Rattle.definitions.specs.Calls.{check};
 ghost use Rattle.definitions.specs.Printer.{termsPart, schemaPart, scriptPart, printed};
-ghost use Rattle.engine.specs.Check.{cardOf};
-ghost use Rattle.print_types.specs.Lines.{Written};
+ghost use Rattle.card.specs.Check.{cardOf};
+ghost use Rattle.print_types.specs.Lines.{outputRoom, Written};
 use super::lines::put_card;
 use super::splitting::schema_end;
 use super::splitting::terms_end;
-use engine::card::Card;
-use engine::card::check_card;
+use card::refusals::Card;
+use card::refusals::check_card;
+use definitions::BAD_SCRIPT;
+use definitions::PRINTER_LIMIT;
+use definitions::TERM_LIMIT;
+use definitions::TERM_TABLE_WIDTH;
+use definitions::VARIABLES;
+
+// One byte more than an input may have, so that one that is too long shows.
+pub const INPUT_WIDTH: usize = PRINTER_LIMIT + 1;
 
 fn least(a: usize, b: usize) -> usize
     ensures { λ r. ⌜ r ≡ min a b ⌝ }
@@ -29,8 +37,8 @@ fn check_parts(input: &[u8]) -> Card
     let second = schema_end(input, first);
     let a = least(first, n);
     let b = least(second, n);
-    let mut table = [0u8; 25088];
-    let mut leasts = [0u8; 512];
+    let mut table = [0u8; TERM_TABLE_WIDTH];
+    let mut leasts = [0u8; TERM_LIMIT];
     check_card(
         &input[0..a],
         &input[a..b],
@@ -40,14 +48,14 @@ fn check_parts(input: &[u8]) -> Card
     )
 }
 
-// Ruled out: an input of 32,513 bytes checked; a text after what is printed.
+// Ruled out: an input of one byte too many checked; a text after what is printed.
 pub fn print(input: &[u8], out: &mut [u8]) -> usize
-    requires { ⌜ length (now out) ≡ 512 ⌝ }
+    requires { ⌜ length (now out) ≡ outputRoom ⌝ }
     ensures { λ r. ⌜ Written (printed (now (input .entry))) (now (out .entry)) (now (out .exit)) 0 r ⌝ }
     ensures { λ r. ⌜ r ≤ length (now (out .entry)) ⌝ }
 {
-    if 32512 < input.len() {
-        return put_card(6, &[0; 16], out);
+    if PRINTER_LIMIT < input.len() {
+        return put_card(BAD_SCRIPT, &[0; VARIABLES], out);
     }
     let card = check_parts(input);
     let types = card.types;

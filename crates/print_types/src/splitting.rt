@@ -2,16 +2,17 @@
 ghost use mathlib.Core.Path.{_≡_};
 ghost use Prim.Native.Nat.{_+_, _≤_};
 ghost use lib.ListN.{length};
-ghost use Rattle.definitions.specs.Limits.{printerLimit};
-ghost use Rattle.definitions.specs.Printer.{entryWidth, endFrom, termsEnd};
-use records::bodies::body_width;
+ghost use Rattle.definitions.specs.Limits.{tagWidth, textWidth, printerLimit};
+ghost use Rattle.definitions.specs.Printer.{entryBody, endFrom, termsEnd};
+use definitions::ENTRY_WIDTH;
+use fields::bodies::body_width;
 
 // The terms end before the first kind outside 11 to 15; a record cut off by the end of the input is theirs.
 // Ruled out: an end inside a record's body; a last record left to the schema because it is cut off.
 pub fn terms_end(s: &[u8]) -> usize
     requires { ⌜ length (now s) ≤ printerLimit ⌝ }
     ensures { λ r. ⌜ r ≡ termsEnd (now (s .entry)) ⌝ }
-    ensures { λ r. ⌜ r ≤ length (now (s .entry)) + 48 ⌝ }
+    ensures { λ r. ⌜ r ≤ length (now (s .entry)) + (tagWidth + textWidth) ⌝ }
 {
     let mut at = 0;
     while at < s.len() {
@@ -29,8 +30,8 @@ pub fn terms_end(s: &[u8]) -> usize
 // Ruled out: an entry without its datatype byte; a schema that ends at its first entry.
 pub fn schema_end(s: &[u8], from: usize) -> usize
     requires { ⌜ length (now s) ≤ printerLimit ⌝ }
-    requires { ⌜ from ≤ length (now s) + 48 ⌝ }
-    ensures { λ r. ⌜ r ≡ endFrom entryWidth (length (now (s .entry))) (now (s .entry)) from ⌝ }
+    requires { ⌜ from ≤ length (now s) + (tagWidth + textWidth) ⌝ }
+    ensures { λ r. ⌜ r ≡ endFrom entryBody (length (now (s .entry))) (now (s .entry)) from ⌝ }
     ensures { λ r. ⌜ from ≤ r ⌝ }
 {
     let mut at = from;
@@ -38,7 +39,7 @@ pub fn schema_end(s: &[u8], from: usize) -> usize
         if s[at] != 0x21 {
             return at;
         }
-        let next = at + 42;
+        let next = at + ENTRY_WIDTH;
         at = next;
     }
     at

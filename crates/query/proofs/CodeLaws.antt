@@ -12,7 +12,7 @@ use Rattle.definitions.specs.Limits.{variableLimit}
 use Rattle.definitions.specs.Tree.{Name, var, const, Query}
 use Rattle.definitions.specs.Evaluate.{numberOf}
 use Rattle.definitions.specs.Saved.{isBound}
-use Rattle.laws.proofs.Sound.{NameBounded}
+use Rattle.laws.specs.Sound.{NameBounded}
 use Rattle.query.specs.Seek.{Place, fixed, sought, free, known as placed, placeOf, agrees, pick, nameKnown}
 use Rattle.query.specs.Codes.{soughtCode, freeCode, placeAt, numberAt, bindingsOf, codeOf, Coded}
 

@@ -22,10 +22,10 @@ use Rattle.definitions.specs.Values.{Value as Meant, valueOf, sum, difference, 
 use Rattle.definitions.specs.Evaluate.{Quad, stored, named, numberOf, expression, condition, query}
 use Rattle.definitions.specs.Saved.{termsIn}
 use Rattle.laws.proofs.Options.{some-is, same-some}
-use Rattle.laws.proofs.Sound.{NameBounded}
-use Rattle.laws.proofs.Walked.{Walked}
+use Rattle.laws.specs.Sound.{NameBounded}
+use Rattle.laws.specs.Walks.{Walked}
 use Rattle.values.specs.Meaning.{meaning, Good, Gives, Tells, compared, textTest}
-use Rattle.values.specs.Whole.{Holds}
+use Rattle.values.specs.Means.{Holds}
 use Rattle.values.specs.declared.Value.{Value}
 use Rattle.query.specs.Seek.{Place, fixed, Places, scan}
 use Rattle.query.specs.Codes.{soughtCode, placeAt, placesAt, numberAt, bindingsOf, codeOf, Coded}
@@ -35,7 +35,7 @@ use Rattle.query.specs.Eval.{Lent, ValueOf, TruthOf, HoldsOf, NumberGive
 use Rattle.query.proofs.Outcomes.{ok-is, then-ok}
 use Rattle.query.proofs.Patterns.{named-ok, PatternOk, pattern-ok}
 use Rattle.query.proofs.CodeLaws.{at-fixed, code-number}
-use Rattle.query.proofs.Exact.{scan-exact}
+use Rattle.query.proofs.FixedScan.{scan-exact}
 
 -- ── a part, and what is made of it ──────────────────────────────────────────────────────────
 

@@ -8,12 +8,14 @@ use lib.Dec.{T, leb, ltb, T-not, not-T}
 use lib.ListN.{getD}
 use Rattle.definitions.specs.Evaluate.{Quad}
 use Rattle.laws.proofs.Tests.{isFalse, falseIs}
-use Rattle.laws.proofs.All.{All, conj, conj-all}
+use Rattle.laws.specs.Lists.{All}
+use Rattle.laws.proofs.All.{conj, conj-all}
 use Rattle.query.specs.Seek.{Places, agrees, candidate, fits, better, scan}
-use Rattle.query.specs.Codes.{soughtCode, placeAt, placesAt, quadOf, rowAt, rowsFrom, FixedAt, GivenAt}
+use Rattle.query.specs.Codes.{soughtCode, placeAt, placesAt, quadOf, FixedAt, GivenAt}
+use Rattle.laws.specs.Quads.{rowAt, rowsFrom}
 use Rattle.query.specs.declared.Four.{Four}
 use Rattle.query.proofs.CodeLaws.{at-sought, pick-other, miss}
-use Rattle.query.proofs.Rows.{scan-top, scan-floor, better-far}
+use Rattle.query.proofs.ScanLaws.{scan-top, scan-floor, better-far}
 
 -- ── the quads that are left ─────────────────────────────────────────────────────────────────
 

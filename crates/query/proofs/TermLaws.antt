@@ -15,7 +15,7 @@ use Rattle.laws.proofs.Options.{same-some}
 use Rattle.laws.proofs.Bindings.{there-is, is-below}
 use Rattle.laws.proofs.SlotAt.{terms-few, slot-at}
 use Rattle.values.specs.Meaning.{Gives}
-use Rattle.values.specs.Whole.{Holds}
+use Rattle.values.specs.Means.{Holds}
 use Rattle.values.specs.declared.Value.{Value}
 use Rattle.query.specs.Eval.{Lent, NumberGives}
 

@@ -1,15 +1,16 @@
 -- Numbers as the code has them. A place of a pattern: a number below 65,536 is fixed, 65,536 is sought, any other is free. What is known of a variable:
--- a number below 65,536 is its term's, any other says that it is not known. The quads: four numbers each, one quad after the other.
-use Prim.Native.Nat.{ℕ, zero, suc, _+_, _<_}
+-- a number below 65,536 is its term's, any other says that it is not known.
+use Prim.Native.Nat.{ℕ, _+_, _<_}
 use mathlib.Core.Path.{_≡_}
-use mathlib.Core.List.{List, [], _∷_}
+use mathlib.Core.List.{List}
 use mathlib.Core.Bool.{cond}
 use mathlib.Core.Option.{Option, none, some}
 use lib.Dec.{eqb, ltb}
 use lib.ListN.{getD}
 use Rattle.definitions.specs.Tree.{Name, var, const, Query}
 use Rattle.definitions.specs.Evaluate.{Quad, Bindings}
-use Rattle.laws.proofs.Sound.{QueryBounded}
+use Rattle.laws.specs.Quads.{rowAt}
+use Rattle.laws.specs.Sound.{QueryBounded}
 use Rattle.query.specs.Seek.{Place, fixed, sought, free, Places, candidate, better}
 use Rattle.query.specs.declared.Four.{Four}
 
@@ -31,14 +32,6 @@ placesAt c = record { graph = placeAt (c .graph); subject = placeAt (c .subject)
 
 abbrev pub quadOf : Four → Quad
 quadOf r = record { graph = r .graph; subject = r .subject; property = r .property; object = r .object }
-
-abbrev pub rowAt : List ℕ → ℕ → Quad
-rowAt f at = record { graph = getD f at 0; subject = getD f (at + 1) 0; property = getD f (at + 2) 0; object = getD f (at + 3) 0 }
-
--- so many quads from an offset on
-unfoldable pub rowsFrom : (count : ℕ) → List ℕ → (at : ℕ) → List Quad
-rowsFrom zero f at = []
-rowsFrom (suc count) f at = rowAt f at ∷ rowsFrom count f (at + 4)
 
 -- only a quad that has the number at an offset can be better than the best so far
 abbrev pub FixedAt : Four → (place number : ℕ) → Type 0

@@ -9,9 +9,9 @@ ghost use Rattle.definitions.specs.Outcome.{ok};
 ghost use Rattle.definitions.specs.Values.{Value as Meant};
 ghost use Rattle.values.specs.Meaning.{Gives};
 ghost use Rattle.definitions.specs.Reading.{readExpr, readCond, readQuery};
-ghost use Rattle.laws.proofs.Walking.{Loads};
-ghost use Rattle.laws.proofs.Walked.{Walked};
-ghost use Rattle.query.specs.Codes.{rowsFrom};
+ghost use Rattle.laws.specs.Walks.{Loads};
+ghost use Rattle.laws.specs.Walks.{Walked};
+ghost use Rattle.laws.specs.Quads.{rowsFrom};
 ghost use Rattle.query.specs.Eval.{Lent, NumberGives, ValueOf, TruthOf, HoldsOf};
 use crate::Test;
 use crate::Valued;
@@ -19,7 +19,8 @@ use crate::names::name_at;
 use crate::names::names_at;
 use crate::scan::scan;
 use definitions::SLOT_WIDTH;
-use records::numbers;
+use definitions::VARIABLES;
+use fields::numbers;
 use values::Value;
 use values::slot;
 
@@ -63,7 +64,7 @@ pub fn eval_expr(
     let first = at + 1;
     let below = left - 1;
     if kind < 0x41 {
-        let n = name_at(script, terms, at, left, known, 16);
+        let n = name_at(script, terms, at, left, known, VARIABLES);
         let value = term_value(table, count, known, clock, n.code);
         return Valued {
             next: n.next,
@@ -77,7 +78,7 @@ pub fn eval_expr(
         }
         0x42 => {
             let a = eval_expr(script, terms, first, below, table, count, known, clock);
-            let value = values::text_of(a.value);
+            let value = values::text::text_of(a.value);
             Valued {
                 next: a.next,
                 value,
@@ -85,7 +86,7 @@ pub fn eval_expr(
         }
         0x43 => {
             let a = eval_expr(script, terms, first, below, table, count, known, clock);
-            let value = values::abs(a.value);
+            let value = values::arithmetic::abs(a.value);
             Valued {
                 next: a.next,
                 value,
@@ -94,7 +95,7 @@ pub fn eval_expr(
         0x44 => {
             let a = eval_expr(script, terms, first, below, table, count, known, clock);
             let b = eval_expr(script, terms, a.next, below, table, count, known, clock);
-            let value = values::plus(a.value, b.value);
+            let value = values::arithmetic::plus(a.value, b.value);
             Valued {
                 next: b.next,
                 value,
@@ -103,7 +104,7 @@ pub fn eval_expr(
         _ => {
             let a = eval_expr(script, terms, first, below, table, count, known, clock);
             let b = eval_expr(script, terms, a.next, below, table, count, known, clock);
-            let value = values::minus(a.value, b.value);
+            let value = values::arithmetic::minus(a.value, b.value);
             Valued {
                 next: b.next,
                 value,
@@ -165,7 +166,7 @@ pub fn eval_cond(
         0x55 => {
             let text = at + 17;
             let a = eval_expr(script, terms, text, below, table, count, known, clock);
-            let holds = values::regex(a.value, script, first);
+            let holds = values::tests::regex(a.value, script, first);
             Test {
                 next: a.next,
                 holds,
@@ -174,7 +175,7 @@ pub fn eval_cond(
         0x56 => {
             let text = at + 9;
             let a = eval_expr(script, terms, text, below, table, count, known, clock);
-            let holds = values::lang_matches(a.value, script, first);
+            let holds = values::tests::lang_matches(a.value, script, first);
             Test {
                 next: a.next,
                 holds,
@@ -183,7 +184,7 @@ pub fn eval_cond(
         0x57 => {
             let a = eval_expr(script, terms, first, below, table, count, known, clock);
             let b = eval_expr(script, terms, a.next, below, table, count, known, clock);
-            let holds = values::equal(a.value, b.value);
+            let holds = values::comparison::equal(a.value, b.value);
             Test {
                 next: b.next,
                 holds,
@@ -192,7 +193,7 @@ pub fn eval_cond(
         _ => {
             let a = eval_expr(script, terms, first, below, table, count, known, clock);
             let b = eval_expr(script, terms, a.next, below, table, count, known, clock);
-            let holds = values::less(a.value, b.value);
+            let holds = values::comparison::less(a.value, b.value);
             Test {
                 next: b.next,
                 holds,
@@ -224,7 +225,7 @@ pub fn eval_query(
     let below = left - 1;
     match kind {
         0x61 => {
-            let names = names_at(script, terms, first, below, known, 16);
+            let names = names_at(script, terms, first, below, known, VARIABLES);
             let least = scan(quads, n, names.codes, 0, 1);
             Test {
                 next: names.next,

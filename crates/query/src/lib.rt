@@ -1,10 +1,7 @@
 // Evaluating a query for one tuple, and finding a block's first answer after a tuple without trying them all.
-pub mod answer;
-mod eval;
-mod find;
-mod names;
-mod scan;
-mod seek;
+pub mod eval;
+pub mod names;
+pub mod scan;
 
 use values::Value;
 
@@ -43,27 +40,4 @@ pub struct Test {
 pub struct Valued {
     pub next: usize,
     pub value: Value,
-}
-
-// What the seek finds at a query's record: the offset after it, and the least number.
-pub struct Sought {
-    pub next: usize,
-    pub least: usize,
-}
-
-// A block as the search sees it: its query's offset and levels left, its variables with their types' codes, and the last
-// tuple, which counts where the search is told so.
-pub struct Block {
-    pub at: usize,
-    pub left: u8,
-    pub size: usize,
-    pub vars: [usize; 4],
-    pub types: [u8; 4],
-    pub last: [usize; 4],
-}
-
-// A tuple, where there is one.
-pub struct Found {
-    pub found: bool,
-    pub tuple: [usize; 4],
 }

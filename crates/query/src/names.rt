@@ -4,18 +4,20 @@ ghost use lib.ListN.{length};
 ghost use Prim.Native.Nat.{_<_};
 ghost use Rattle.definitions.specs.Tree.{var, Query};
 ghost use Rattle.definitions.specs.Reading.{fourOf, readName, readExpr, readCond};
-ghost use Rattle.laws.proofs.Walking.{Loads};
-ghost use Rattle.laws.proofs.Walked.{Walked};
-ghost use Rattle.laws.proofs.Sound.{NameBounded};
+ghost use Rattle.laws.specs.Walks.{Loads};
+ghost use Rattle.laws.specs.Walks.{Walked};
+ghost use Rattle.laws.specs.Sound.{NameBounded};
 ghost use Rattle.query.specs.Seek.{exprKnown, condKnown};
 ghost use Rattle.query.specs.Codes.{bindingsOf, codeOf, Coded};
+ghost use Rattle.definitions.specs.Limits.{variableLimit};
 use crate::FREE;
 use crate::Four;
 use crate::NameRead;
 use crate::NamesRead;
 use crate::SOUGHT;
 use crate::Test;
-use records::numbers;
+use definitions::VARIABLES;
+use fields::numbers;
 
 fn wide(x: u8) -> usize
     ensures { λ r. ⌜ r ≡ x ⌝ }
@@ -48,7 +50,7 @@ pub fn name_at(
     v: usize,
 ) -> NameRead
     requires { ⌜ Loads (readName (now script) terms left at) ⌝ }
-    requires { ⌜ length (now known) ≡ 16 ⌝ }
+    requires { ⌜ length (now known) ≡ variableLimit ⌝ }
     ensures { λ r. ⌜ Walked (λ n. (r .code ≡ codeOf (now (known .entry)) v n) × NameBounded 65536 n) (readName (now (script .entry)) terms left at) (r .next) ⌝ }
 {
     let kind = script[at];
@@ -74,7 +76,7 @@ pub fn names_at(
     v: usize,
 ) -> NamesRead
     requires { ⌜ Loads (fourOf Query.pattern (readName (now script) terms left) at) ⌝ }
-    requires { ⌜ length (now known) ≡ 16 ⌝ }
+    requires { ⌜ length (now known) ≡ variableLimit ⌝ }
     ensures { λ r. ⌜ Walked (Coded (now (known .entry)) v (r .codes)) (fourOf Query.pattern (readName (now (script .entry)) terms left) at) (r .next) ⌝ }
 {
     let g = name_at(script, terms, at, left, known, v);
@@ -96,14 +98,14 @@ pub fn names_at(
 // Whether all variables of an expression are known. Ruled out: the second part left out; a free variable taken for a known one.
 pub fn known_expr(script: &[u8], terms: usize, at: usize, left: u8, known: &[usize]) -> Test
     requires { ⌜ Loads (readExpr (now script) terms left at) ⌝ }
-    requires { ⌜ length (now known) ≡ 16 ⌝ }
+    requires { ⌜ length (now known) ≡ variableLimit ⌝ }
     ensures { λ r. ⌜ Walked (λ e. r .holds ≡ exprKnown (bindingsOf (now (known .entry))) e) (readExpr (now (script .entry)) terms left at) (r .next) ⌝ }
 {
     let kind = script[at];
     let first = at + 1;
     let below = left - 1;
     if kind < 0x41 {
-        let n = name_at(script, terms, at, left, known, 16);
+        let n = name_at(script, terms, at, left, known, VARIABLES);
         return Test {
             next: n.next,
             holds: n.code < SOUGHT,
@@ -138,7 +140,7 @@ pub fn known_expr(script: &[u8], terms: usize, at: usize, left: u8, known: &[usi
 // Whether all variables of a boolean are known. Ruled out: the second part left out; not counted as known whatever it negates.
 pub fn known_cond(script: &[u8], terms: usize, at: usize, left: u8, known: &[usize]) -> Test
     requires { ⌜ Loads (readCond (now script) terms left at) ⌝ }
-    requires { ⌜ length (now known) ≡ 16 ⌝ }
+    requires { ⌜ length (now known) ≡ variableLimit ⌝ }
     ensures { λ r. ⌜ Walked (λ c. r .holds ≡ condKnown (bindingsOf (now (known .entry))) c) (readCond (now (script .entry)) terms left at) (r .next) ⌝ }
 {
     let kind = script[at];

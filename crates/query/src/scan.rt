@@ -4,7 +4,8 @@ ghost use mathlib.Core.Bool.{_&&_, true, false};
 ghost use lib.ListN.{length, getD};
 ghost use Prim.Native.Nat.{ℕ, _+_, _*_, _≤_, _<_};
 ghost use Rattle.query.specs.Seek.{agrees, pick, candidate as isCandidate, better as isBetter, scan as isScan};
-ghost use Rattle.query.specs.Codes.{placeAt, placesAt, quadOf, rowAt, rowsFrom, FixedAt, GivenAt};
+ghost use Rattle.query.specs.Codes.{placeAt, placesAt, quadOf, FixedAt, GivenAt};
+ghost use Rattle.laws.specs.Quads.{rowAt, rowsFrom};
 use crate::Four;
 use crate::SOUGHT;
 

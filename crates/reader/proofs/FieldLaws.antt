@@ -7,7 +7,7 @@ use mathlib.Core.Path.{_≡_, refl, sym, ap, ap₂, _∙_}
 use native.Mathlib.Omega.{arith}
 use native.Mathlib.Numerals.{add-one}
 use lib.Dec.{eqb, leb}
-use lib.ListN.{length, length-take, length-drop}
+use lib.ListN.{length}
 use lib.Seq.{drop-cons}
 use borrow.Author.Tests.{ne-eqb}
 use Rattle.definitions.specs.Limits.{patternWidth, languageRangeWidth}
@@ -16,9 +16,11 @@ use Rattle.definitions.specs.Bytes.{byte, part, allZero, unfilled, provided, on
 use Rattle.definitions.specs.Ascii.{ascii}
 use Rattle.definitions.specs.Terms.{Text, textByte, tagByte, smallLetter, hyphen}
 use Rattle.definitions.specs.Text.{Atom, Piece, one, many, withPiece, withStart, star, caret, dollar, dot, noLiteral, atomOf, piecesOf, patternOfText, patternOf, everything, beginning, withoutStar, rangeOfText, languageRangeOf}
+use Rattle.laws.proofs.Bytes.{part-length}
 use Rattle.laws.proofs.Fields.{by-same, filledBy, filled-byte, unfilled-byte, no-text, field-text}
-use Rattle.reader.specs.Fields.{isSome, isLiteral, mayFollow, arePieces}
-use Rattle.reader.proofs.Present.{onward-is, provided-is, provided-then, cond-is, elim-is}
+use Rattle.laws.specs.ReadAnswers.{isSome}
+use Rattle.reader.specs.Fields.{isLiteral, mayFollow, arePieces}
+use Rattle.laws.proofs.ReadAnswers.{onward-is, provided-is, provided-then, cond-is, elim-is}
 
 -- ── parts of a slice ────────────────────────────────────────────────────────────────────────
 
@@ -35,9 +37,6 @@ module _ (s : List ℕ) (i end : ℕ) where
 
   pub zeros-stop : i < end → end ≤ length s → (byte s i ≡ 0 → ⊥) → allZero (part s i (end - i)) ≡ false
   zeros-stop h l n = rw (part-cons h l, ne-eqb 0 (byte s i) (λ e. n (sym e)))
-
-pub part-length : (s : List ℕ) (at n : ℕ) → at + n ≤ length s → length (part s at n) ≡ n
-part-length s at n h = simp (length-take, length-drop) (omega arith)
 
 -- a field, its first byte apart
 field-cons : (s : List ℕ) (at n : ℕ) → 0 < n → at + n ≤ length s → part s at n ≡ byte s at ∷ part s (at + 1) (at + n - (at + 1))
@@ -222,19 +221,19 @@ pattern-plain b bs l e =
     ∙ (ap (λ t. zf && t) (no-caret b (unfilled bs) e) ∙ ap (λ (t : Text). zf && isSome (piecesOf t)) (sym u)))
     ∙ (ap (λ t. zf && t) (pieces-are (unfilled (b ∷ bs))) ∙ (field-from false (b ∷ bs) ∙ sym (pieces-from (b ∷ bs)))))
 
-module _ (s : List ℕ) (at : ℕ) (h : at + 16 ≤ length s) where
-  pub anchored : byte s at ≡ caret → isSome (patternOf (part s at 16)) ≡ arePieces (part s (at + 1) (at + 16 - (at + 1)))
+module _ (s : List ℕ) (at : ℕ) (h : at + patternWidth ≤ length s) where
+  pub anchored : byte s at ≡ caret → isSome (patternOf (part s at patternWidth)) ≡ arePieces (part s (at + 1) (at + patternWidth - (at + 1)))
   anchored e =
-      let w = field-cons s at 16 (omega arith) h in
+      let w = field-cons s at patternWidth (omega arith) h in
       ap (λ (f : List ℕ). isSome (patternOf f)) w
-      ∙ pattern-caret (byte s at) (part s (at + 1) (at + 16 - (at + 1))) (sym (ap length w) ∙ part-length s at 16 h) e
+      ∙ pattern-caret (byte s at) (part s (at + 1) (at + patternWidth - (at + 1))) (sym (ap length w) ∙ part-length s at patternWidth h) e
 
-  pub unanchored : (byte s at ≡ caret → ⊥) → isSome (patternOf (part s at 16)) ≡ arePieces (part s at (at + 16 - at))
+  pub unanchored : (byte s at ≡ caret → ⊥) → isSome (patternOf (part s at patternWidth)) ≡ arePieces (part s at (at + patternWidth - at))
   unanchored e =
-      let w = field-cons s at 16 (omega arith) h in
+      let w = field-cons s at patternWidth (omega arith) h in
       ap (λ (f : List ℕ). isSome (patternOf f)) w
-      ∙ (pattern-plain (byte s at) (part s (at + 1) (at + 16 - (at + 1))) (sym (ap length w) ∙ part-length s at 16 h) (ne-eqb (byte s at) caret e)
-      ∙ ap arePieces (sym (part-cons s at (at + 16) (omega arith) h)))
+      ∙ (pattern-plain (byte s at) (part s (at + 1) (at + patternWidth - (at + 1))) (sym (ap length w) ∙ part-length s at patternWidth h) (ne-eqb (byte s at) caret e)
+      ∙ ap arePieces (sym (part-cons s at (at + patternWidth) (omega arith) h)))
 
 -- ── language ranges ─────────────────────────────────────────────────────────────────────────
 
@@ -424,16 +423,16 @@ pub tag-done : (s : List ℕ) (i end : ℕ) (letter hyph : Bool) → end ≤ i �
 unfolding rangeFrom
 tag-done s i end letter hyph h = rw (part-done s i end h)
 
-module _ (s : List ℕ) (at : ℕ) (h : at + 8 ≤ length s) where
-  pub everything-alone : byte s at ≡ star → isSome (languageRangeOf (part s at 8)) ≡ allZero (part s (at + 1) (at + 8 - (at + 1)))
+module _ (s : List ℕ) (at : ℕ) (h : at + languageRangeWidth ≤ length s) where
+  pub everything-alone : byte s at ≡ star → isSome (languageRangeOf (part s at languageRangeWidth)) ≡ allZero (part s (at + 1) (at + languageRangeWidth - (at + 1)))
   everything-alone e =
-      let w = field-cons s at 8 (omega arith) h in
+      let w = field-cons s at languageRangeWidth (omega arith) h in
       ap (λ (f : List ℕ). isSome (languageRangeOf f)) w
-      ∙ language-star (byte s at) (part s (at + 1) (at + 8 - (at + 1))) (sym (ap length w) ∙ part-length s at 8 h) e
+      ∙ language-star (byte s at) (part s (at + 1) (at + languageRangeWidth - (at + 1))) (sym (ap length w) ∙ part-length s at languageRangeWidth h) e
 
-  pub tag-begins : (byte s at ≡ star → ⊥) → isSome (languageRangeOf (part s at 8)) ≡ rangeFrom false false (part s at (at + 8 - at))
+  pub tag-begins : (byte s at ≡ star → ⊥) → isSome (languageRangeOf (part s at languageRangeWidth)) ≡ rangeFrom false false (part s at (at + languageRangeWidth - at))
   tag-begins e =
-      let w = field-cons s at 8 (omega arith) h in
+      let w = field-cons s at languageRangeWidth (omega arith) h in
       ap (λ (f : List ℕ). isSome (languageRangeOf f)) w
-      ∙ (language-plain (byte s at) (part s (at + 1) (at + 8 - (at + 1))) (sym (ap length w) ∙ part-length s at 8 h) (ne-eqb (byte s at) star e)
-      ∙ ap (rangeFrom false false) (sym (part-cons s at (at + 8) (omega arith) h)))
+      ∙ (language-plain (byte s at) (part s (at + 1) (at + languageRangeWidth - (at + 1))) (sym (ap length w) ∙ part-length s at languageRangeWidth h) (ne-eqb (byte s at) star e)
+      ∙ ap (rangeFrom false false) (sym (part-cons s at (at + languageRangeWidth) (omega arith) h)))

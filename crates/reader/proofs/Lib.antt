@@ -1,9 +1,4 @@
--- What the proofs of several functions use.
-pub mod Present
+-- In this order: the bytes of patterns and language ranges, the pairs of a block, and last the records that hold them.
 pub mod FieldLaws
 pub mod PairLaws
-pub mod Ends
-pub mod MarkLaws
-pub mod BindLaws
-pub mod PlaceLaws
-pub mod WholeLaws
+pub mod ReadLaws

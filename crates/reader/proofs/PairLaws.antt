@@ -8,7 +8,7 @@ use mathlib.Core.Logic.{⊎-elim}
 use native.Mathlib.Omega.{arith}
 use lib.Dec.{T, eqb, ltb}
 use borrow.Author.Tests.{lt-ltb, le-ltb}
-use Rattle.definitions.specs.Limits.{variableLimit}
+use Rattle.definitions.specs.Limits.{variableLimit, pairLimit}
 use Rattle.definitions.specs.Bytes.{byte, onward}
 use Rattle.definitions.specs.Tree.{Binder}
 use Rattle.definitions.specs.Types.{Ty, typeRows, typeOfCode}
@@ -16,10 +16,10 @@ use Rattle.definitions.specs.Reading.{writtenOf, binderAt, bindersAt}
 use Rattle.laws.proofs.Tests.{isTrue, isFalse}
 use Rattle.laws.proofs.Ranges.{everyFrom, every-in, split}
 use Rattle.laws.proofs.Reading.{row-above}
-use Rattle.reader.specs.Fields.{isSome}
+use Rattle.laws.specs.ReadAnswers.{isSome}
 use Rattle.reader.specs.Pairs.{pairOk}
 use Rattle.laws.proofs.ReadBounds.{binders-bounded}
-use Rattle.reader.proofs.Present.{onward-is, only-if, absent}
+use Rattle.laws.proofs.ReadAnswers.{onward-is, only-if, absent}
 
 -- ── written types ───────────────────────────────────────────────────────────────────────────
 
@@ -60,26 +60,26 @@ unused-pair left s at = only-if (eqb (byte s at) 0 && eqb (byte s (at + 1)) 0) (
 -- the pairs from the k-th on, and one of them apart
 module _ (s : List ℕ) (count k next : ℕ) where
   abbrev pub pairsFrom : Bool
-  pairsFrom = isSome (bindersAt (4 - k) (count - k) s next)
+  pairsFrom = isSome (bindersAt (pairLimit - k) (count - k) s next)
 
-  pub pair-next : k < 4 → pairsFrom ≡ (pairOk (ltb k count) (byte s next) (byte s (next + 1)) && isSome (bindersAt (4 - (k + 1)) (count - (k + 1)) s (next + 2)))
+  pub pair-next : k < pairLimit → pairsFrom ≡ (pairOk (ltb k count) (byte s next) (byte s (next + 1)) && isSome (bindersAt (pairLimit - (k + 1)) (count - (k + 1)) s (next + 2)))
   pair-next h =
-      let l : 4 - k ≡ suc (4 - (k + 1)) = omega arith in
+      let l : pairLimit - k ≡ suc (pairLimit - (k + 1)) = omega arith in
       ⊎-elim
-      (λ u. let z : count - k ≡ 0 = omega arith in let z′ : count - (k + 1) ≡ 0 = omega arith in rw (le-ltb k count u, l, z, z′) (unused-pair (4 - (k + 1)) s next))
-      (λ u. let n : count - k ≡ suc (count - (k + 1)) = omega arith in rw (lt-ltb k count u, l, n) (used-pair (4 - (k + 1)) (count - (k + 1)) s next))
+      (λ u. let z : count - k ≡ 0 = omega arith in let z′ : count - (k + 1) ≡ 0 = omega arith in rw (le-ltb k count u, l, z, z′) (unused-pair (pairLimit - (k + 1)) s next))
+      (λ u. let n : count - k ≡ suc (count - (k + 1)) = omega arith in rw (lt-ltb k count u, l, n) (used-pair (pairLimit - (k + 1)) (count - (k + 1)) s next))
       (split count k)
 
-  module _ (h : k < 4) where
+  module _ (h : k < pairLimit) where
     pub pair-bad : pairOk (ltb k count) (byte s next) (byte s (next + 1)) ≡ false → pairsFrom ≡ false
-    pair-bad e = pair-next h ∙ ap (λ (t : Bool). t && isSome (bindersAt (4 - (k + 1)) (count - (k + 1)) s (next + 2))) e
+    pair-bad e = pair-next h ∙ ap (λ (t : Bool). t && isSome (bindersAt (pairLimit - (k + 1)) (count - (k + 1)) s (next + 2))) e
 
-    pub pair-turn : pairOk (ltb k count) (byte s next) (byte s (next + 1)) ≡ true → pairsFrom ≡ isSome (bindersAt (4 - (k + 1)) (count - (k + 1)) s (next + 2))
-    pair-turn e = pair-next h ∙ ap (λ (t : Bool). t && isSome (bindersAt (4 - (k + 1)) (count - (k + 1)) s (next + 2))) e
+    pub pair-turn : pairOk (ltb k count) (byte s next) (byte s (next + 1)) ≡ true → pairsFrom ≡ isSome (bindersAt (pairLimit - (k + 1)) (count - (k + 1)) s (next + 2))
+    pair-turn e = pair-next h ∙ ap (λ (t : Bool). t && isSome (bindersAt (pairLimit - (k + 1)) (count - (k + 1)) s (next + 2))) e
 
-  pub pairs-done : 4 ≤ k → count ≤ 4 → pairsFrom ≡ true
+  pub pairs-done : pairLimit ≤ k → count ≤ pairLimit → pairsFrom ≡ true
   unfolding bindersAt
-  pairs-done h l = let a : 4 - k ≡ 0 = omega arith in let b : count - k ≡ 0 = omega arith in rw (a, b)
+  pairs-done h l = let a : pairLimit - k ≡ 0 = omega arith in let b : count - k ≡ 0 = omega arith in rw (a, b)
 
-pub pairs-many : (s : List ℕ) (count at : ℕ) → 4 < count → isSome (bindersAt 4 count s at) ≡ false
-pairs-many s count at h = absent (bindersAt 4 count s at) (λ bs e. let b = binders-bounded 0 4 count s at bs e in omega (arith, b .2))
+pub pairs-many : (s : List ℕ) (count at : ℕ) → pairLimit < count → isSome (bindersAt pairLimit count s at) ≡ false
+pairs-many s count at h = absent (bindersAt pairLimit count s at) (λ bs e. let b = binders-bounded 0 pairLimit count s at bs e in omega (arith, b .2))

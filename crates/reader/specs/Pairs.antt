@@ -4,7 +4,7 @@ use mathlib.Core.Bool.{Bool, cond, _&&_}
 use lib.Dec.{eqb, ltb}
 use Rattle.definitions.specs.Limits.{variableLimit}
 use Rattle.definitions.specs.Reading.{writtenOf}
-use Rattle.reader.specs.Fields.{isSome}
+use Rattle.laws.specs.ReadAnswers.{isSome}
 
 -- a pair that is used, and one that is not
 unfoldable pub pairOk : (used : Bool) → (variable written : ℕ) → Bool

@@ -1,26 +1,23 @@
 // Reading the script in prefix order: each function takes the offset of a record and how many levels of records may
 // still be used, and gives the offset after the record and its children.
-use crate::Read;
-use crate::fields::pattern_ok;
-use crate::fields::range_ok;
 use crate::pairs::pairs_ok;
+use crate::patterns::pattern_ok;
+use crate::patterns::range_ok;
+use definitions::COUNT_OFFSET;
+use definitions::DEPTH_LIMIT;
+use definitions::LANG_MATCHES_TEXT_OFFSET;
+use definitions::PAIRS_OFFSET;
+use definitions::QUERY_OFFSET;
+use definitions::REGEX_TEXT_OFFSET;
+use definitions::Read;
+use definitions::VARIABLES;
+use fields::numbers::word_at;
 ghost use mathlib.Core.Path.{_≡_};
 ghost use Prim.Native.Nat.{_+_, _<_};
-ghost use lib.ListN.{length};
-ghost use Rattle.definitions.specs.Bytes.{word};
 ghost use Rattle.definitions.specs.Reading.{readName, readExpr, readCond, readQuery, readScript, parsed};
-ghost use Rattle.reader.specs.Fields.{isSome};
-ghost use Rattle.reader.specs.Next.{nextOf};
+ghost use Rattle.laws.specs.ReadAnswers.{isSome, nextOf};
 
-// The 2-byte number at an offset. Ruled out: the high byte taken first; the second byte dropped.
-pub fn word_at(s: &[u8], at: usize) -> usize
-    requires { ⌜ at + 1 < length (now s) ⌝ }
-    ensures { λ r. ⌜ r ≡ word (now (s .entry)) at ⌝ }
-{
-    s[at] as usize + 256 * (s[at + 1] as usize)
-}
-
-// A name: 31 a variable, 32 a constant. Ruled out: variable 16 taken; a term number past the table taken.
+// A name: 31 a variable, 32 a constant. Ruled out: a variable past the last taken; a term number past the table taken.
 pub fn read_name(script: &[u8], terms: usize, at: usize, left: u8) -> Read
     ensures { λ r. ⌜ r ≡ nextOf (readName (now (script .entry)) terms left at) ⌝ }
 {
@@ -37,8 +34,9 @@ pub fn read_name(script: &[u8], terms: usize, at: usize, left: u8) -> Read
             if room < 2 {
                 return Read::Malformed;
             }
-            if script[at + 1] < 16 {
-                Read::Next(at + 2)
+            if (script[at + 1] as usize) < VARIABLES {
+                let next = at + 2;
+                Read::Next(next)
             } else {
                 Read::Malformed
             }
@@ -49,7 +47,8 @@ pub fn read_name(script: &[u8], terms: usize, at: usize, left: u8) -> Read
             }
             let number = word_at(script, at + 1);
             if number < terms {
-                Read::Next(at + 3)
+                let next = at + 3;
+                Read::Next(next)
             } else {
                 Read::Malformed
             }
@@ -106,22 +105,22 @@ pub fn read_cond(script: &[u8], terms: usize, at: usize, left: u8) -> Read
         }
         0x54 => read_cond(script, terms, at + 1, left - 1),
         0x55 => {
-            if script.len() - at < 17 {
+            if script.len() - at < REGEX_TEXT_OFFSET {
                 return Read::Malformed;
             }
             if !pattern_ok(script, at + 1) {
                 return Read::Malformed;
             }
-            read_expr(script, terms, at + 17, left - 1)
+            read_expr(script, terms, at + REGEX_TEXT_OFFSET, left - 1)
         }
         0x56 => {
-            if script.len() - at < 9 {
+            if script.len() - at < LANG_MATCHES_TEXT_OFFSET {
                 return Read::Malformed;
             }
             if !range_ok(script, at + 1) {
                 return Read::Malformed;
             }
-            read_expr(script, terms, at + 9, left - 1)
+            read_expr(script, terms, at + LANG_MATCHES_TEXT_OFFSET, left - 1)
         }
         0x57..=0x58 => {
             let Read::Next(second) = read_expr(script, terms, at + 1, left - 1) else {
@@ -191,17 +190,17 @@ pub fn read_script(script: &[u8], terms: usize, at: usize, left: u8) -> Read
             read_script(script, terms, second, left - 1)
         }
         0x73 => {
-            if script.len() - at < 11 {
+            if script.len() - at < QUERY_OFFSET {
                 return Read::Malformed;
             }
             if 1 < script[at + 1] {
                 return Read::Malformed;
             }
-            let count = script[at + 2];
-            if !pairs_ok(script, at + 3, count) {
+            let count = script[at + COUNT_OFFSET];
+            if !pairs_ok(script, at + PAIRS_OFFSET, count) {
                 return Read::Malformed;
             }
-            let Read::Next(second) = read_query(script, terms, at + 11, left - 1) else {
+            let Read::Next(second) = read_query(script, terms, at + QUERY_OFFSET, left - 1) else {
                 return Read::Malformed;
             };
             read_script(script, terms, second, left - 1)
@@ -216,12 +215,12 @@ pub fn read_script(script: &[u8], terms: usize, at: usize, left: u8) -> Read
     }
 }
 
-// Whether the whole script is well formed: records 24 deep, no bytes left over.
-// Ruled out: records 25 deep taken; a byte after the root's record taken.
+// Whether the whole script is well formed: its records not too deep, no bytes left over.
+// Ruled out: records one level too deep taken; a byte after the root's record taken.
 pub fn script_ok(script: &[u8], terms: usize) -> bool
     ensures { λ r. ⌜ r ≡ isSome (parsed terms (now (script .entry))) ⌝ }
 {
-    let Read::Next(end) = read_script(script, terms, 0, 24) else {
+    let Read::Next(end) = read_script(script, terms, 0, DEPTH_LIMIT) else {
         return false;
     };
     end == script.len()

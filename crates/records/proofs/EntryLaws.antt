@@ -1,4 +1,4 @@
--- Laws of a schema's entries by their numbers: the bytes that they take, the marks of their URIs, and marks compared first.
+-- Laws of a schema's entries by their numbers: the bytes that they take, the hashes of their URIs, and hashes compared first.
 use Prim.Native.Nat.{ℕ, zero, suc, _+_, _-_, _*_, _/_, _≤_, _<_}
 use mathlib.Core.Bool.{Bool, true, false, _||_}
 use mathlib.Core.List.{List, _∷_}
@@ -8,31 +8,32 @@ use mathlib.Core.Path.{_≡_, refl, sym, ap, _∙_, subst}
 use native.Mathlib.Omega.{arith}
 use lib.Dec.{eqb}
 use lib.ListN.{length, getD, set, take, drop}
-use lib.Seq.{drop-cons, getD-set-same, getD-set-other}
-use borrow.Author.Count.{below-more}
+use lib.Seq.{drop-cons}
 use borrow.Author.Tests.{eqb-false}
-use Rattle.definitions.specs.Limits.{slotWidth, textWidth, entryLimit}
+use Rattle.definitions.specs.Limits.{slotWidth, textWidth, entryLimit, entryWidth, schemaWidth}
 use Rattle.definitions.specs.Lists.{some?}
 use Rattle.definitions.specs.Bytes.{byte, part, filled}
 use Rattle.definitions.specs.Terms.{Schema, sameProperty, uriText, readEntry, readSchema}
 use Rattle.laws.proofs.Options.{same-some}
 use Rattle.laws.proofs.Ranges.{split}
 use Rattle.laws.proofs.Tests.{trueIs}
-use Rattle.laws.proofs.RecordsAt.{entry-forward, recordsAt, at-end, schema-at}
-use Rattle.records.specs.declared.Read.the-variants.{Next}
-use Rattle.records.specs.Answers.{isSome, nextOf, againIn, distinctIn, schemaCode}
-use Rattle.records.specs.Marks.{markOf, placeIn, uriSlot, entryWidth, MarkedEntries}
-use Rattle.records.proofs.OptionLaws.{is-some}
-use Rattle.records.proofs.PartLaws.{some-part}
-use Rattle.records.proofs.PlaceLaws.{to-place}
+use Rattle.laws.proofs.RecordsAt.{entry-forward, at-end, schema-at}
+use Rattle.laws.specs.Records.{recordsAt}
+use Rattle.definitions.specs.declared.Read.the-variants.{Next}
+use Rattle.laws.specs.ReadAnswers.{isSome, nextOf}
+use Rattle.fields.specs.Answers.{againIn, distinctIn, schemaCode}
+use Rattle.table.specs.Hashes.{hashOf, placeIn, uriSlot, HashesOf, HashedEntries}
+use Rattle.laws.proofs.ReadAnswers.{is-some}
+use Rattle.fields.proofs.PartLaws.{some-part}
+use Rattle.table.proofs.HashLaws.{one-hashed}
+use Rattle.table.proofs.PlaceLaws.{to-place}
 use Rattle.records.proofs.ListLaws.{good-one, good-after, good-rest, rest, all-of, again-rest, again-end, distinct-not, distinct-rest}
-use Rattle.records.proofs.SameLaws.{Compared, entry-ends, same-properties}
+use Rattle.fields.proofs.SameLaws.{Compared, entry-ends, same-properties}
 use Rattle.records.proofs.SchemaLaws.{code-here, code-rest}
 
 -- ── the bytes of a schema ───────────────────────────────────────────────────────────────────
 
 some-there : {A : Type 0} {o : Option A} {a : A} → o ≡ some a → isSome o ≡ true
-unfolding isSome
 some-there e = rw e
 
 module _ (s : List ℕ) where
@@ -49,7 +50,7 @@ module _ (s : List ℕ) where
           let ends = entry-ends s at (good-one readEntry entry-forward s at g k) in
           let r = rest readEntry entry-forward s at g k ends in
           let fits = good-after readEntry entry-forward s at g k ends .1 in
-          let x = later (at + 42) (omega arith) fits (r .0) (r .1) in
+          let x = later (at + entryWidth) (omega arith) fits (r .0) (r .1) in
           omega (arith, x, ap length (same-some e (all-of readEntry entry-forward s at g k ends)))
 
   pub schema-length : (S : Schema) → readSchema s ≡ some S → length s ≡ length S * entryWidth
@@ -58,26 +59,21 @@ module _ (s : List ℕ) where
   pub schema-whole : isSome (readSchema s) ≡ true → (n : ℕ) × (length s ≡ n * entryWidth)
   schema-whole g = let r = is-some (readSchema s) g in (length (r .0), schema-length (r .0) (r .1))
 
--- ── the marks of a schema's first entries ───────────────────────────────────────────────────
+-- ── the hashes of a schema's first entries ───────────────────────────────────────────────────
 
-abbrev pub MarkedTo : (schema : List ℕ) → (n : ℕ) → (marks : List ℕ) → Type 0
-MarkedTo s n marks = (i : ℕ) → i < n → getD marks i 0 ≡ markOf (uriSlot (part s (i * entryWidth + 1) textWidth))
-
-pub no-entries : (s marks : List ℕ) → MarkedTo s 0 marks
-no-entries s marks i h = absurd (omega arith)
+abbrev pub HashedTo : (schema : List ℕ) → (n : ℕ) → (hashes : List ℕ) → Type 0
+HashedTo s n hashes = HashesOf (λ i. hashOf (uriSlot (part s (i * entryWidth + 1) textWidth))) n hashes
 
 -- the next entry, as the code hands it on
-pub one-entry : (s marks slot : List ℕ) (i x : ℕ) → i < length marks → MarkedTo s i marks
+pub one-entry : (s hashes slot : List ℕ) (i x : ℕ) → i < length hashes → HashedTo s i hashes
     → slot ≡ filled slotWidth (0x11 ∷ part s (i * entryWidth + 1) (i * entryWidth + 1 + textWidth - (i * entryWidth + 1)))
-    → x ≡ markOf slot → MarkedTo s (i + 1) (set marks i x)
-one-entry s marks slot i x h w e f =
-    below-more (λ j. getD (set marks i x) j 0 ≡ markOf (uriSlot (part s (j * entryWidth + 1) textWidth))) i
-    (λ j l. getD-set-other marks i j x 0 (λ q. omega arith) ∙ w j l)
-    (getD-set-same marks i x 0 h ∙ (f ∙ ap markOf (e ∙ ap uriSlot (some-part s (i * entryWidth + 1) textWidth))))
+    → x ≡ hashOf slot → HashedTo s (i + 1) (set hashes i x)
+one-entry s hashes slot i x h w e f =
+    one-hashed (λ j. hashOf (uriSlot (part s (j * entryWidth + 1) textWidth))) hashes i x h w (f ∙ ap hashOf (e ∙ ap uriSlot (some-part s (i * entryWidth + 1) textWidth)))
 
-pub all-entries : (s marks : List ℕ) (i : ℕ) → isSome (readSchema s) ≡ true → length s ≤ entryLimit * entryWidth → length marks ≡ entryLimit
-    → length s / entryWidth ≤ i → MarkedTo s i marks → MarkedEntries s marks
-all-entries s marks i g few room l w =
+pub all-entries : (s hashes : List ℕ) (i : ℕ) → isSome (readSchema s) ≡ true → length s ≤ schemaWidth → length hashes ≡ entryLimit
+    → length s / entryWidth ≤ i → HashedTo s i hashes → HashedEntries s hashes
+all-entries s hashes i g few room l w =
     record { few = few; room = room; each = λ j h. w j (omega (arith, schema-whole s g .1)) }
 
 -- ── an entry by its number ──────────────────────────────────────────────────────────────────
@@ -89,27 +85,27 @@ module _ (s : List ℕ) (i : ℕ) (g : isSome (recordsAt readEntry s (i * entryW
   starts : i * entryWidth < length s
   starts = omega arith
 
-  next-is : (i + 1) * entryWidth ≡ i * entryWidth + 42
+  next-is : (i + 1) * entryWidth ≡ i * entryWidth + entryWidth
   next-is = omega arith
 
   pub entry-good : isSome (readEntry s (i * entryWidth)) ≡ true
   entry-good = good-one readEntry entry-forward s (i * entryWidth) g starts
 
-  ends : Next (i * entryWidth + 42) ≡ nextOf (readEntry s (i * entryWidth))
+  ends : Next (i * entryWidth + entryWidth) ≡ nextOf (readEntry s (i * entryWidth))
   ends = entry-ends s (i * entryWidth) entry-good
 
-  pub after-good : isSome (recordsAt readEntry s (i * entryWidth + 42)) ≡ true
+  pub after-good : isSome (recordsAt readEntry s (i * entryWidth + entryWidth)) ≡ true
   after-good = good-rest readEntry entry-forward s (i * entryWidth) g starts ends
 
   pub next-good : isSome (recordsAt readEntry s ((i + 1) * entryWidth)) ≡ true
   next-good = rw next-is after-good
 
-  -- a URI whose mark is another is another
-  other-uri : (marks u : List ℕ) → MarkedEntries s marks → {m : ℕ} → m ≡ markOf (uriSlot u) → (getD marks i 0 ≡ m → ⊥)
+  -- a URI whose hash is another is another
+  other-uri : (hashes u : List ℕ) → HashedEntries s hashes → {m : ℕ} → m ≡ hashOf (uriSlot u) → (getD hashes i 0 ≡ m → ⊥)
       → Compared (part s (i * entryWidth + 1) (i * entryWidth + 1 + textWidth - (i * entryWidth + 1))) u false
-  other-uri marks u w e d = (
+  other-uri hashes u w e d = (
     λ t. absurd (trueIs false t),
-    λ q. absurd (d (w .each i starts ∙ ap (λ (f : List ℕ). markOf (uriSlot f)) (sym (some-part s (i * entryWidth + 1) textWidth) ∙ q) ∙ sym e)),
+    λ q. absurd (d (w .each i starts ∙ ap (λ (f : List ℕ). hashOf (uriSlot f)) (sym (some-part s (i * entryWidth + 1) textWidth) ∙ q) ∙ sym e)),
   )
 
   module _ (u : List ℕ) (v : isSome (uriText u) ≡ true) where
@@ -117,78 +113,78 @@ module _ (s : List ℕ) (i : ℕ) (g : isSome (recordsAt readEntry s (i * entryW
         → schemaCode (recordsAt readEntry s (i * entryWidth)) (uriText u) ≡ schemaCode (recordsAt readEntry s ((i + 1) * entryWidth)) (uriText u)
     code-next c q = rw next-is (code-rest s (i * entryWidth) u v g starts c q)
 
-    code-other : (marks : List ℕ) → MarkedEntries s marks → {m : ℕ} → m ≡ markOf (uriSlot u) → (getD marks i 0 ≡ m → ⊥)
+    code-other : (hashes : List ℕ) → HashedEntries s hashes → {m : ℕ} → m ≡ hashOf (uriSlot u) → (getD hashes i 0 ≡ m → ⊥)
         → schemaCode (recordsAt readEntry s (i * entryWidth)) (uriText u) ≡ schemaCode (recordsAt readEntry s ((i + 1) * entryWidth)) (uriText u)
-    code-other marks w e d = code-next (other-uri marks u w e d) refl
+    code-other hashes w e d = code-next (other-uri hashes u w e d) refl
 
     pub code-found : {r : Bool} → Compared (part s (i * entryWidth + 1) (i * entryWidth + 1 + textWidth - (i * entryWidth + 1))) u r → r ≡ true
         → byte s (i * entryWidth + 1 + textWidth) ≡ schemaCode (recordsAt readEntry s (i * entryWidth)) (uriText u)
     code-found c q = code-here s (i * entryWidth) u v g starts c q
 
--- ── a mark that is not among those from a number on ─────────────────────────────────────────
+-- ── a hash that is not among those from a number on ─────────────────────────────────────────
 
 pub neither : (a b : Bool) → (a || b) ≡ false → (a ≡ false) × (b ≡ false)
 neither true b e = absurd (trueIs false (sym e))
 neither false b e = (refl, e)
 
-module _ (s marks u : List ℕ) (g : isSome (readSchema s) ≡ true) (w : MarkedEntries s marks) {m : ℕ} (e : m ≡ markOf (uriSlot u)) where
+module _ (s hashes u : List ℕ) (g : isSome (readSchema s) ≡ true) (w : HashedEntries s hashes) {m : ℕ} (e : m ≡ hashOf (uriSlot u)) where
   -- what holds at the end and before each entry of another URI
   module _ (P : ℕ → Type 0) (last : (at : ℕ) → length s ≤ at → P at)
-      (other : (at : ℕ) → isSome (recordsAt readEntry s at) ≡ true → at < length s → Compared (part s (at + 1) (at + 1 + textWidth - (at + 1))) u false → P (at + 42) → P at) where
-    no-mark : (k i : ℕ) → length s / entryWidth ≡ i + k → isSome (recordsAt readEntry s (i * entryWidth)) ≡ true → some? (eqb m) (part marks i k) ≡ false → P (i * entryWidth)
-    no-mark zero i l f q = last (i * entryWidth) (omega (arith, schema-whole s g .1))
-    no-mark (suc k) i l f q =
+      (other : (at : ℕ) → isSome (recordsAt readEntry s at) ≡ true → at < length s → Compared (part s (at + 1) (at + 1 + textWidth - (at + 1))) u false → P (at + entryWidth) → P at) where
+    no-hash : (k i : ℕ) → length s / entryWidth ≡ i + k → isSome (recordsAt readEntry s (i * entryWidth)) ≡ true → some? (eqb m) (part hashes i k) ≡ false → P (i * entryWidth)
+    no-hash zero i l f q = last (i * entryWidth) (omega (arith, schema-whole s g .1))
+    no-hash (suc k) i l f q =
         let h : i < length s / entryWidth = omega arith in
-        let c : drop i marks ≡ getD marks i 0 ∷ drop (suc i) marks = drop-cons marks i 0 (omega (arith, w .few, w .room)) in
-        let b : (eqb m (getD marks i 0) || some? (eqb m) (part marks (suc i) k)) ≡ false = sym (ap (λ (xs : List ℕ). some? (eqb m) (take (suc k) xs)) c) ∙ q in
-        let n = neither (eqb m (getD marks i 0)) (some? (eqb m) (part marks (suc i) k)) b in
-        let j : i * entryWidth + 42 ≡ suc i * entryWidth = omega arith in
+        let c : drop i hashes ≡ getD hashes i 0 ∷ drop (suc i) hashes = drop-cons hashes i 0 (omega (arith, w .few, w .room)) in
+        let b : (eqb m (getD hashes i 0) || some? (eqb m) (part hashes (suc i) k)) ≡ false = sym (ap (λ (xs : List ℕ). some? (eqb m) (take (suc k) xs)) c) ∙ q in
+        let n = neither (eqb m (getD hashes i 0)) (some? (eqb m) (part hashes (suc i) k)) b in
+        let j : i * entryWidth + entryWidth ≡ suc i * entryWidth = omega arith in
         let f′ = subst (λ (at : ℕ). isSome (recordsAt readEntry s at) ≡ true) j (after-good s i f h) in
-        other (i * entryWidth) f (starts s i f h) (other-uri s i f h marks u w e (λ x. eqb-false m (getD marks i 0) (n .0) (sym x)))
-        (subst P (sym j) (no-mark k (suc i) (omega arith) f′ (n .1)))
+        other (i * entryWidth) f (starts s i f h) (other-uri s i f h hashes u w e (λ x. eqb-false m (getD hashes i 0) (n .0) (sym x)))
+        (subst P (sym j) (no-hash k (suc i) (omega arith) f′ (n .1)))
 
--- ── the next place of a mark ────────────────────────────────────────────────────────────────
+-- ── the next place of a hash ────────────────────────────────────────────────────────────────
 
 -- what is asked of the whole is asked of the entries from a number on
 abbrev pub AskedFrom : (schema uri : List ℕ) → ℕ → Type 0
 AskedFrom s u i = (isSome (recordsAt readEntry s (i * entryWidth)) ≡ true) × (schemaCode (readSchema s) (uriText u) ≡ schemaCode (recordsAt readEntry s (i * entryWidth)) (uriText u))
 
 -- no entry before it is of the URI
-module _ (s marks u : List ℕ) (v : isSome (uriText u) ≡ true) (w : MarkedEntries s marks) {m : ℕ} (e : m ≡ markOf (uriSlot u)) where
-  pub code-place : (i : ℕ) → i ≤ length s / entryWidth → AskedFrom s u i → {r : ℕ} → r ≡ placeIn m (part marks i (length s / entryWidth - i)) → AskedFrom s u (i + r)
+module _ (s hashes u : List ℕ) (v : isSome (uriText u) ≡ true) (w : HashedEntries s hashes) {m : ℕ} (e : m ≡ hashOf (uriSlot u)) where
+  pub code-place : (i : ℕ) → i ≤ length s / entryWidth → AskedFrom s u i → {r : ℕ} → r ≡ placeIn m (part hashes i (length s / entryWidth - i)) → AskedFrom s u (i + r)
   code-place i l p f =
-      to-place (AskedFrom s u) m marks (length s / entryWidth) (omega (arith, w .few, w .room))
-      (λ j k d q. (next-good s j (q .0) k, q .1 ∙ code-other s j (q .0) k u v marks w e d)) i l p f
+      to-place (AskedFrom s u) m hashes (length s / entryWidth) (omega (arith, w .few, w .room))
+      (λ j k d q. (next-good s j (q .0) k, q .1 ∙ code-other s j (q .0) k u v hashes w e d)) i l p f
 
-  pub code-first : isSome (readSchema s) ≡ true → {r : ℕ} → r ≡ placeIn m (take (length s / entryWidth) marks) → AskedFrom s u r
+  pub code-first : isSome (readSchema s) ≡ true → {r : ℕ} → r ≡ placeIn m (take (length s / entryWidth) hashes) → AskedFrom s u r
   code-first g f =
       let z : length s / entryWidth - 0 ≡ length s / entryWidth = omega arith in
       let start : AskedFrom s u 0 = (ap isSome (sym (schema-at s)) ∙ g, ap (λ (o : Option Schema). schemaCode o (uriText u)) (schema-at s)) in
-      subst (AskedFrom s u) (omega arith) (code-place 0 (omega arith) start (f ∙ ap (λ (k : ℕ). placeIn m (take k marks)) (sym z)))
+      subst (AskedFrom s u) (omega arith) (code-place 0 (omega arith) start (f ∙ ap (λ (k : ℕ). placeIn m (take k hashes)) (sym z)))
 
 -- ── properties that are all different ───────────────────────────────────────────────────────
 
-module _ (s marks : List ℕ) (g : isSome (readSchema s) ≡ true) (w : MarkedEntries s marks) (i : ℕ)
+module _ (s hashes : List ℕ) (g : isSome (readSchema s) ≡ true) (w : HashedEntries s hashes) (i : ℕ)
     (f : isSome (recordsAt readEntry s (i * entryWidth)) ≡ true) (h : i < length s / entryWidth) where
-  pub distinct-found : {r : Bool} → r ≡ againIn sameProperty (readEntry s (i * entryWidth)) (recordsAt readEntry s (i * entryWidth + 42)) → r ≡ true
+  pub distinct-found : {r : Bool} → r ≡ againIn sameProperty (readEntry s (i * entryWidth)) (recordsAt readEntry s (i * entryWidth + entryWidth)) → r ≡ true
       → distinctIn sameProperty (recordsAt readEntry s (i * entryWidth)) ≡ false
   distinct-found e q = distinct-not readEntry entry-forward s (i * entryWidth) f (starts s i f h) (ends s i f h) sameProperty (sym e ∙ q)
 
-  pub distinct-next : {r : Bool} → r ≡ againIn sameProperty (readEntry s (i * entryWidth)) (recordsAt readEntry s (i * entryWidth + 42)) → r ≡ false
+  pub distinct-next : {r : Bool} → r ≡ againIn sameProperty (readEntry s (i * entryWidth)) (recordsAt readEntry s (i * entryWidth + entryWidth)) → r ≡ false
       → distinctIn sameProperty (recordsAt readEntry s (i * entryWidth)) ≡ distinctIn sameProperty (recordsAt readEntry s ((i + 1) * entryWidth))
   distinct-next e q = rw (next-is s i f h) (distinct-rest readEntry entry-forward s (i * entryWidth) f (starts s i f h) (ends s i f h) sameProperty (sym e ∙ q))
 
-  -- no later entry has its mark
-  pub distinct-marks : {r : Bool} → r ≡ some? (eqb (getD marks i 0)) (part marks (i + 1) (length s / entryWidth - (i + 1))) → r ≡ false
+  -- no later entry has its hash
+  pub distinct-hashes : {r : Bool} → r ≡ some? (eqb (getD hashes i 0)) (part hashes (i + 1) (length s / entryWidth - (i + 1))) → r ≡ false
       → distinctIn sameProperty (recordsAt readEntry s (i * entryWidth)) ≡ distinctIn sameProperty (recordsAt readEntry s ((i + 1) * entryWidth))
-  distinct-marks {r} e q =
+  distinct-hashes {r} e q =
       let at = i * entryWidth in
       let good = entry-good s i f h in
       let field = part s (at + 1) (at + 1 + textWidth - (at + 1)) in
-      let mark : getD marks i 0 ≡ markOf (uriSlot field) = w .each i (starts s i f h) ∙ ap (λ (b : List ℕ). markOf (uriSlot b)) (sym (some-part s (at + 1) textWidth)) in
+      let hash : getD hashes i 0 ≡ hashOf (uriSlot field) = w .each i (starts s i f h) ∙ ap (λ (b : List ℕ). hashOf (uriSlot b)) (sym (some-part s (at + 1) textWidth)) in
       let P : ℕ → Type 0 = λ b. againIn sameProperty (readEntry s at) (recordsAt readEntry s b) ≡ false in
       let later : P ((i + 1) * entryWidth) =
-      no-mark s marks field g w mark P (λ b l. again-end readEntry entry-forward s sameProperty b (readEntry s at) l)
+      no-hash s hashes field g w hash P (λ b l. again-end readEntry entry-forward s sameProperty b (readEntry s at) l)
       (λ b x l c p.
       let y = good-one readEntry entry-forward s b x l in
       again-rest readEntry entry-forward s b x l (entry-ends s b y) sameProperty (readEntry s at) (sym (same-properties s at b good y (flipped (part s (b + 1) (b + 1 + textWidth - (b + 1))) field c))) ∙ p)

@@ -1,14 +1,6 @@
-pub mod OptionLaws
-pub mod PartLaws
-pub mod PlaceLaws
-pub mod NumberLaws
-pub mod FieldLaws
-pub mod BodyLaws
-pub mod ReadLaws
+-- Read ListLaws first: records one after the other; then SchemaLaws and EntryLaws for a schema's entries, NumberingLaws for
+-- the terms that join a table.
 pub mod ListLaws
-pub mod SameLaws
 pub mod SchemaLaws
 pub mod EntryLaws
-pub mod TableLaws
 pub mod NumberingLaws
-pub mod MarkLaws

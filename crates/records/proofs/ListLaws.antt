@@ -1,52 +1,24 @@
 -- Laws of records one after the other, for each way through a loop over them.
 use Prim.Native.Nat.{ℕ, _+_, _<_, _≤_}
-use mathlib.Core.Bool.{Bool, true, false, not, _&&_, _||_}
-use mathlib.Core.List.{List, [], _∷_}
+use mathlib.Core.Bool.{Bool, true, false}
+use mathlib.Core.List.{List, _∷_}
 use mathlib.Core.Option.{Option, none, some}
 use mathlib.Core.Path.{_≡_, refl, sym, ap, _∙_}
 use native.Mathlib.Omega.{arith}
 use lib.ListN.{length}
-use Rattle.definitions.specs.Lists.{every, some?}
 use Rattle.definitions.specs.Bytes.{Got, inFront}
 use Rattle.laws.proofs.Options.{some-not-none}
-use Rattle.laws.proofs.RecordsAt.{Forward, recordsAt, at-end, at-bad, at-one}
-use Rattle.records.specs.declared.Counted.{Counted}
-use Rattle.records.specs.declared.Counted.the-variants as Counts
-use Rattle.records.specs.declared.Read.{Read}
-use Rattle.records.specs.declared.Read.the-variants.{Next, Malformed}
-use Rattle.records.specs.Answers.{isSome, nextOf, countOf, sameIn, againIn, distinctIn}
-use Rattle.records.proofs.OptionLaws.{is-some, next-lost, next-got, next-some}
+use Rattle.laws.proofs.RecordsAt.{Forward, at-end, at-bad, at-one}
+use Rattle.laws.specs.Records.{recordsAt}
+use Rattle.fields.specs.declared.Counted.the-variants as Counts
+use Rattle.definitions.specs.declared.Read.{Read}
+use Rattle.definitions.specs.declared.Read.the-variants.{Next, Malformed}
+use Rattle.laws.specs.ReadAnswers.{isSome, nextOf}
+use Rattle.table.proofs.CountLaws.{countFrom, none-of}
+use Rattle.fields.specs.Answers.{sameIn, againIn, distinctIn}
+use Rattle.laws.proofs.ReadAnswers.{is-some, next-lost, next-got, leaf-ends}
 
 -- ── lists ───────────────────────────────────────────────────────────────────────────────────
-
--- so many, and those of a list
-unfoldable pub countFrom : {A : Type 0} → ℕ → Option (List A) → Counted
-countFrom n none = Counts.Malformed
-countFrom n (some xs) = Counts.Count (n + length xs)
-
-pub count-zero : {A : Type 0} (o : Option (List A)) → countOf o ≡ countFrom 0 o
-unfolding countOf countFrom
-count-zero none = refl
-count-zero (some xs) = ap Counts.Count (omega arith)
-
--- a count says that there are some
-pub counted-some : {A : Type 0} (o : Option (List A)) {n : ℕ} → countOf o ≡ Counts.Count n → isSome o ≡ true
-unfolding countOf isSome
-counted-some none e = absurd (let z : _≡_ {A = ℕ} 0 1 = cc in omega arith)
-counted-some (some xs) e = refl
-
-pub counted-none : {A : Type 0} (same : A → A → Bool) (o : Option (List A)) → countOf o ≡ Counts.Malformed → distinctIn same o ≡ false
-unfolding countOf distinctIn
-counted-none same none e = refl
-counted-none same (some xs) e = absurd (let z : _≡_ {A = ℕ} 0 1 = cc in omega arith)
-
-pub none-of : {A : Type 0} (p : A → Bool) (xs : List A) → every (λ x. not (p x)) xs ≡ not (some? p xs)
-none-of p [] = refl
-none-of p (x ∷ xs) = go (p x) (none-of p xs)
-  where
-    go : (b : Bool) → every (λ x. not (p x)) xs ≡ not (some? p xs) → (not b && every (λ x. not (p x)) xs) ≡ not (b || some? p xs)
-    go true e = refl
-    go false e = e
 
 -- ── from an offset on ───────────────────────────────────────────────────────────────────────
 
@@ -79,7 +51,6 @@ module _ {A : Type 0} (read : List ℕ → ℕ → Got A) (forward : Forward rea
   -- where the records are good
   module _ (at : ℕ) (g : isSome (recordsAt read s at) ≡ true) (h : at < length s) where
     pub good-one : isSome (read s at) ≡ true
-    unfolding isSome
     good-one = go (read s at) refl
       where
         go : (o : Got A) → read s at ≡ o → isSome o ≡ true
@@ -94,7 +65,7 @@ module _ {A : Type 0} (read : List ℕ → ℕ → Got A) (forward : Forward rea
       here = one at h e refl
 
       pub good-rest : isSome (recordsAt read s k) ≡ true
-      unfolding isSome inFront
+      unfolding inFront
       good-rest = go (recordsAt read s k) refl
         where
           go : (o : Option (List A)) → recordsAt read s k ≡ o → isSome o ≡ true
@@ -129,7 +100,7 @@ module _ {A : Type 0} (read : List ℕ → ℕ → Got A) (forward : Forward rea
         distinct-rest q = rw (all-of, rest .1, none-of (same (here .0)) (rest .0)) (rw (rw (here .1, rest .1) at q))
 
     pub again-here : (same : A → A → Bool) (o : Got A) → sameIn same o (read s at) ≡ true → againIn same o (recordsAt read s at) ≡ true
-    again-here same o q = let r = is-some (read s at) good-one in again-one (next-some {a = r .0 .0} (r .1)) same o q
+    again-here same o q = let r = is-some (read s at) good-one in again-one (leaf-ends {a = r .0 .0} (r .1)) same o q
 
   pub again-end : (same : A → A → Bool) (at : ℕ) (o : Got A) → length s ≤ at → againIn same o (recordsAt read s at) ≡ false
   unfolding againIn

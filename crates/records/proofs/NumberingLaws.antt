@@ -10,31 +10,35 @@ use lib.Dec.{leb}
 use lib.ListN.{length, take, drop, replicate, length-append, length-take}
 use lib.Seq.{take-all, take-at, drop-at, take-append-le}
 use borrow.Author.Tests.{le-leb, lt-leb, leb-true, leb-false}
-use Rattle.definitions.specs.Limits.{textWidth, slotWidth, termLimit, termTableWidth}
+use Rattle.definitions.specs.Limits.{textWidth, slotWidth, entryWidth, termLimit, termTableWidth}
 use Rattle.definitions.specs.Bytes.{byte, part, filled}
 use Rattle.definitions.specs.Terms.{Text, Term, Schema, uriText, bodyOf, slotOf, readTerm, readEntry, readTerms, readSchema, sameTerm}
 use Rattle.definitions.specs.Machine.{Numbered, numbered, afterTerm, withProperties}
 use Rattle.definitions.specs.Saved.{slots, termTable, slotTerm, termsIn}
-use Rattle.laws.proofs.All.{All, all-append}
+use Rattle.laws.specs.Lists.{All}
+use Rattle.laws.proofs.All.{all-append}
 use Rattle.laws.proofs.Bytes.{AreBytes}
 use Rattle.laws.proofs.Numbering.{all-numbered}
 use Rattle.laws.proofs.Ranges.{split}
-use Rattle.laws.proofs.RecordsAt.{recordsAt, at-end, entry-inv, term-forward, entry-forward, terms-at, schema-at}
-use Rattle.laws.proofs.Valid.{Valid, uri-inv, uri-valid, term-valid, terms-valid}
+use Rattle.laws.specs.Records.{recordsAt}
+use Rattle.laws.proofs.RecordsAt.{at-end, entry-inv, term-forward, entry-forward, terms-at, schema-at}
+use Rattle.laws.specs.Valid.{Valid}
+use Rattle.laws.proofs.Valid.{uri-inv, uri-valid, term-valid, terms-valid}
 use Rattle.laws.proofs.Slots.{slot-length, slot-of, slot-inv}
 use Rattle.laws.proofs.Tables.{slots-length, term-table-length, terms-of, terms-in-valid, terms-in-table}
-use Rattle.records.specs.declared.Added.{Added}
-use Rattle.records.specs.declared.Added.the-variants.{Count, Full}
-use Rattle.records.specs.declared.Counted.the-variants as Counts
-use Rattle.records.specs.declared.Read.the-variants.{Next}
-use Rattle.records.specs.Answers.{isSome, nextOf, countOf}
-use Rattle.records.specs.Marks.{Marked}
-use Rattle.records.specs.Table.{HoldsTerms, GoodSlot, numberIn, slotSet, withTerm, listOf, addedOf, tableOf}
+use Rattle.table.specs.declared.Added.{Added}
+use Rattle.table.specs.declared.Added.the-variants.{Count, Full}
+use Rattle.fields.specs.declared.Counted.the-variants as Counts
+use Rattle.definitions.specs.declared.Read.the-variants.{Next}
+use Rattle.laws.specs.ReadAnswers.{isSome, nextOf}
+use Rattle.fields.specs.Answers.{countOf}
+use Rattle.table.specs.Hashes.{Hashed}
+use Rattle.table.specs.Table.{HoldsTerms, GoodSlot, numberIn, slotSet, withTerm, listOf, addedOf, tableOf}
 use Rattle.records.proofs.ListLaws.{good-one, good-rest, here, rest, all-of}
-use Rattle.records.proofs.OptionLaws.{is-some, next-some}
-use Rattle.records.proofs.PartLaws.{some-part}
-use Rattle.records.proofs.SameLaws.{record-parts, record-short, entry-ends}
-use Rattle.records.proofs.TableLaws.{terms, terms-length, holds-few, drop-replicate}
+use Rattle.laws.proofs.ReadAnswers.{is-some, leaf-ends}
+use Rattle.fields.proofs.PartLaws.{some-part, drop-replicate}
+use Rattle.fields.proofs.SameLaws.{record-parts, record-short, entry-ends}
+use Rattle.table.proofs.TableLaws.{terms, terms-length, holds-few}
 
 -- ── a table of terms ────────────────────────────────────────────────────────────────────────
 
@@ -106,12 +110,12 @@ put-one table ts n h l t v slot e =
       few = omega arith;
     }
 
--- the marks of so many as there then are
-pub count-marked : (table marks : List ℕ) (n : ℕ) → Marked table n marks → (k : ℕ) → Count n ≡ Count k → Marked table k marks
-count-marked table marks n w k e i l = let q : n ≡ k = cc in w i (omega arith)
+-- the hashes of so many as there then are
+pub count-hashed : (table hashes : List ℕ) (n : ℕ) → Hashed table n hashes → (k : ℕ) → Count n ≡ Count k → Hashed table k hashes
+count-hashed table hashes n w k e i l = let q : n ≡ k = cc in w i (omega arith)
 
-pub full-marked : (table marks : List ℕ) (k : ℕ) → Full ≡ Count k → Marked table k marks
-full-marked table marks k e = absurd (let z : _≡_ {A = ℕ} 0 1 = cc in omega arith)
+pub full-hashed : (table hashes : List ℕ) (k : ℕ) → Full ≡ Count k → Hashed table k hashes
+full-hashed table hashes k e = absurd (let z : _≡_ {A = ℕ} 0 1 = cc in omega arith)
 
 -- ── a term joins ────────────────────────────────────────────────────────────────────────────
 
@@ -279,7 +283,7 @@ module _ (s table : List ℕ) (at n : ℕ) (i : Listing s table at n) where
   pub listing-full : at < length s → termLimit ≤ n → (Full ≡ addedOf (listOf (readTerms s))) × (table ≡ tableOf (listOf (readTerms s)))
   listing-full l m =
       let r = is-some (readTerm s at) (good-one readTerm term-forward s at (i .good) l) in
-      let e : Next (r .0 .1) ≡ nextOf (readTerm s at) = next-some {a = r .0 .0} (r .1) in
+      let e : Next (r .0 .1) ≡ nextOf (readTerm s at) = leaf-ends {a = r .0 .0} (r .1) in
       rw (all-terms l e) (added-full table (i .done) n (i .holding) m (this l e ∷ later l e) (omega arith))
 
 -- ── schema URIs ─────────────────────────────────────────────────────────────────────────────
@@ -323,7 +327,7 @@ module _ (s : List ℕ) (before : List Term) (table : List ℕ) (at n : ℕ) (i 
 
     field : uriText (part s (at + 1) textWidth) ≡ some property
     unfolding property
-    field = let e = here readEntry entry-forward s at (i .good) l (entry-ends s at entry-good) in entry-inv s at (e .0) (at + 42) (e .1) .property
+    field = let e = here readEntry entry-forward s at (i .good) l (entry-ends s at entry-good) in entry-inv s at (e .0) (at + entryWidth) (e .1) .property
 
     field-fits : length (part s (at + 1) textWidth) ≤ textWidth
     field-fits = omega (arith, length-take textWidth (drop (at + 1) s))
@@ -344,7 +348,6 @@ module _ (s : List ℕ) (before : List Term) (table : List ℕ) (at n : ℕ) (i 
       slot-term = ap slotTerm slot-is ∙ slot-of (Term.uri property) valid
 
       pub property-slot : GoodSlot slot
-      unfolding isSome
       property-slot = record { width = ap length slot-is ∙ slot-length (Term.uri property) valid; good = ap isSome slot-term }
 
       with-term : withTerm (slotTerm slot) (termsIn table) ≡ joined-terms
@@ -352,7 +355,7 @@ module _ (s : List ℕ) (before : List Term) (table : List ℕ) (at n : ℕ) (i 
       with-term = ap₂ withTerm slot-term (holding-terms table (i .current) n (i .holding))
 
       module _ {r : Added} {after : List ℕ} (e : r ≡ addedOf (withTerm (slotTerm slot) (termsIn table))) (f : after ≡ tableOf (withTerm (slotTerm slot) (termsIn table))) where
-        pub adding-next : {m : ℕ} → r ≡ Count m → Adding s before after (at + 42) m
+        pub adding-next : {m : ℕ} → r ≡ Count m → Adding s before after (at + entryWidth) m
         unfolding joined-terms entries listOf
         adding-next {m} c =
             record {

@@ -8,7 +8,7 @@ use native.Mathlib.Omega.{arith}
 use lib.Dec.{eqb}
 use lib.ListN.{length, drop}
 use borrow.Author.Tests.{ne-eqb}
-use Rattle.definitions.specs.Limits.{textWidth, slotWidth}
+use Rattle.definitions.specs.Limits.{textWidth, slotWidth, entryWidth, uriWidth}
 use Rattle.definitions.specs.Bytes.{byte, part, sameBytes, allZero, provided}
 use Rattle.definitions.specs.Types.{Datatype, datatypeCode, datatypeOfCode, datatypeRows, typeCode}
 use Rattle.definitions.specs.Terms.{Text, Term, Entry, Schema, Sort, termKind, bodyWidth, uriText, ofTermKind, termOfBody, bodyOf, slotOf, readTerm, readEntry, datatypeIn, sortOf, isInteger, isDecimal, isDateTime}
@@ -16,16 +16,18 @@ use Rattle.definitions.specs.Saved.{slotTerm}
 use Rattle.laws.proofs.Options.{some-is, some-not-none, onward-inv, provided-inv}
 use Rattle.laws.proofs.Bytes.{AreBytes}
 use Rattle.laws.proofs.Reading.{row-keys}
-use Rattle.laws.proofs.Sorts.{least}
+use Rattle.laws.specs.Sorts.{least}
 use Rattle.laws.proofs.Slots.{kind-inv, slot-inv}
 use Rattle.laws.proofs.Valid.{uri-inv, string-inv, number-inv}
-use Rattle.laws.proofs.RecordsAt.{EntryAt, entry-inv, TermAt, term-inv, entry-forward, recordsAt, at-end}
-use Rattle.records.specs.Answers.{isSome, codeOf, schemaCode, leastCode}
-use Rattle.records.specs.Marks.{uriSlot}
-use Rattle.records.proofs.OptionLaws.{is-some}
-use Rattle.records.proofs.PartLaws.{some-part}
+use Rattle.laws.specs.Records.{EntryAt, TermAt, recordsAt}
+use Rattle.laws.proofs.RecordsAt.{entry-inv, term-inv, entry-forward, at-end}
+use Rattle.laws.specs.ReadAnswers.{isSome}
+use Rattle.fields.specs.Answers.{codeOf, schemaCode, leastCode}
+use Rattle.table.specs.Hashes.{uriSlot}
+use Rattle.laws.proofs.ReadAnswers.{is-some}
+use Rattle.fields.proofs.PartLaws.{some-part}
 use Rattle.records.proofs.ListLaws.{good-one, here, rest, all-of}
-use Rattle.records.proofs.SameLaws.{Compared, same-uris, entry-ends}
+use Rattle.fields.proofs.SameLaws.{Compared, same-uris, entry-ends}
 
 -- ── the datatype of a property ──────────────────────────────────────────────────────────────
 
@@ -54,9 +56,9 @@ module _ (s : List ℕ) (at : ℕ) (u : List ℕ) (v : isSome (uriText u) ≡ tr
     unfolding first others
     all-first = all-of readEntry entry-forward s at g h (entry-ends s at good)
 
-    first-holds : EntryAt s at first (at + 42)
+    first-holds : EntryAt s at first (at + entryWidth)
     unfolding first
-    first-holds = let e = here readEntry entry-forward s at g h (entry-ends s at good) in entry-inv s at (e .0) (at + 42) (e .1)
+    first-holds = let e = here readEntry entry-forward s at g h (entry-ends s at good) in entry-inv s at (e .0) (at + entryWidth) (e .1)
 
     module _ {r : Bool} (c : Compared (part s (at + 1) (at + 1 + textWidth - (at + 1))) u r) where
       same : (t : Text) → uriText u ≡ some t → r ≡ sameBytes (first .property) t
@@ -68,10 +70,10 @@ module _ (s : List ℕ) (at : ℕ) (u : List ℕ) (v : isSome (uriText u) ≡ tr
       unfolding schemaCode datatypeIn codeOf
       code-here q =
           let t = is-some (uriText u) v in
-          let e : at + 1 + textWidth ≡ at + 41 = omega arith in
-          rw (all-first, t .1, sym (same (t .0) (t .1)) ∙ q, e) (sym (code-inv (byte s (at + 41)) (first .datatype) (first-holds .datatype)))
+          let e : at + 1 + textWidth ≡ at + uriWidth = omega arith in
+          rw (all-first, t .1, sym (same (t .0) (t .1)) ∙ q, e) (sym (code-inv (byte s (at + uriWidth)) (first .datatype) (first-holds .datatype)))
 
-      pub code-rest : r ≡ false → schemaCode (recordsAt readEntry s at) (uriText u) ≡ schemaCode (recordsAt readEntry s (at + 42)) (uriText u)
+      pub code-rest : r ≡ false → schemaCode (recordsAt readEntry s at) (uriText u) ≡ schemaCode (recordsAt readEntry s (at + entryWidth)) (uriText u)
       unfolding schemaCode datatypeIn others
       code-rest q =
           let t = is-some (uriText u) v in
@@ -101,6 +103,25 @@ module _ (slot : List ℕ) (g : isSome (slotTerm slot) ≡ true) where
 
   datatype-at : (k : ℕ) (d : Datatype) → ofTermKind k ≡ some d → byte slot 0 ≡ k → slot-holds .1 .datatype ≡ d
   datatype-at k d e q = some-is (sym (slot-holds .1 .kind) ∙ ap (λ (k : ℕ). ofTermKind k) q ∙ e)
+
+  -- a URI's
+  module _ (q : byte slot 0 ≡ 0x11) where
+    uri-of : (u : Text) × (uriText (part slot 1 textWidth) ≡ some u) × (term .0 ≡ Term.uri u)
+    unfolding termOfBody
+    uri-of =
+        let i = onward-inv (uriText (part slot 1 textWidth)) (λ u. some (Term.uri u)) (of-datatype Datatype.anyURI (datatype-at 0x11 Datatype.anyURI refl q)) in
+        (i .0, i .1, sym (some-is (i .2)))
+
+    pub uri-field : isSome (uriText (part slot 1 textWidth)) ≡ true
+    uri-field = rw (uri-of .1)
+
+    -- the slot is that of its field
+    pub uri-slot : length slot ≡ slotWidth → AreBytes slot → slot ≡ uriSlot (part slot 1 textWidth)
+    unfolding slotOf bodyOf
+    uri-slot l b =
+        sym (slot-inv slot (term .0) l b (term .1) .0)
+        ∙ ap slotOf (uri-of .2)
+        ∙ ap uriSlot (uri-inv (part slot 1 textWidth) (uri-of .0) (uri-of .1) .0 .whole)
 
 -- a literal has its own datatype
 literal-code : (S : Schema) (d : Datatype) (b : List ℕ) (t : Term) → (datatypeCode d ≡ 1 → ⊥) → termOfBody d b ≡ some t → typeCode (least (sortOf S t)) ≡ datatypeCode d
@@ -150,26 +171,8 @@ module _ (o : Option Schema) (f : isSome o ≡ true) (slot : List ℕ) (g : isSo
 
   -- a URI
   module _ (q : byte slot 0 ≡ 0x11) where
-    uri-of : (u : Text) × (uriText (part slot 1 textWidth) ≡ some u) × (term slot g .0 ≡ Term.uri u)
-    unfolding termOfBody
-    uri-of =
-        let i = onward-inv (uriText (part slot 1 textWidth)) (λ u. some (Term.uri u)) (of-datatype slot g Datatype.anyURI (datatype-at slot g 0x11 Datatype.anyURI refl q)) in
-        (i .0, i .1, sym (some-is (i .2)))
-
-    pub uri-field : isSome (uriText (part slot 1 textWidth)) ≡ true
-    unfolding isSome
-    uri-field = rw (uri-of .1)
-
-    -- the slot is that of its field
-    pub uri-slot : length slot ≡ slotWidth → AreBytes slot → slot ≡ uriSlot (part slot 1 textWidth)
-    unfolding slotOf bodyOf
-    uri-slot l b =
-        sym (slot-inv slot (term slot g .0) l b (term slot g .1) .0)
-        ∙ ap slotOf (uri-of .2)
-        ∙ ap uriSlot (uri-inv (part slot 1 textWidth) (uri-of .0) (uri-of .1) .0 .whole)
-
     uri-least : leastCode o (slotTerm slot) ≡ cond (eqb (schemaCode o (uriText (part slot 1 textWidth))) 0) 1 (8 + schemaCode o (uriText (part slot 1 textWidth)))
-    uri-least = least-is ∙ uri-type (schema .0) (uri-of .0) (uri-of .2) (schema .1) (uri-of .1)
+    uri-least = least-is ∙ let u = uri-of slot g q in uri-type (schema .0) (u .0) (u .2) (schema .1) (u .1)
 
     module _ {d : ℕ} (e : d ≡ schemaCode o (uriText (part slot 1 textWidth))) where
       pub no-schema-uri : d ≡ 0 → 1 ≡ leastCode o (slotTerm slot)

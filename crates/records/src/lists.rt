@@ -1,27 +1,26 @@
 // Records one after the other: how many there are, and whether one is there twice.
-use crate::Added;
-use crate::Counted;
-use crate::Read;
-use crate::bodies::body_width;
-use crate::marks::is_in;
 use crate::numbering::list_terms;
-use crate::reading::ENTRY_WIDTH;
-use crate::reading::SCHEMA_WIDTH;
-use crate::reading::read_entry;
-use crate::reading::read_term;
-use crate::reading::read_triple;
-use crate::schema::mark_entries;
-use crate::table::slots_distinct;
+use crate::schema::hash_entries;
+use definitions::ENTRY_WIDTH;
+use definitions::Read;
+use definitions::SCHEMA_WIDTH;
+use definitions::TERM_TABLE_WIDTH;
 use definitions::TEXT_WIDTH;
+use fields::Counted;
+use fields::bodies::body_width;
+use fields::reading::read_entry;
+use fields::reading::read_term;
+use fields::reading::read_triple;
+use table::Added;
+use table::hashes::is_in;
+use table::slots::slots_distinct;
 ghost use mathlib.Core.Path.{_≡_};
 ghost use mathlib.Core.Bool.{true};
 ghost use Rattle.definitions.specs.Terms.{sameTerm, sameProperty, readTerm, readEntry, readTerms, readSchema, readPage};
-ghost use Rattle.laws.proofs.RecordsAt.{recordsAt};
-ghost use Rattle.records.specs.Answers.{isSome, nextOf, countOf, sameIn, againIn, distinctIn};
-ghost use Rattle.records.specs.Marks.{MarkedEntries};
-
-// The bytes of a term table.
-const TABLE_WIDTH: usize = 25088;
+ghost use Rattle.laws.specs.Records.{recordsAt};
+ghost use Rattle.laws.specs.ReadAnswers.{isSome, nextOf};
+ghost use Rattle.fields.specs.Answers.{countOf, sameIn, againIn, distinctIn};
+ghost use Rattle.table.specs.Hashes.{HashedEntries};
 
 // How many term, schema or page records there are. Ruled out: the count up to the first bad record; one more for bytes left over.
 pub fn count_terms(s: &[u8]) -> Counted
@@ -126,7 +125,7 @@ pub fn terms_distinct(s: &[u8]) -> bool
     requires { ⌜ isSome (readTerms (now s)) ≡ true ⌝ }
     ensures { λ r. ⌜ r ≡ distinctIn sameTerm (readTerms (now (s .entry))) ⌝ }
 {
-    let mut table = [0u8; TABLE_WIDTH];
+    let mut table = [0u8; TERM_TABLE_WIDTH];
     let Added::Count(n) = list_terms(s, &mut table) else {
         return records_distinct(s);
     };
@@ -177,17 +176,17 @@ fn entries_distinct(s: &[u8]) -> bool
     true
 }
 
-// Whether good schema records are of different properties: records are compared only where their URIs' marks are the same.
-fn marked_distinct(s: &[u8], marks: &[u16]) -> bool
+// Whether good schema records are of different properties: records are compared only where their URIs' hashes are the same.
+fn hashed_distinct(s: &[u8], hashes: &[u16]) -> bool
     requires { ⌜ isSome (readSchema (now s)) ≡ true ⌝ }
-    requires { ⌜ MarkedEntries (now s) (now marks) ⌝ }
+    requires { ⌜ HashedEntries (now s) (now hashes) ⌝ }
     ensures { λ r. ⌜ r ≡ distinctIn sameProperty (readSchema (now (s .entry))) ⌝ }
 {
     let entries = s.len() / ENTRY_WIDTH;
     let mut i = 0;
     while i < entries {
         let next = i + 1;
-        if is_in(&marks[next..entries], marks[i]) {
+        if is_in(&hashes[next..entries], hashes[i]) {
             let at = i * ENTRY_WIDTH;
             if property_again(s, at, at + ENTRY_WIDTH) {
                 return false;
@@ -198,7 +197,7 @@ fn marked_distinct(s: &[u8], marks: &[u16]) -> bool
     true
 }
 
-// Whether good schema records are of different properties: by their URIs' marks, where there are no more than a schema may have.
+// Whether good schema records are of different properties: by their URIs' hashes, where there are no more than a schema may have.
 // Ruled out: a property twice with two datatypes let pass; neighbours alone compared.
 pub fn properties_distinct(s: &[u8]) -> bool
     requires { ⌜ isSome (readSchema (now s)) ≡ true ⌝ }
@@ -207,6 +206,6 @@ pub fn properties_distinct(s: &[u8]) -> bool
     if SCHEMA_WIDTH < s.len() {
         return entries_distinct(s);
     }
-    let marks = mark_entries(s);
-    marked_distinct(s, &marks)
+    let hashes = hash_entries(s);
+    hashed_distinct(s, &hashes)
 }

@@ -1,14 +1,14 @@
 // Terms that join a term table, and the table that loading numbers.
-use crate::Added;
 use crate::lists::term_end;
-use crate::marks::mark_slots;
-use crate::reading::ENTRY_WIDTH;
-use crate::table::find_term;
-use crate::table::put_slot;
-use crate::table::put_term;
-use crate::table::slot_of;
+use definitions::ENTRY_WIDTH;
 use definitions::TERM_LIMIT;
 use definitions::TEXT_WIDTH;
+use table::Added;
+use table::hashes::hash_slots;
+use table::slots::find_term;
+use table::slots::put_slot;
+use table::slots::put_term;
+use table::slots::slot_of;
 ghost use mathlib.Core.Path.{_≡_};
 ghost use mathlib.Core.Bool.{true};
 ghost use Prim.Native.Nat.{ℕ};
@@ -17,28 +17,28 @@ ghost use Rattle.definitions.specs.Limits.{termLimit, termTableWidth};
 ghost use Rattle.definitions.specs.Terms.{readTerms, readSchema};
 ghost use Rattle.definitions.specs.Machine.{withProperties};
 ghost use Rattle.definitions.specs.Saved.{slotTerm, termsIn};
-ghost use Rattle.records.specs.declared.Added.the-variants.{Count};
-ghost use Rattle.records.specs.Answers.{isSome};
-ghost use Rattle.records.specs.Marks.{Marked};
-ghost use Rattle.records.specs.Table.{HoldsTerms, GoodSlot, listOf, withTerm, addedOf, tableOf};
+ghost use Rattle.table.specs.declared.Added.the-variants.{Count};
+ghost use Rattle.laws.specs.ReadAnswers.{isSome};
+ghost use Rattle.table.specs.Hashes.{Hashed};
+ghost use Rattle.table.specs.Table.{HoldsTerms, GoodSlot, listOf, withTerm, addedOf, tableOf};
 
 // A slot's term joins a table of n terms, where it is not there.
 // Ruled out: a second number for a term that is there; a refusal where a full table has it.
-pub fn add_term(table: &mut [u8], n: usize, marks: &mut [u16], slot: &[u8]) -> Added
+pub fn add_term(table: &mut [u8], n: usize, hashes: &mut [u16], slot: &[u8]) -> Added
     requires { ⌜ HoldsTerms (now table) n ⌝ }
-    requires { ⌜ length (now marks) ≡ termLimit ⌝ }
-    requires { ⌜ Marked (now table) n (now marks) ⌝ }
+    requires { ⌜ length (now hashes) ≡ termLimit ⌝ }
+    requires { ⌜ Hashed (now table) n (now hashes) ⌝ }
     requires { ⌜ GoodSlot (now slot) ⌝ }
-    ensures { λ r. ⌜ (r ≡ addedOf (withTerm (slotTerm (now (slot .entry))) (termsIn (now (table .entry))))) × (now (table .exit) ≡ tableOf (withTerm (slotTerm (now (slot .entry))) (termsIn (now (table .entry))))) × ((k : ℕ) → r ≡ Count k → Marked (now (table .exit)) k (now (marks .exit))) ⌝ }
+    ensures { λ r. ⌜ (r ≡ addedOf (withTerm (slotTerm (now (slot .entry))) (termsIn (now (table .entry))))) × (now (table .exit) ≡ tableOf (withTerm (slotTerm (now (slot .entry))) (termsIn (now (table .entry))))) × ((k : ℕ) → r ≡ Count k → Hashed (now (table .exit)) k (now (hashes .exit))) ⌝ }
 {
-    let number = find_term(table, n, marks, slot);
+    let number = find_term(table, n, hashes, slot);
     if number < n {
         return Added::Count(n);
     }
     if TERM_LIMIT <= n {
         return Added::Full;
     }
-    put_term(table, n, marks, slot);
+    put_term(table, n, hashes, slot);
     let more = n + 1;
     Added::Count(more)
 }
@@ -67,12 +67,12 @@ pub fn list_terms(terms: &[u8], table: &mut [u8]) -> Added
 
 // Schema URIs join a table of n terms, those that are not there, in schema order.
 // Ruled out: another order; a URI written twice.
-pub fn add_properties(schema: &[u8], table: &mut [u8], n: usize, marks: &mut [u16]) -> Added
+pub fn add_properties(schema: &[u8], table: &mut [u8], n: usize, hashes: &mut [u16]) -> Added
     requires { ⌜ isSome (readSchema (now schema)) ≡ true ⌝ }
     requires { ⌜ HoldsTerms (now table) n ⌝ }
-    requires { ⌜ length (now marks) ≡ termLimit ⌝ }
-    requires { ⌜ Marked (now table) n (now marks) ⌝ }
-    ensures { λ r. ⌜ (r ≡ addedOf (withProperties (listOf (readSchema (now (schema .entry)))) (listOf (termsIn (now (table .entry)))))) × (now (table .exit) ≡ tableOf (withProperties (listOf (readSchema (now (schema .entry)))) (listOf (termsIn (now (table .entry)))))) × ((k : ℕ) → r ≡ Count k → Marked (now (table .exit)) k (now (marks .exit))) ⌝ }
+    requires { ⌜ length (now hashes) ≡ termLimit ⌝ }
+    requires { ⌜ Hashed (now table) n (now hashes) ⌝ }
+    ensures { λ r. ⌜ (r ≡ addedOf (withProperties (listOf (readSchema (now (schema .entry)))) (listOf (termsIn (now (table .entry)))))) × (now (table .exit) ≡ tableOf (withProperties (listOf (readSchema (now (schema .entry)))) (listOf (termsIn (now (table .entry)))))) × ((k : ℕ) → r ≡ Count k → Hashed (now (table .exit)) k (now (hashes .exit))) ⌝ }
 {
     let mut used = n;
     let mut at = 0;
@@ -80,7 +80,7 @@ pub fn add_properties(schema: &[u8], table: &mut [u8], n: usize, marks: &mut [u1
         let field = at + 1;
         let end = field + TEXT_WIDTH;
         let slot = slot_of(0x11, &schema[field..end]);
-        let Added::Count(more) = add_term(table, used, marks, &slot) else {
+        let Added::Count(more) = add_term(table, used, hashes, &slot) else {
             return Added::Full;
         };
         used = more;
@@ -100,6 +100,6 @@ pub fn number_terms(terms: &[u8], schema: &[u8], table: &mut [u8]) -> Added
     let Added::Count(listed) = list_terms(terms, table) else {
         return Added::Full;
     };
-    let mut marks = mark_slots(table, listed);
-    add_properties(schema, table, listed, &mut marks)
+    let mut hashes = hash_slots(table, listed);
+    add_properties(schema, table, listed, &mut hashes)
 }

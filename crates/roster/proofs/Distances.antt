@@ -10,8 +10,8 @@ use borrow.Author.Tests.{ltb-true, le-ltb}
 use mir.Syntax.{w64}
 use mir.Val.{Fits, SFits, toZ, ofZ}
 use mir.Facts.{toZ-ofZ}
-use Rattle.values.proofs.Signed.{kept-is}
-use Rattle.values.proofs.Strings.{cast-fits, cast-is}
+use Rattle.values.proofs.SignedLaws.{kept-is}
+use Rattle.values.proofs.TextLaws.{cast-fits, cast-is}
 
 -- -1 less a number below 0
 past-zero : (m : ℕ) → negsuc 0 -ℤ negsuc m ≡ pos m

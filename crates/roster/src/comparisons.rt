@@ -1,12 +1,15 @@
 // Equal and less. A line has the sign between two values: < and > by less, = by equal, ? where neither holds either way.
-use crate::fields;
+use crate::made;
 use crate::print;
+use crate::rows;
+use definitions::TAG_WIDTH;
+use definitions::TEXT_WIDTH;
 use values::Value;
-use values::made;
 ghost use mathlib.Core.Path.{_≡_};
 ghost use mathlib.Core.Bool.{Bool};
-ghost use Prim.Native.Nat.{_≤_};
+ghost use Prim.Native.Nat.{_+_, _≤_};
 ghost use lib.ListN.{length};
+ghost use Rattle.definitions.specs.Limits.{textWidth, tagWidth};
 ghost use Rattle.definitions.specs.Outcome.{ok};
 ghost use Rattle.definitions.specs.Values.{equalPair, lessPair};
 ghost use Rattle.values.specs.Meaning.{meaning, Good, compared};
@@ -34,9 +37,9 @@ fn relation(a: Value, b: Value) -> u8
     requires { ⌜ Good b ⌝ }
     ensures { λ r. ⌜ ((l e m : Bool) → compared lessPair (meaning a) (meaning b) ≡ ok l → compared equalPair (meaning a) (meaning b) ≡ ok e → compared lessPair (meaning b) (meaning a) ≡ ok m → r ≡ signOf l e m) ⌝ }
 {
-    let less = values::less(a, b);
-    let equal = values::equal(a, b);
-    let more = values::less(b, a);
+    let less = values::comparison::less(a, b);
+    let equal = values::comparison::equal(a, b);
+    let more = values::comparison::less(b, a);
     sign(less, equal, more)
 }
 
@@ -45,13 +48,13 @@ fn compare(a: Value, b: Value)
     requires { ⌜ Good a ⌝ }
     requires { ⌜ Good b ⌝ }
 {
-    let between = [relation(a, b)];
+    let between = relation(a, b);
     print::value(a);
-    print::word(b" ");
-    print::word(&between);
-    print::word(b" ");
+    print::byte(b' ');
+    print::byte(between);
+    print::byte(b' ');
     print::value(b);
-    print::word(b"\n");
+    print::byte(b'\n');
 }
 
 // Numbers by amount, whatever their kinds; no value compares with nothing.
@@ -77,10 +80,10 @@ fn date_times() {
 
 // One case: two strings with no tag.
 fn compare_strings(a: &[u8], b: &[u8])
-    requires { ⌜ length (now a) ≤ 40 ⌝ }
-    requires { ⌜ length (now b) ≤ 40 ⌝ }
+    requires { ⌜ length (now a) ≤ textWidth ⌝ }
+    requires { ⌜ length (now b) ≤ textWidth ⌝ }
 {
-    compare(fields::string(b"", a), fields::string(b"", b));
+    compare(made::string(b"", a), made::string(b"", b));
 }
 
 // Each byte of an order with the byte after it, as strings of one byte.
@@ -97,41 +100,58 @@ fn neighbours(order: &[u8]) {
     }
 }
 
-// By text: the end comes first, and a later byte counts only after equal ones.
-fn texts() {
-    neighbours(
-        b" 0123456789AaBbCcDdEeFfGgHhIiJjKkLlMmNnOoPpQqRrSsTtUuVvWwXxYyZz!\"#$%&'()*+,-./:;<=>?@[\\]^_`{|}~",
-    );
-    compare_strings(b"", b"");
-    compare_strings(b"", b" ");
-    compare_strings(b"ab", b"abc");
-    compare_strings(b"abc", b"ab");
-    compare_strings(b"aZ", b"Aa");
-    compare_strings(b"10", b"9");
+// The string of a tag and a text, each a word of the rows.
+fn string_of(text: &[u8], tag: usize, stop: usize, start: usize, end: usize) -> Value
+    requires { ⌜ (tag ≤ stop) × (stop ≤ tag + tagWidth) × (stop ≤ length (now text)) ⌝ }
+    requires { ⌜ (start ≤ end) × (end ≤ start + textWidth) × (end ≤ length (now text)) ⌝ }
+    ensures { λ r. ⌜ Good r ⌝ }
+{
+    made::string(&text[tag..stop], &text[start..end])
 }
 
-// Then by tag.
-fn tags() {
-    compare(fields::string(b"en", b"a"), fields::string(b"en", b"a"));
-    compare(fields::string(b"en", b"a"), fields::string(b"", b"a"));
-    compare(fields::string(b"en", b"a"), fields::string(b"fr", b"a"));
-    compare(fields::string(b"fr", b"a"), fields::string(b"en", b"b"));
-    compare(fields::string(b"en-a", b"a"), fields::string(b"ena", b"a"));
+// A row for each case: two strings, each a tag and a text.
+fn string_rows(text: &[u8]) {
+    let mut at = 0;
+    while at < text.len() {
+        let tag_end = rows::word_end(text, at, b'|', TAG_WIDTH);
+        let first = rows::within(text, tag_end);
+        let first_end = rows::word_end(text, first, b'|', TEXT_WIDTH);
+        let tag = rows::within(text, first_end);
+        let other_end = rows::word_end(text, tag, b'|', TAG_WIDTH);
+        let second = rows::within(text, other_end);
+        let last = rows::word_end(text, second, b'\n', TEXT_WIDTH);
+        let a = string_of(text, at, tag_end, first, first_end);
+        let b = string_of(text, tag, other_end, second, last);
+        compare(a, b);
+        at = rows::after(text, last);
+    }
 }
 
-// URIs by bytes.
-fn uris() {
-    compare(fields::uri(b"p:Z"), fields::uri(b"p:a"));
-    compare(fields::uri(b"p:a"), fields::uri(b"p:0"));
-    compare(fields::uri(b"p:a"), fields::uri(b"p:aa"));
-    compare(fields::uri(b"p:name"), fields::uri(b"p:name"));
+// A row for each case: two URIs.
+fn uri_rows(text: &[u8]) {
+    let mut at = 0;
+    while at < text.len() {
+        let end = rows::word_end(text, at, b'|', TEXT_WIDTH);
+        let second = rows::within(text, end);
+        let last = rows::word_end(text, second, b'\n', TEXT_WIDTH);
+        let a = made::uri(&text[at..end]);
+        let b = made::uri(&text[second..last]);
+        compare(a, b);
+        at = rows::after(text, last);
+    }
 }
 
 // 119 lines.
 pub fn cases() {
     numbers();
     date_times();
-    texts();
-    tags();
-    uris();
+    // By text: the end comes first, and a later byte counts only after equal ones.
+    neighbours(
+        b" 0123456789AaBbCcDdEeFfGgHhIiJjKkLlMmNnOoPpQqRrSsTtUuVvWwXxYyZz!\"#$%&'()*+,-./:;<=>?@[\\]^_`{|}~",
+    );
+    string_rows(b"|||\n||| \n|ab||abc\n|abc||ab\n|aZ||Aa\n|10||9\n");
+    // Then by tag.
+    string_rows(b"en|a|en|a\nen|a||a\nen|a|fr|a\nfr|a|en|b\nen-a|a|ena|a\n");
+    // URIs by bytes.
+    uri_rows(b"p:Z|p:a\np:a|p:0\np:a|p:aa\np:name|p:name\n");
 }

@@ -1,8 +1,41 @@
 // str of numbers, and arithmetic at the limits.
+use crate::made;
 use crate::print;
 use values::Value;
-use values::made;
 ghost use Rattle.values.specs.Meaning.{Good};
+
+// Around 0 and at both limits, and one past each.
+const INTEGERS: [i64; 8] = [
+    0,
+    -3,
+    10,
+    999999999999,
+    1000000000000,
+    -1000000000000,
+    1000000000001,
+    -1000000000001,
+];
+
+// Decimals, in millionths.
+const DECIMALS: [i64; 15] = [
+    // One digit at least on both sides of the point, and no needless zero.
+    0,
+    -500000,
+    3000000,
+    1,
+    -1,
+    10,
+    100500,
+    -12345678,
+    10000000,
+    // Both limits, and one millionth on either side of them.
+    999999999999999999,
+    1000000000000000000,
+    1000000000000000001,
+    -999999999999999999,
+    -1000000000000000000,
+    -1000000000000000001,
+];
 
 // One case: str of an integer.
 fn show_integer(n: i64) {
@@ -10,7 +43,7 @@ fn show_integer(n: i64) {
     print::number(n);
     print::word(b": ");
     print::value(made::integer(n));
-    print::word(b"\n");
+    print::byte(b'\n');
 }
 
 // One case: str of a decimal, given by its count of millionths.
@@ -19,7 +52,7 @@ fn show_decimal(millionths: i64) {
     print::number(millionths);
     print::word(b" millionths: ");
     print::value(made::decimal(millionths));
-    print::word(b"\n");
+    print::byte(b'\n');
 }
 
 // One case of plus.
@@ -31,8 +64,8 @@ fn show_sum(a: Value, b: Value)
     print::word(b" + ");
     print::value(b);
     print::word(b" = ");
-    print::value(values::plus(a, b));
-    print::word(b"\n");
+    print::value(values::arithmetic::plus(a, b));
+    print::byte(b'\n');
 }
 
 // One case of minus.
@@ -44,8 +77,8 @@ fn show_difference(a: Value, b: Value)
     print::word(b" - ");
     print::value(b);
     print::word(b" = ");
-    print::value(values::minus(a, b));
-    print::word(b"\n");
+    print::value(values::arithmetic::minus(a, b));
+    print::byte(b'\n');
 }
 
 // One case of abs.
@@ -55,43 +88,24 @@ fn show_distance(a: Value)
     print::word(b"abs ");
     print::value(a);
     print::word(b" = ");
-    print::value(values::abs(a));
-    print::word(b"\n");
+    print::value(values::arithmetic::abs(a));
+    print::byte(b'\n');
 }
 
-// Around 0 and at both limits, and one past each.
 fn integers() {
-    show_integer(0);
-    show_integer(-3);
-    show_integer(10);
-    show_integer(999999999999);
-    show_integer(1000000000000);
-    show_integer(-1000000000000);
-    show_integer(1000000000001);
-    show_integer(-1000000000001);
+    let mut i = 0;
+    while i < 8 {
+        show_integer(INTEGERS[i]);
+        i += 1;
+    }
 }
 
-// One digit at least on both sides of the point, and no needless zero.
 fn decimals() {
-    show_decimal(0);
-    show_decimal(-500000);
-    show_decimal(3000000);
-    show_decimal(1);
-    show_decimal(-1);
-    show_decimal(10);
-    show_decimal(100500);
-    show_decimal(-12345678);
-    show_decimal(10000000);
-}
-
-// Both limits, and one millionth on either side of them.
-fn decimal_limits() {
-    show_decimal(999999999999999999);
-    show_decimal(1000000000000000000);
-    show_decimal(1000000000000000001);
-    show_decimal(-999999999999999999);
-    show_decimal(-1000000000000000000);
-    show_decimal(-1000000000000000001);
+    let mut i = 0;
+    while i < 15 {
+        show_decimal(DECIMALS[i]);
+        i += 1;
+    }
 }
 
 // Integer with integer gives an integer, else a decimal; past the limits, and of no value, no value.
@@ -130,7 +144,6 @@ fn distances() {
 pub fn cases() {
     integers();
     decimals();
-    decimal_limits();
     sums();
     differences();
     distances();

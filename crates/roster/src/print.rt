@@ -9,6 +9,12 @@ pub fn word(text: &[u8]) {
     io::write_all(1, text);
 }
 
+// One byte.
+pub fn byte(b: u8) {
+    let one = [b];
+    io::write_all(1, &one);
+}
+
 // The text of a field, without the zeros after it.
 fn field(text: &[u8]) {
     let width = text.len();
@@ -31,7 +37,7 @@ fn distance(n: i64) -> u64
 // A number with its sign.
 pub fn number(n: i64) {
     if n < 0 {
-        word(b"-");
+        byte(b'-');
     }
     io::print_decimal(1, distance(n));
 }
@@ -40,11 +46,11 @@ pub fn number(n: i64) {
 fn quoted(v: Value) {
     let text = v.text;
     let tag = v.tag;
-    word(b"\"");
+    byte(b'"');
     field(&text);
-    word(b"\"");
+    byte(b'"');
     if tag[0] != 0 {
-        word(b"@");
+        byte(b'@');
         field(&tag);
     }
 }
@@ -53,7 +59,7 @@ fn quoted(v: Value) {
 pub fn value(v: Value)
     requires { ⌜ Good v ⌝ }
 {
-    let line = values::text_of(v);
+    let line = values::text::text_of(v);
     if !line.present {
         word(b"no value");
         return;

@@ -1,65 +1,55 @@
 // Language ranges on tags.
-use crate::fields;
+use crate::made;
 use crate::print;
+use crate::rows;
+use definitions::LANGUAGE_RANGE_WIDTH;
+use definitions::TAG_WIDTH;
 use values::Value;
-use values::made;
 ghost use Prim.Native.Nat.{_≤_};
 ghost use lib.ListN.{length};
+ghost use Rattle.definitions.specs.Limits.{languageRangeWidth, tagWidth};
 ghost use Rattle.values.specs.Meaning.{Good};
 
 // One case: a range on a string, or on no value of that kind.
 fn show_on(range: &[u8], v: Value)
-    requires { ⌜ length (now range) ≤ 8 ⌝ }
+    requires { ⌜ length (now range) ≤ languageRangeWidth ⌝ }
     requires { ⌜ Good v ⌝ }
 {
-    let field = fields::tag_field(range);
+    let field = made::tag_field(range);
     print::word(b"range ");
     print::word(range);
     print::word(b" on ");
     print::value(v);
-    print::answer(values::lang_matches(v, &field, 0));
+    print::answer(values::tests::lang_matches(v, &field, 0));
 }
 
 // One case: a range on a string with a tag.
 fn show(range: &[u8], tag: &[u8])
-    requires { ⌜ length (now range) ≤ 8 ⌝ }
-    requires { ⌜ length (now tag) ≤ 8 ⌝ }
+    requires { ⌜ length (now range) ≤ languageRangeWidth ⌝ }
+    requires { ⌜ length (now tag) ≤ tagWidth ⌝ }
 {
-    show_on(range, fields::string(tag, b"a"));
+    show_on(range, made::string(tag, b"a"));
 }
 
-// `*` accepts every string.
-fn everything() {
-    show(b"*", b"");
-    show(b"*", b"en");
-    show_on(b"*", values::text_of(made::integer(1000000000001)));
-}
-
-// Another range accepts its own tag and tags that go on with a hyphen.
-fn beginnings() {
-    show(b"en", b"en");
-    show(b"en", b"en-gb");
-    show(b"en", b"eng");
-    show(b"en", b"fr");
-    show(b"en", b"");
-    show(b"en-gb", b"en");
-    show(b"en-gb", b"en-gb");
-    show(b"en-gb", b"en-gb-ox");
-}
-
-// A `-*` at the end counts for nothing, and a hyphen there counts.
-fn hyphens() {
-    show(b"en-*", b"en");
-    show(b"en-*", b"en-gb");
-    show(b"en-*", b"eng");
-    show(b"en-", b"en-gb");
-    show(b"en-", b"en--gb");
-    show(b"abcdefgh", b"abcdefgh");
+// A row for each case: a range and a tag.
+fn show_rows(text: &[u8]) {
+    let mut at = 0;
+    while at < text.len() {
+        let end = rows::word_end(text, at, b'|', LANGUAGE_RANGE_WIDTH);
+        let tag = rows::within(text, end);
+        let last = rows::word_end(text, tag, b'\n', TAG_WIDTH);
+        show(&text[at..end], &text[tag..last]);
+        at = rows::after(text, last);
+    }
 }
 
 // 17 lines.
 pub fn cases() {
-    everything();
-    beginnings();
-    hyphens();
+    // `*` accepts every string.
+    show_rows(b"*|\n*|en\n");
+    show_on(b"*", values::text::text_of(made::integer(1000000000001)));
+    // Another range accepts its own tag and tags that go on with a hyphen.
+    show_rows(b"en|en\nen|en-gb\nen|eng\nen|fr\nen|\nen-gb|en\nen-gb|en-gb\nen-gb|en-gb-ox\n");
+    // A `-*` at the end counts for nothing, and a hyphen there counts.
+    show_rows(b"en-*|en\nen-*|en-gb\nen-*|eng\nen-|en-gb\nen-|en--gb\nabcdefgh|abcdefgh\n");
 }

@@ -15,15 +15,18 @@ use Rattle.definitions.specs.Evaluate.{Bindings, Quad, sameQuad}
 use Rattle.definitions.specs.Machine.{Item, State, Taken, withQuad, store, takeAll, joined, ofGraph, taken, withPage, inLimits}
 use Rattle.definitions.specs.Result.{passed}
 use Rattle.definitions.specs.Calls.{Checked, isGraph, PageTaken, pageTaken, takeIn}
-use Rattle.laws.proofs.All.{All, all-keep, all-weaken, distinct-keep}
-use Rattle.laws.proofs.Same.{same-quad, quad-refl}
+use Rattle.laws.specs.Lists.{All}
+use Rattle.laws.proofs.All.{all-keep, all-weaken, distinct-keep}
+use Rattle.laws.proofs.Equality.{same-quad, quad-refl}
 use Rattle.laws.proofs.Sorts.{uri-has, of-uri}
-use Rattle.laws.proofs.Bindings.{Extends, HoldsURI, holds-more}
-use Rattle.laws.proofs.Numbers.{extends-length}
+use Rattle.laws.specs.Bindings.{Extends, HoldsURI}
+use Rattle.laws.proofs.Bindings.{holds-more}
+use Rattle.laws.proofs.TermNumbers.{extends-length}
 use Rattle.laws.proofs.Taking.{stored-one, well-typed, with-quad-apart, with-quad-all, joined-has, joined-keeps, joined-apart, joined-all, take-all}
 use Rattle.laws.proofs.PageCheck.{page-passed}
-use Rattle.laws.proofs.Sound.{Accepted, Sound}
-use Rattle.laws.proofs.SoundMeans.{QuadFacts, StackFacts, Facts, facts, sound, last-more}
+use Rattle.laws.specs.Sound.{Accepted, Sound}
+use Rattle.laws.specs.Quads.{QuadFacts}
+use Rattle.laws.proofs.SoundMeans.{StackFacts, Facts, facts, sound, last-more}
 
 -- ── what holds of a table holds of one that goes on ─────────────────────────────────────────
 

@@ -10,9 +10,10 @@ use Rattle.definitions.specs.Outcome.{Outcome}
 use Rattle.definitions.specs.Machine.{State, Next, step, stand, Run, still, preceded, goOn, run, lastOf}
 use Rattle.definitions.specs.Calls.{Checked}
 use Rattle.definitions.specs.declared.RunState.the-variants.{Spent}
-use Rattle.laws.proofs.All.{All}
-use Rattle.laws.proofs.Fine.{Fine, fine, fine-then}
-use Rattle.laws.proofs.Sound.{Accepted, Sound}
+use Rattle.laws.specs.Lists.{All}
+use Rattle.laws.specs.Outcomes.{Fine, fine}
+use Rattle.laws.proofs.NoFault.{fine-then}
+use Rattle.laws.specs.Sound.{Accepted, Sound}
 use Rattle.safety.proofs.StepSound.{NextSound, next-sound, look-sound}
 
 -- every state passed is sound; the steps are at most the budget, and as many where the run ends spent

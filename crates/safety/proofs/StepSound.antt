@@ -25,12 +25,14 @@ use Rattle.definitions.specs.declared.RunState.{RunState}
 use Rattle.definitions.specs.declared.RunState.the-variants.{Ended, Wanted, Waiting, Spent}
 use Rattle.laws.proofs.Tests.{andLeft, andRight, andMake, orLeft, orRight, orCases, by-test}
 use Rattle.laws.proofs.Sorts.{is-uri}
-use Rattle.laws.proofs.Fine.{Fine, fine, fine-then, fine-and, fine-demand, fine-map}
-use Rattle.laws.proofs.Bindings.{WellBound, BoundIn, in-left, in-right, Fits}
+use Rattle.laws.specs.Outcomes.{Fine, fine}
+use Rattle.laws.proofs.NoFault.{fine-then, fine-and, fine-demand, fine-map}
+use Rattle.laws.specs.Bindings.{WellBound, BoundIn, Fits}
+use Rattle.laws.proofs.Bindings.{in-left, in-right}
 use Rattle.laws.proofs.Evaluate.{named-fine}
 use Rattle.laws.proofs.Answers.{IfSome, answer-fine, bind-typed, bind-cases, bound-stays, bound-reached}
 use Rattle.laws.proofs.Places.{At, underNamed, underBlock, underFirst, underSecond, bounded-at, typed-at, block-binds}
-use Rattle.laws.proofs.Sound.{BindersBounded, Accepted, Sound}
+use Rattle.laws.specs.Sound.{BindersBounded, Accepted, Sound}
 use Rattle.laws.proofs.SoundMeans.{ItemFacts, StackFacts, BindingFacts, Facts, facts, sound, no-last, last-answer}
 
 -- a step leads to a sound state; what stands is ended, wanted or waiting

@@ -19,13 +19,14 @@ use Rattle.definitions.specs.Saved.{bindingsIn}
 use Rattle.definitions.specs.Sound.{numberHas, bindingSound}
 use Rattle.definitions.specs.Calls.{Checked, reportedType}
 use Rattle.definitions.specs.declared.SavedRun.{SavedRun}
-use Rattle.laws.proofs.Every.{every-next, every-stop, every-none}
-use Rattle.laws.proofs.Saved.{at-variable}
-use Rattle.reader.proofs.MarkLaws.{made-same}
+use Rattle.laws.proofs.EveryFrom.{every-next, every-stop, every-none}
+use Rattle.laws.proofs.Variables.{at-variable}
+use Rattle.laws.proofs.Variables.{made-same}
 use Rattle.soundness.specs.Store.{LeastOf}
-use Rattle.query.specs.Found.{codeLeq}
+use Rattle.codes.specs.TypeCodes.{codeLeq}
 use Rattle.soundness.specs.Control.{tupleFits, numberFits, bindingFits, bindingsFit, bindingsSound, Lends}
-use Rattle.soundness.proofs.TypeLaws.{number-fits, code-not-zero, variable-code, isWritten, written-binds}
+use Rattle.laws.proofs.Reported.{variable-code, isWritten, written-binds}
+use Rattle.soundness.proofs.TypeLaws.{number-fits, code-not-zero}
 
 -- ── a test of the sixteen variables, one by one ─────────────────────────────────────────────
 

@@ -1,10 +1,10 @@
-pub mod Begins
-pub mod Looks
-pub mod Numbers
-pub mod MarkLaws
+pub mod BeginLaws
+pub mod LookLaws
+pub mod TermTests
+pub mod HashLaws
 pub mod QuadLaws
 pub mod StoreLaws
-pub mod Whole
+pub mod Clauses
 pub mod TypeLaws
 pub mod BindingLaws
 pub mod StackLaws

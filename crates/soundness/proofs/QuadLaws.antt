@@ -16,31 +16,31 @@ use Rattle.definitions.specs.Lists.{every, some?, distinct}
 use Rattle.definitions.specs.Evaluate.{Quad, sameQuad}
 use Rattle.definitions.specs.Saved.{quadAt, quadsFrom, quadsIn}
 use Rattle.laws.proofs.Tests.{andLeft, trueIs}
-use Rattle.records.specs.Answers.{isSome}
-use Rattle.records.proofs.OptionLaws.{is-some-provided}
-use Rattle.records.proofs.PartLaws.{rest-part}
-use Rattle.records.proofs.ListLaws.{none-of}
-use Rattle.query.specs.Codes.{rowAt, rowsFrom}
+use Rattle.laws.specs.ReadAnswers.{isSome}
+use Rattle.laws.proofs.ReadAnswers.{provided-is}
+use Rattle.fields.proofs.PartLaws.{rest-part}
+use Rattle.table.proofs.CountLaws.{none-of}
+use Rattle.laws.specs.Quads.{rowAt, rowsFrom}
 
 -- ── the table holds so many quads ───────────────────────────────────────────────────────────
 
 module _ (table : List ℕ) (n : ℕ) where
   pub too-many : quadLimit < n → false ≡ isSome (quadsIn n table)
-  unfolding quadsIn provided isSome
+  unfolding quadsIn provided
   too-many h = rw (lt-leb n quadLimit h)
 
   pub held-is : n ≤ quadLimit → {z : Bool} → z ≡ allZero (part table (quadWidth * n) (length table - quadWidth * n)) → z ≡ isSome (quadsIn n table)
   unfolding quadsIn
   held-is h e =
       e ∙ ap allZero (rest-part table (quadWidth * n))
-      ∙ sym (is-some-provided (leb n quadLimit && allZero (drop (quadWidth * n) table)) (quadsFrom n table 0)
+      ∙ sym (provided-is (leb n quadLimit && allZero (drop (quadWidth * n) table)) (quadsFrom n table 0)
       ∙ ap (λ (b : Bool). b && allZero (drop (quadWidth * n) table)) (le-leb n quadLimit h))
 
   pub held-few : {a : Bool} → a ≡ isSome (quadsIn n table) → not a ≡ false → n ≤ quadLimit
   unfolding quadsIn
   held-few {a} e t =
       let zeros = allZero (drop (quadWidth * n) table) in
-      let both : leb n quadLimit && zeros ≡ true = sym (is-some-provided (leb n quadLimit && zeros) (quadsFrom n table 0)) ∙ (sym e ∙ not-false a t) in
+      let both : leb n quadLimit && zeros ≡ true = sym (provided-is (leb n quadLimit && zeros) (quadsFrom n table 0)) ∙ (sym e ∙ not-false a t) in
       leb→le n quadLimit (andLeft (leb n quadLimit) zeros (trueIs (leb n quadLimit && zeros) both))
 
 -- ── its numbers ─────────────────────────────────────────────────────────────────────────────

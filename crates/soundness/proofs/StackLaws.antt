@@ -22,18 +22,18 @@ use Rattle.definitions.specs.Sound.{deepEnough, freeBound, lastSound, itemSound
 use Rattle.definitions.specs.declared.SavedItem.{SavedItem}
 use Rattle.definitions.specs.declared.SavedRun.{SavedRun}
 use Rattle.laws.proofs.Options.{some-is, onward-inv}
-use Rattle.laws.proofs.More.{script-more}
+use Rattle.laws.proofs.Levels.{script-more}
 use Rattle.laws.proofs.Places as Places
 use Rattle.laws.proofs.Places.{found}
 use Rattle.laws.proofs.ReadBounds.{binders-bounded}
 use Rattle.laws.proofs.ScriptReads.{script-reads, parsed-reads}
-use Rattle.laws.proofs.Walking.{Loads}
-use Rattle.reader.specs.Fields.{isSome}
-use Rattle.reader.specs.Marks.{freeIn}
-use Rattle.reader.specs.Places.{placeOf, placeAt}
-use Rattle.reader.specs.declared.place.Place.{Place}
-use Rattle.reader.specs.declared.place.Place.the-variants.{At, Nowhere}
-use Rattle.reader.proofs.Present.{is-some}
+use Rattle.laws.specs.Walks.{Loads}
+use Rattle.laws.specs.ReadAnswers.{isSome}
+use Rattle.scope.specs.Uses.{freeIn}
+use Rattle.scope.specs.Places.{placeOf, placeAt}
+use Rattle.scope.specs.declared.place.Place.{Place}
+use Rattle.scope.specs.declared.place.Place.the-variants.{At, Nowhere}
+use Rattle.laws.proofs.ReadAnswers.{is-some}
 use Rattle.soundness.specs.Store.{passes}
 use Rattle.soundness.specs.Control.{allBound, tupleFits, lastHeld, itemHeld, itemsHeld, stackHeld}
 use Rattle.soundness.proofs.BindingLaws.{every-same}

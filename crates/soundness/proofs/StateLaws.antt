@@ -18,8 +18,8 @@ use Rattle.definitions.specs.Sound.{beginsWith, isURINumber, quadSound, stackSo
 use Rattle.definitions.specs.Result.{refused, passed}
 use Rattle.definitions.specs.Calls.{Checked, Lent, Sound, check, checkedOf, reported, soundIn}
 use Rattle.definitions.specs.declared.SavedRun.{SavedRun}
-use Rattle.reader.specs.Fields.{isSome}
-use Rattle.reader.proofs.Present.{provided-is, only-if}
+use Rattle.laws.specs.ReadAnswers.{isSome}
+use Rattle.laws.proofs.ReadAnswers.{provided-is, only-if}
 use Rattle.soundness.specs.Store.{storeIn, storeSound, passes}
 use Rattle.soundness.specs.Control.{stackHeld, bindingsSound, controlSound}
 

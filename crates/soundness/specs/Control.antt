@@ -18,7 +18,7 @@ use Rattle.definitions.specs.Sound.{stackSound, lastSound, bindingSound}
 use Rattle.definitions.specs.Calls.{Checked, reported}
 use Rattle.definitions.specs.declared.SavedItem.{SavedItem}
 use Rattle.definitions.specs.declared.SavedRun.{SavedRun}
-use Rattle.query.specs.Found.{codeLeq}
+use Rattle.codes.specs.TypeCodes.{codeLeq}
 use Rattle.soundness.specs.Store.{passes, LeastOf}
 
 -- ── the clauses ─────────────────────────────────────────────────────────────────────────────

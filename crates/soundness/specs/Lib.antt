@@ -1,3 +1,3 @@
-pub mod Marks
+pub mod Hashes
 pub mod Store
 pub mod Control

@@ -16,8 +16,9 @@ use Rattle.definitions.specs.Machine.{Store, inLimits}
 use Rattle.definitions.specs.Saved.{termsIn, quadsFrom, quadsIn}
 use Rattle.definitions.specs.Sound.{beginsWith, isURINumber, quadSound}
 use Rattle.definitions.specs.declared.SavedRun.{SavedRun}
-use Rattle.laws.proofs.Sorts.{least}
-use Rattle.records.specs.Answers.{isSome, distinctIn}
+use Rattle.laws.specs.Sorts.{least}
+use Rattle.laws.specs.ReadAnswers.{isSome}
+use Rattle.fields.specs.Answers.{distinctIn}
 
 -- ── the store ───────────────────────────────────────────────────────────────────────────────
 

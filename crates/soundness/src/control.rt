@@ -1,19 +1,24 @@
 // Stack and bindings of the saved run: the control's half of soundness.
+use codes::has_type;
 use definitions::SavedItem;
 use definitions::SavedRun;
-use reader::place::Place;
-use reader::place::place_at;
-use reader::scope::free_in;
+use scope::place::Place;
+use scope::place::place_at;
+use scope::scope::free_in;
 ghost use mathlib.Core.Path.{_≡_};
 ghost use mathlib.Core.Bool.{true};
 ghost use Prim.Native.Nat.{_≤_};
 ghost use lib.ListN.{length};
 ghost use Rattle.definitions.specs.Reading.{readScript, parsed};
-ghost use Rattle.laws.proofs.Walking.{Loads};
-ghost use Rattle.reader.specs.Fields.{isSome};
+ghost use Rattle.laws.specs.Walks.{Loads};
+ghost use Rattle.laws.specs.ReadAnswers.{isSome};
 ghost use Rattle.soundness.specs.Store.{passes};
-ghost use Rattle.query.specs.Found.{codeLeq};
 ghost use Rattle.soundness.specs.Control.{allBound, tupleFits, lastHeld, itemHeld, itemsHeld, bindingFits, bindingsFit, ControlOf};
+ghost use Rattle.definitions.specs.Limits.{depthLimit, pairLimit};
+use definitions::DEPTH_LIMIT;
+use definitions::ITEM_LIMIT;
+use definitions::PAIR_LIMIT;
+use definitions::VARIABLES;
 
 // A term's number as an index.
 fn index(x: u16) -> usize
@@ -23,11 +28,11 @@ fn index(x: u16) -> usize
 }
 
 // Whether each flagged variable is bound.
-fn all_bound(free: [bool; 16], bound: [bool; 16]) -> bool
+fn all_bound(free: [bool; VARIABLES], bound: [bool; VARIABLES]) -> bool
     ensures { λ r. ⌜ r ≡ allBound free bound ⌝ }
 {
     let mut v = 0;
-    while v < 16 {
+    while v < VARIABLES {
         let good = !free[v] | bound[v];
         if !good {
             return false;
@@ -38,8 +43,8 @@ fn all_bound(free: [bool; 16], bound: [bool; 16]) -> bool
 }
 
 // Whether a tuple's first numbers are all numbers of terms.
-fn tuple_fits(last: [u16; 4], n: usize, count: usize) -> bool
-    requires { ⌜ n ≤ 4 ⌝ }
+fn tuple_fits(last: [u16; PAIR_LIMIT], n: usize, count: usize) -> bool
+    requires { ⌜ n ≤ pairLimit ⌝ }
     ensures { λ r. ⌜ r ≡ tupleFits count n last ⌝ }
 {
     let mut k = 0;
@@ -55,8 +60,8 @@ fn tuple_fits(last: [u16; 4], n: usize, count: usize) -> bool
 
 // Whether an item's last tuple, which only an each block has, names terms.
 fn last_sound(script: &[u8], known: usize, item: SavedItem, count: usize) -> bool
-    requires { ⌜ Loads (readScript (now script) known 24 (item .«at»)) ⌝ }
-    ensures { λ r. ⌜ r ≡ passes (λ p. lastHeld count item (p .0)) (readScript (now (script .entry)) known 24 (item .«at»)) ⌝ }
+    requires { ⌜ Loads (readScript (now script) known depthLimit (item .«at»)) ⌝ }
+    ensures { λ r. ⌜ r ≡ passes (λ p. lastHeld count item (p .0)) (readScript (now (script .entry)) known depthLimit (item .«at»)) ⌝ }
 {
     let started = item.started;
     if !started {
@@ -81,7 +86,7 @@ fn item_sound(
     known: usize,
     item: SavedItem,
     place: usize,
-    bound: [bool; 16],
+    bound: [bool; VARIABLES],
     count: usize,
 ) -> bool
     requires { ⌜ isSome (parsed known (now script)) ≡ true ⌝ }
@@ -96,7 +101,7 @@ fn item_sound(
     if deep < place {
         return false;
     }
-    let free = free_in(script, known, at, 24);
+    let free = free_in(script, known, at, DEPTH_LIMIT);
     if !all_bound(free, bound) {
         return false;
     }
@@ -108,12 +113,12 @@ fn stack_sound(
     script: &[u8],
     known: usize,
     height: u16,
-    items: [SavedItem; 24],
-    bound: [bool; 16],
+    items: [SavedItem; ITEM_LIMIT],
+    bound: [bool; VARIABLES],
     count: usize,
 ) -> bool
     requires { ⌜ isSome (parsed known (now script)) ≡ true ⌝ }
-    requires { ⌜ height ≤ 24 ⌝ }
+    requires { ⌜ height ≤ depthLimit ⌝ }
     ensures { λ r. ⌜ r ≡ passes (itemsHeld count bound items height) (parsed known (now (script .entry))) ⌝ }
 {
     let mut place = height as usize;
@@ -126,16 +131,6 @@ fn stack_sound(
         place = below;
     }
     true
-}
-
-// Whether a term whose least type has one code has the type of another.
-fn has_type(least: u8, ty: u8) -> bool
-    ensures { λ r. ⌜ r ≡ codeLeq least ty ⌝ }
-{
-    let number = (least == 5) & (ty == 3);
-    let uri = (9 <= least) & (ty == 1);
-    let property = (least == 11) & (ty == 13);
-    (least == ty) | (number | (uri | property))
 }
 
 // Whether a variable is not bound, or a pair binds it and it holds a term of its type.
@@ -160,15 +155,15 @@ fn binding_sound(leasts: &[u8], count: usize, bound: bool, number: u16, ty: u8) 
 fn bindings_sound(
     leasts: &[u8],
     count: usize,
-    bound: [bool; 16],
-    numbers: [u16; 16],
-    types: [u8; 16],
+    bound: [bool; VARIABLES],
+    numbers: [u16; VARIABLES],
+    types: [u8; VARIABLES],
 ) -> bool
     requires { ⌜ count ≤ length (now leasts) ⌝ }
     ensures { λ r. ⌜ r ≡ bindingsFit (now (leasts .entry)) count bound numbers types ⌝ }
 {
     let mut v = 0;
-    while v < 16 {
+    while v < VARIABLES {
         if !binding_sound(leasts, count, bound[v], numbers[v], types[v]) {
             return false;
         }
@@ -191,7 +186,7 @@ pub fn control_sound(
     ensures { λ r. ⌜ ControlOf (now (script .entry)) known saved count (now (leasts .entry)) r ⌝ }
 {
     let height = saved.height;
-    if 24 < height {
+    if ITEM_LIMIT < height as usize {
         return false;
     }
     let items = saved.items;

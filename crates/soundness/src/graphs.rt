@@ -6,7 +6,7 @@ ghost use lib.Dec.{eqb};
 ghost use lib.ListN.{length};
 ghost use Rattle.definitions.specs.Lists.{every, distinct};
 ghost use Rattle.soundness.specs.Store.{uriNumber};
-use records::marks::is_in;
+use table::hashes::is_in;
 
 // Whether the numbers of a list are all different.
 fn numbers_distinct(list: &[u16]) -> bool

@@ -3,20 +3,19 @@ ghost use mathlib.Core.Path.{_≡_};
 ghost use Prim.Native.Nat.{_+_, _-_, _*_, _≤_, _<_};
 ghost use lib.ListN.{length};
 ghost use Rattle.definitions.specs.Limits.{quadLimit, quadTableWidth};
-ghost use Rattle.definitions.specs.Bytes.{word};
 ghost use Rattle.definitions.specs.Lists.{every, some?, distinct};
 ghost use Rattle.definitions.specs.Evaluate.{sameQuad};
 ghost use Rattle.definitions.specs.Saved.{quadsFrom, quadsIn};
-ghost use Rattle.records.specs.Answers.{isSome};
-ghost use Rattle.query.specs.Codes.{rowAt, rowsFrom};
-ghost use Rattle.soundness.specs.Marks.{quadMark, MarkedQuads};
+ghost use Rattle.laws.specs.ReadAnswers.{isSome};
+ghost use Rattle.laws.specs.Quads.{rowAt, rowsFrom};
+ghost use Rattle.soundness.specs.Hashes.{quadHash, HashedQuads};
 ghost use Rattle.soundness.specs.Store.{codeFits, pairNumbers, quadNumbers};
 use crate::graphs::is_uri;
 use definitions::QUAD_LIMIT;
 use definitions::QUAD_WIDTH;
-use records::marks::is_in;
-use records::numbers::is_zero;
-use records::numbers::word_at;
+use fields::numbers::is_zero;
+use fields::numbers::number_at;
+use table::hashes::is_in;
 
 // Whether a table holds so many quads. Ruled out: bytes after the last that are not zero; 513 quads.
 pub fn quads_held(table: &[u8], n: usize) -> bool
@@ -28,14 +27,6 @@ pub fn quads_held(table: &[u8], n: usize) -> bool
     }
     let end = QUAD_WIDTH * n;
     is_zero(&table[end..])
-}
-
-// The 2-byte number at an offset.
-fn number_at(table: &[u8], at: usize) -> u16
-    requires { ⌜ at + 1 < length (now table) ⌝ }
-    ensures { λ r. ⌜ r ≡ word (now (table .entry)) at ⌝ }
-{
-    word_at(table, at) as u16
 }
 
 // The quads in numbers, four for each. Ruled out: the high byte first; the last quad left out.
@@ -78,10 +69,10 @@ fn wider(x: u16) -> u32
     x as u32
 }
 
-// The mark of the quad at an offset: 16 bits of its numbers.
-fn mark_at(rows: &[u16], at: usize) -> u16
+// The hash of the quad at an offset: 16 bits of its numbers.
+fn hash_at(rows: &[u16], at: usize) -> u16
     requires { ⌜ at + 4 ≤ length (now rows) ⌝ }
-    ensures { λ r. ⌜ r ≡ quadMark (rowAt (now (rows .entry)) at) ⌝ }
+    ensures { λ r. ⌜ r ≡ quadHash (rowAt (now (rows .entry)) at) ⌝ }
 {
     let s = wider(rows[at + 1]);
     let p = wider(rows[at + 2]);
@@ -90,32 +81,32 @@ fn mark_at(rows: &[u16], at: usize) -> u16
     (sum % 65536) as u16
 }
 
-// The marks of the first quads: quads whose marks differ are told apart by them.
-fn mark_quads(rows: &[u16], n: usize) -> [u16; QUAD_LIMIT]
+// The hashes of the first quads: quads whose hashes differ are told apart by them.
+fn hash_quads(rows: &[u16], n: usize) -> [u16; QUAD_LIMIT]
     requires { ⌜ 4 * n ≤ length (now rows) ⌝ }
     requires { ⌜ n ≤ quadLimit ⌝ }
-    ensures { λ r. ⌜ MarkedQuads (now (rows .entry)) n r ⌝ }
+    ensures { λ r. ⌜ HashedQuads (now (rows .entry)) n r ⌝ }
 {
-    let mut marks = [0u16; QUAD_LIMIT];
+    let mut hashes = [0u16; QUAD_LIMIT];
     let mut i = 0;
     while i < n {
         let at = 4 * i;
-        marks[i] = mark_at(rows, at);
+        hashes[i] = hash_at(rows, at);
         i += 1;
     }
-    marks
+    hashes
 }
 
 // Whether a quad comes again after its place.
-fn quad_again(rows: &[u16], n: usize, marks: &[u16], i: usize) -> bool
+fn quad_again(rows: &[u16], n: usize, hashes: &[u16], i: usize) -> bool
     requires { ⌜ 4 * n ≤ length (now rows) ⌝ }
-    requires { ⌜ n ≤ length (now marks) ⌝ }
-    requires { ⌜ MarkedQuads (now rows) n (now marks) ⌝ }
+    requires { ⌜ n ≤ length (now hashes) ⌝ }
+    requires { ⌜ HashedQuads (now rows) n (now hashes) ⌝ }
     requires { ⌜ i < n ⌝ }
     ensures { λ r. ⌜ r ≡ some? (sameQuad (rowAt (now (rows .entry)) (4 * i))) (rowsFrom (n - (i + 1)) (now (rows .entry)) (4 * (i + 1))) ⌝ }
 {
     let mut j = i + 1;
-    if !is_in(&marks[j..n], marks[i]) {
+    if !is_in(&hashes[j..n], hashes[i]) {
         return false;
     }
     let from = 4 * i;
@@ -135,10 +126,10 @@ pub fn quads_distinct(rows: &[u16], n: usize) -> bool
     requires { ⌜ n ≤ quadLimit ⌝ }
     ensures { λ r. ⌜ r ≡ distinct sameQuad (rowsFrom n (now (rows .entry)) 0) ⌝ }
 {
-    let marks = mark_quads(rows, n);
+    let hashes = hash_quads(rows, n);
     let mut i = 0;
     while i < n {
-        if quad_again(rows, n, &marks, i) {
+        if quad_again(rows, n, &hashes, i) {
             return false;
         }
         i += 1;

@@ -3,12 +3,12 @@ ghost use mathlib.Core.Path.{_≡_};
 ghost use mathlib.Core.Bool.{true};
 ghost use Rattle.definitions.specs.Terms.{sameTerm};
 ghost use Rattle.definitions.specs.Saved.{termsIn};
-ghost use Rattle.records.specs.Answers.{distinctIn};
-ghost use Rattle.records.specs.Table.{HoldsTerms};
+ghost use Rattle.fields.specs.Answers.{distinctIn};
+ghost use Rattle.table.specs.Table.{HoldsTerms};
 ghost use Rattle.soundness.specs.Store.{beginsIn, termsSound};
 use definitions::SLOT_WIDTH;
-use records::numbers::same_bytes;
-use records::table::slots_distinct;
+use fields::numbers::same_bytes;
+use table::slots::slots_distinct;
 
 // Whether a table begins with the terms of another.
 fn begins_with(loading: &[u8], known: usize, table: &[u8], count: usize) -> bool

@@ -15,7 +15,8 @@ use Rattle.definitions.specs.Result.{Result, passed, _>>=_, given}
 use Rattle.definitions.specs.Calls.{Lent, lengthsFit, Sound, soundIn, runIn, Running, runTests, ranOf, runResult, runCall}
 use Rattle.definitions.specs.Calls.{PageTaken, takeIn, Taking, pageTests}
 use Rattle.definitions.specs.declared.SavedRun.{SavedRun}
-use Rattle.laws.proofs.Fine.{Fine, fine-ok}
+use Rattle.laws.specs.Outcomes.{Fine}
+use Rattle.laws.proofs.NoFault.{fine-ok}
 use Rattle.laws.proofs.Results.{passed-is, bind-inv, given-bind-inv, require-after-inv}
 use Rattle.laws.proofs.SoundIn.{SoundIn, sound-in, is-accepted}
 use Rattle.safety.proofs.RunSound.{RunSound, run-sound}

@@ -1,10 +1,4 @@
--- Demand 1: refusals.
---
---   If anything a call is handed breaks a rule of document 01, the call gives the refusal number of the first one broken
---   in that call's order, and every lent buffer keeps its bytes; every other input gets its answer.
---
--- Each call has a table of its rules in its order: the refusal's number, and whether what the call is handed keeps the rule.
--- `ExportRefusals` says the same of the C interface, where the saved run and the report are lent as bytes too.
+-- Demand 1, proved: each call's tests follow the table of its rules.
 use Prim.Native.Nat.{ℕ}
 use native.Mathlib.Omega.{arith}
 use mathlib.Core.Path.{_≡_, refl, sym, _∙_}
@@ -23,114 +17,16 @@ use Rattle.definitions.specs.Reading.{parsed}
 use Rattle.definitions.specs.Scope.{inScope}
 use Rattle.definitions.specs.Typing.{writtenTypes, typings, above, Verdict, greatest, firstAbove, judge, verdict}
 use Rattle.definitions.specs.Outcome as Outcomes
-use Rattle.definitions.specs.Outcome.{ok}
 use Rattle.definitions.specs.Machine.{withProperties, taken, withPage, inLimits}
 use Rattle.definitions.specs.Result.{Result, refused, passed, _>>=_, _>>_, require, given}
-use Rattle.definitions.specs.Calls.{Checked, constantsOf, typesOf, sizesFit, check, Lent, lengthsFit, loadTests, loadResult, load, Sound, soundIn}
+use Rattle.definitions.specs.Calls.{recordTests, sizesFit, scriptTests, readTests, Checked, constantsOf, typesOf, typeTests, check, Lent, lengthsFit, loadTests, loadResult, load, soundIn}
 use Rattle.definitions.specs.Calls.{runIn, Running, runTests, ranOf, runResult, runCall}
 use Rattle.definitions.specs.Calls.{isGraph, pageIn, takeIn, Taking, pageTests, pageResult, pageCall}
-use Rattle.definitions.specs.Numbers.{loadNumber, runNumber, pageNumber}
 use Rattle.definitions.specs.declared.SavedRun.{SavedRun}
-use Rattle.definitions.specs.declared.RunState.{RunState}
-use Rattle.definitions.specs.declared.Ran.{Ran}
-use Rattle.definitions.specs.declared.LoadAnswer.the-variants as LoadAnswers
 use Rattle.definitions.specs.declared.RunAnswer.the-variants as RunAnswers
-use Rattle.definitions.specs.declared.PageAnswer.the-variants as PageAnswers
+use Rattle.laws.proofs.Results.{by-bind, by-after}
 use Rattle.theorems.proofs.CallsPassed.{run-passed, run-fine, run-gives}
-
--- ── the statement: rules in order ───────────────────────────────────────────────────────────
-
--- the number of the first rule broken, 0 where none is
-unfoldable pub firstBroken : List (ℕ × Bool) → ℕ
-firstBroken [] = 0
-firstBroken (r ∷ rules) = elim (r .1) [ true ↦ firstBroken rules | false ↦ r .0 ]
-
--- something could be read; and it passes a test, which is not asked where nothing could be read, since a rule before it is broken
-unfoldable pub isThere : {A : Type 0} → Option A → Bool
-isThere none = false
-isThere (some a) = true
-
-unfoldable pub ifThere : {A : Type 0} → Option A → (A → Bool) → Bool
-ifThere none test = true
-ifThere (some a) test = test a
-
--- Loading checks 1 to 9 in that order. (`lengths`: the lent tables have their lengths.)
-abbrev pub loadRules : (lengths : Bool) → Lent → List (ℕ × Bool)
-loadRules lengths l =
-    let listed = readTerms (l .terms) in
-    let entries = readSchema (l .schema) in
-    let numbered = onward listed (λ ts. onward entries (λ S. some (withProperties S ts))) in
-    let root = onward numbered (λ ts. parsed (length ts) (l .script)) in
-    let all = onward entries (λ S. onward numbered (λ ts. onward root (λ c. some (typings (constantsOf S ts) (writtenTypes c) c)))) in
-    (1, lengths)  -- a lent table of another length
-    ∷ (2, isThere listed)  -- bad term record
-    ∷ (3, ifThere listed (distinct sameTerm))  -- a term listed twice
-    ∷ (4, isThere entries)  -- bad schema record
-    ∷ (5, ifThere entries (distinct sameProperty))  -- a property twice in the schema
-    ∷ (6, ifThere entries (λ S. ifThere numbered (λ ts. sizesFit ts S (l .script))) && isThere root)  -- a limit passed, or script malformed
-    ∷ (7, ifThere root inScope)  -- a variable unbound at its use, or bound by two pairs
-    ∷ (8, ifThere all (λ Γs. not (isEmpty Γs)))  -- no typing
-    ∷ (9, ifThere all (λ Γs. some? (λ Γ. every (above Γ) Γs) Γs))  -- typings, none above the rest
-    ∷ []
-
--- Running: 1, 10, 11. (`found`: the sound state that saved run and tables hold, if they do.)
-abbrev pub runRules : (lengths : Bool) → (found : Option Sound) → (budget : ℕ) → (now : ℤ) → List (ℕ × Bool)
-runRules lengths found budget now =
-    (1, lengths)
-    ∷ (10, isThere found)  -- saved run or tables unsound
-    ∷ (11, leb budget budgetLimit && isDateTime now)  -- budget over 60,000, or now no dateTime
-    ∷ []
-
--- A page: 1, 10, 12, 13, 14.
-abbrev pub pageRules : (lengths : Bool) → (found : Option Sound) → (graph : ℕ) → (page : List ℕ) → List (ℕ × Bool)
-pageRules lengths found g page =
-    let triples = pageIn page in
-    (1, lengths)
-    ∷ (10, isThere found)
-    ∷ (12, ifThere found (λ x. isGraph (getElem? (x .state .store .terms) g)))  -- page graph no URI of the table
-    ∷ (13, isThere triples)  -- page over 65,536 bytes or a bad record in it
-    ∷ (14, ifThere found (λ x. ifThere triples (λ rs. inLimits (withPage g (taken (x .checked .schema) g rs (x .state .store)) (x .state .store)))))
-    ∷ []  -- 14: terms, quads or graphs would pass their limits
-
--- ── the statement: the three calls ──────────────────────────────────────────────────────────
-
--- the first rule broken by what a call is handed, 0 where none is
-abbrev pub loadBroken : Lent → ℕ
-loadBroken l = firstBroken (loadRules (lengthsFit l) l)
-
-abbrev pub runBroken : Lent → SavedRun → (budget : ℕ) → (now : ℤ) → ℕ
-runBroken l saved budget now = firstBroken (runRules (lengthsFit l) (soundIn l saved) budget now)
-
-abbrev pub pageBroken : Lent → SavedRun → (graph : ℕ) → (page : List ℕ) → ℕ
-pageBroken l saved g page = firstBroken (pageRules (lengthsFit l) (soundIn l saved) g page)
-
-pub record LoadRefuses (l : Lent) : Type 0 where
-  -- the call gives the number of the first rule broken
-  pub number : loadNumber (load l .returned .answer) ≡ loadBroken l
-  -- and every lent buffer keeps its bytes
-  pub keeps : (loadBroken l ≡ 0 → ⊥) → (load l .termTable ≡ l .termTable) × (load l .quadTable ≡ l .quadTable)
-  -- every other input gets its answer
-  pub answers : loadBroken l ≡ 0 → load l .returned .answer ≡ LoadAnswers.Accepted
-
--- a run call has an outcome, no fault; the tables it only reads
-pub record RunRefuses (l : Lent) (saved : SavedRun) (budget : ℕ) (now : ℤ) : Type 0 where
-  pub ran : Ran
-  pub given : runCall l saved budget now ≡ ok ran
-  pub number : runNumber (ran .answer) ≡ runBroken l saved budget now
-  pub keeps : (runBroken l saved budget now ≡ 0 → ⊥) → ran .saved ≡ saved
-  pub answers : runBroken l saved budget now ≡ 0 → (steps : ℕ) × (state : RunState) × (ran .answer ≡ RunAnswers.Ran steps state)
-
-pub record PageRefuses (l : Lent) (saved : SavedRun) (graph : ℕ) (page : List ℕ) : Type 0 where
-  pub number : pageNumber (pageCall l saved graph page .returned .answer) ≡ pageBroken l saved graph page
-  pub keeps : (pageBroken l saved graph page ≡ 0 → ⊥) → let r = pageCall l saved graph page in
-      (r .returned .saved ≡ saved) × (r .termTable ≡ l .termTable) × (r .quadTable ≡ l .quadTable)
-  pub answers : pageBroken l saved graph page ≡ 0
-      → (skipped : ℕ) × (pageCall l saved graph page .returned .answer ≡ PageAnswers.Taken skipped)
-
-pub record Demand1 : Type 0 where
-  pub load : (l : Lent) → LoadRefuses l
-  pub run : (l : Lent) (saved : SavedRun) (budget : ℕ) (now : ℤ) → RunRefuses l saved budget now
-  pub page : (l : Lent) (saved : SavedRun) (graph : ℕ) (page : List ℕ) → PageRefuses l saved graph page
+use Rattle.theorems.specs.Demand1.{firstBroken, isThere, ifThere, loadRules, runRules, pageRules, LoadRefuses, RunRefuses, PageRefuses, Demand1}
 
 -- ── the proof: tests follow a table ─────────────────────────────────────────────────────────
 
@@ -165,12 +61,20 @@ unfolding given _>>=_ isThere
 there n h none k = broken n h
 there n h (some a) k = kept (k a refl)
 
+-- tests that stand together
+module _ {A B C : Type 0} {rules : List (ℕ × Bool)} where
+  regroup : (m : Result A) (f : A → Result B) (k : B → Result C) → Follows (m >>= λ a. f a >>= k) rules → Follows ((m >>= f) >>= k) rules
+  regroup m f k h = by-bind (λ (x : Result C). Follows x rules) m f k h
+
+  together : (m : Result A) (n : Result B) (k : B → Result C) → Follows (m >> (n >>= k)) rules → Follows ((m >> n) >>= k) rules
+  together m n k h = by-after (λ (x : Result C). Follows x rules) m n k h
+
 -- two tests with one number
-rule-there : {A B : Type 0} (n : ℕ) → (n ≡ 0 → ⊥) → (t : Bool) (o : Option A) {f : A → Result B} {rules : List (ℕ × Bool)}
-    → ((a : A) → o ≡ some a → Follows (f a) rules) → Follows (require n t >> (given n o >>= f)) ((n, t && isThere o) ∷ rules)
+rule-there : {A B C : Type 0} (n : ℕ) → (n ≡ 0 → ⊥) → (t : Bool) (o : Option A) (f : A → Result B) (k : B → Result C) {rules : List (ℕ × Bool)}
+    → ((a : A) → o ≡ some a → Follows (f a >>= k) rules) → Follows (require n t >> ((given n o >>= f) >>= k)) ((n, t && isThere o) ∷ rules)
 unfolding require _>>_
-rule-there n h true o k = there n h o k
-rule-there n h false o k = broken n h
+rule-there n h true o f k g = regroup (given n o) f k (there n h o g)
+rule-there n h false o f k g = broken n h
 
 -- what goes on without a test
 then-passes : {A B : Type 0} {m : Result A} {rules : List (ℕ × Bool)} (f : A → B) → Follows m rules → Follows (m >>= λ a. passed (f a)) rules
@@ -200,17 +104,25 @@ judge-follows f [] = broken 8 (λ e. omega (arith, e))
 judge-follows f (Γ ∷ Γs) = kept (above-follows f (Γ ∷ Γs) (Γ ∷ Γs))
 
 load-follows : (l : Lent) → Follows (loadTests l) (loadRules (lengthsFit l) l)
-unfolding loadTests check onward ifThere verdict
+unfolding loadTests check readTests recordTests scriptTests typeTests onward ifThere verdict _>>=_
 load-follows l =
     rule 1 (λ e. omega (arith, e)) (lengthsFit l)
+    (regroup (recordTests (l .terms) (l .schema)) _ _
+    (regroup (given 2 (readTerms (l .terms))) _ _
     (there 2 (λ e. omega (arith, e)) (readTerms (l .terms)) λ listed e₂. rw e₂
+    (together (require 3 (distinct sameTerm listed)) _ _
     (rule 3 (λ e. omega (arith, e)) (distinct sameTerm listed)
+    (regroup (given 4 (readSchema (l .schema))) _ _
     (there 4 (λ e. omega (arith, e)) (readSchema (l .schema)) λ S e₄. rw e₄
+    (together (require 5 (distinct sameProperty S)) _ _
     (rule 5 (λ e. omega (arith, e)) (distinct sameProperty S)
     (let ts = withProperties S listed in
-    rule-there 6 (λ e. omega (arith, e)) (sizesFit ts S (l .script)) (parsed (length ts) (l .script)) λ root e₆. rw e₆
+    regroup (scriptTests ts S (l .script)) _ _
+    (together (require 6 (sizesFit ts S (l .script))) _ _
+    (rule-there 6 (λ e. omega (arith, e)) (sizesFit ts S (l .script)) (parsed (length ts) (l .script)) _ _ λ root e₆. rw e₆
+    (together (require 7 (inScope root)) _ _
     (rule 7 (λ e. omega (arith, e)) (inScope root)
-    (judge-follows (λ Γ. record { schema = S; terms = ts; root = root; types = Γ }) (typings (constantsOf S ts) (writtenTypes root) root))))))))
+    (judge-follows (λ Γ. record { schema = S; terms = ts; root = root; types = Γ }) (typings (constantsOf S ts) (writtenTypes root) root))))))))))))))))
 
 load-refuses : (l : Lent) (r : Result Checked) → Follows r (loadRules (lengthsFit l) l) → loadTests l ≡ r → LoadRefuses l
 unfolding load loadResult

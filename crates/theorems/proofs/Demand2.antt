@@ -1,17 +1,8 @@
--- Demand 2: typing, runs and pages.
---
---   A script past refusals 1 to 7 is accepted exactly when the typing rules give it a typing that is above all its other
---   typings, variable by variable; that typing is reported. Refusal 8: it has none; 9: it has some and none is above the
---   rest. A run takes the steps of document 01's machine, and a page taken in leaves its graph holding that page's
---   well-typed triples and nothing else.
---
--- `Verdict.isTyping` and `Verdict.isGreatest` say what a typing is, and when it is above all; `RunSteps.Steps` and
--- `RunSteps.Ends` what a run is; `PageTaken.PageLeaves` what a page leaves. `Saved.held` is the state that saved run and
--- tables hold.
+-- Demand 2, proved.
 use Prim.Native.Nat.{ℕ, _≤_}
 use native.Mathlib.Omega.{arith}
 use mathlib.Core.Path.{_≡_, refl, sym, ap, subst, _∙_}
-use mathlib.Core.Logic.{_⊎_, inl, inr, _↔_}
+use mathlib.Core.Logic.{_⊎_, inl, inr}
 use mathlib.Core.List.{List}
 use mathlib.Core.Bool.{Bool, true, false}
 use mathlib.Core.Option.{Option, none, some}
@@ -20,18 +11,17 @@ use lib.ListN.{length}
 use lib.IntN.{ℤ}
 use Rattle.definitions.specs.Lists.{distinct}
 use Rattle.definitions.specs.Types.{Ty}
-use Rattle.definitions.specs.Terms.{Term, Schema, Sort, Triple, sameTerm, sameProperty, readTerms, readSchema}
-use Rattle.definitions.specs.Tree.{Script}
+use Rattle.definitions.specs.Terms.{sameTerm, sameProperty, readTerms, readSchema}
 use Rattle.definitions.specs.Reading.{parsed}
 use Rattle.definitions.specs.Scope.{inScope}
-use Rattle.definitions.specs.Typing.{Written, writtenTypes, typeAt, Verdict, noTyping, noGreatest, greatest, verdict}
+use Rattle.definitions.specs.Typing.{typeAt, Verdict, noTyping, noGreatest, greatest, verdict}
 use Rattle.definitions.specs.Outcome.{ok}
-use Rattle.definitions.specs.Machine.{State, Run, lastOf, withProperties}
-use Rattle.definitions.specs.Saved.{held, savedOf}
+use Rattle.definitions.specs.Machine.{Run, lastOf, withProperties}
+use Rattle.definitions.specs.Saved.{savedOf}
 use Rattle.definitions.specs.Result.{Result, refused, passed, _>>=_, _>>_, require, given}
-use Rattle.definitions.specs.Calls.{Checked, constantsOf, typesOf, sizesFit, check, reportedTypes, reported}
+use Rattle.definitions.specs.Calls.{recordTests, scriptTests, readTests, typeTests, Checked, typesOf, sizesFit, check, reportedTypes, reported}
 use Rattle.definitions.specs.Calls.{Lent, lengthsFit, loadTests, loadResult, load}
-use Rattle.definitions.specs.Calls.{Running, runTests, ranOf, runResult, runCall, pageIn, Taking, pageTests, pageResult, pageCall}
+use Rattle.definitions.specs.Calls.{Running, runTests, ranOf, runResult, runCall, Taking, pageTests, pageResult, pageCall}
 use Rattle.definitions.specs.Numbers.{loadNumber}
 use Rattle.definitions.specs.declared.SavedRun.{SavedRun}
 use Rattle.definitions.specs.declared.RunState.{RunState}
@@ -41,109 +31,21 @@ use Rattle.definitions.specs.declared.LoadAnswer.the-variants as LoadAnswers
 use Rattle.definitions.specs.declared.RunAnswer.the-variants as RunAnswers
 use Rattle.definitions.specs.declared.PageAnswer.the-variants as PageAnswers
 use Rattle.laws.proofs.Tests.{isTrue}
+use Rattle.laws.proofs.Results.{by-bind, by-after}
 use Rattle.laws.proofs.PageCheck.{page-passed}
 use Rattle.laws.proofs.Valid.{page-keeps-valid}
 use Rattle.laws.proofs.RunStore.{run-keeps, last-all}
 use Rattle.laws.proofs.Saved.{held-again}
 use Rattle.laws.proofs.SoundIn.{is-accepted}
-use Rattle.theorems.proofs.Verdict.{isTyping, isGreatest, verdict-claim}
+use Rattle.theorems.proofs.Verdict.{verdict-claim}
 use Rattle.safety.proofs.RunSound.{run-sound, last-sound}
-use Rattle.safety.proofs.RunSteps.{Steps, Ends, run-takes}
+use Rattle.safety.proofs.RunSteps.{run-takes}
 use Rattle.safety.proofs.PageSound.{page-sound}
-use Rattle.theorems.proofs.PageTaken.{PageLeaves, page-leaves}
+use Rattle.theorems.specs.PageLeaves.{PageLeaves}
+use Rattle.theorems.proofs.PageTaken.{page-leaves}
 use Rattle.theorems.proofs.CallsPassed.{ok-is, fine-at, RunPassed, run-passed, run-fine, run-gives, taking-passed}
 use Rattle.theorems.proofs.StillHeld.{valid-held, still-held}
-
--- ── the statement: load ─────────────────────────────────────────────────────────────────────
-
--- past refusals 1 to 7
-pub record PastSeven (l : Lent) : Type 0 where
-  -- 1: the tables have their lengths
-  pub lengths : T (lengthsFit l)
-  -- 2 and 3: the terms are read, none twice
-  pub listed : List Term
-  pub reads : readTerms (l .terms) ≡ some listed
-  pub apart : T (distinct sameTerm listed)
-  -- 4 and 5: the schema is read, no property twice
-  pub schema : Schema
-  pub entries : readSchema (l .schema) ≡ some schema
-  pub properties : T (distinct sameProperty schema)
-  -- 6: terms, entries and script keep their limits, and the script is well formed
-  pub sizes : T (sizesFit (withProperties schema listed) schema (l .script))
-  pub root : Script
-  pub parses : parsed (length (withProperties schema listed)) (l .script) ≡ some root
-  -- 7: each variable is bound at its use, and by one pair
-  pub scope : T (inScope root)
-
-module _ {l : Lent} (p : PastSeven l) where
-  -- the constants' sorts, by term number, and what is written at the variables
-  abbrev pub constants : ℕ → Sort
-  constants = constantsOf (p .schema) (withProperties (p .schema) (p .listed))
-
-  abbrev pub written : List Written
-  written = writtenTypes (p .root)
-
-  -- a typing of the script; one that is above all its typings
-  abbrev pub Typing : List Ty → Type 0
-  Typing Γ = isTyping constants written (p .root) Γ
-
-  abbrev pub Greatest : List Ty → Type 0
-  Greatest Γ = isGreatest constants written (p .root) Γ
-
-  pub record LoadDecides : Type 0 where
-    -- accepted exactly when there is a typing above all others, and that one is reported
-    pub accepted : (load l .returned .answer ≡ LoadAnswers.Accepted) ↔ ((Γ : List Ty) × Greatest Γ)
-    pub reported : (Γ : List Ty) → Greatest Γ → load l .returned .saved .types ≡ reportedTypes written Γ
-    -- it has none
-    pub refusal-8 : (load l .returned .answer ≡ LoadAnswers.Refused 8) ↔ ((Γ : List Ty) → Typing Γ → ⊥)
-    -- it has some, and none is above the rest
-    pub refusal-9 : (load l .returned .answer ≡ LoadAnswers.Refused 9) ↔ (((Γ : List Ty) × Typing Γ) × ((Γ : List Ty) → Greatest Γ → ⊥))
-
--- ── the statement: run ──────────────────────────────────────────────────────────────────────
-
--- a run call that reports so many steps and how it ended
-pub record RunTakes (l : Lent) (saved : SavedRun) (budget : ℕ) (now : ℤ) (ran : Ran) (steps : ℕ) (ending : RunState) : Type 0 where
-  pub checked : Checked
-  pub loads : check (l .terms) (l .schema) (l .script) ≡ passed checked
-  -- the state that was lent
-  pub before : State
-  pub entry : held (checked .root) (l .termTable) (l .quadTable) saved ≡ some before
-  -- from it the machine takes as many steps as are reported
-  pub states : List State
-  pub isSteps : Steps (checked .schema) (typeAt (checked .types)) now before states
-  pub count : length states ≡ steps
-  pub inBudget : steps ≤ budget
-  -- and stands as is reported, or could go on with the budget spent
-  pub ends : Ends (checked .schema) (typeAt (checked .types)) now budget steps (lastOf before states) ending
-  -- the saved run handed back and the tables hold the state after the last step
-  pub exit : held (checked .root) (l .termTable) (l .quadTable) (ran .saved) ≡ some (lastOf before states)
-
--- ── the statement: page ─────────────────────────────────────────────────────────────────────
-
--- a page call that reports so many records skipped
-pub record PageTakes (l : Lent) (saved : SavedRun) (graph : ℕ) (page : List ℕ) (skipped : ℕ) : Type 0 where
-  pub checked : Checked
-  pub loads : check (l .terms) (l .schema) (l .script) ≡ passed checked
-  -- the state that was lent, and the page's triples
-  pub before : State
-  pub entry : held (checked .root) (l .termTable) (l .quadTable) saved ≡ some before
-  pub triples : List Triple
-  pub reads : pageIn page ≡ some triples
-  -- the state that is left: the graph holds the page's well typed triples and nothing else, all other graphs what they held
-  pub after : State
-  pub leaves : PageLeaves (checked .schema) graph triples before (record { skipped = skipped; state = after })
-  pub exit : let r = pageCall l saved graph page in held (checked .root) (r .termTable) (r .quadTable) (r .returned .saved) ≡ some after
-
--- ── the statement, whole ────────────────────────────────────────────────────────────────────
-
-pub record Demand2 : Type 0 where
-  -- a load is refused with 1 to 7, or its script is past them
-  pub reaches : (l : Lent) → ((1 ≤ loadNumber (load l .returned .answer)) × (loadNumber (load l .returned .answer) ≤ 7)) ⊎ PastSeven l
-  pub load : (l : Lent) (p : PastSeven l) → LoadDecides p
-  pub run : (l : Lent) (saved : SavedRun) (budget : ℕ) (now : ℤ) (ran : Ran) → runCall l saved budget now ≡ ok ran
-      → (steps : ℕ) (ending : RunState) → ran .answer ≡ RunAnswers.Ran steps ending → RunTakes l saved budget now ran steps ending
-  pub page : (l : Lent) (saved : SavedRun) (graph : ℕ) (page : List ℕ) (skipped : ℕ)
-      → pageCall l saved graph page .returned .answer ≡ PageAnswers.Taken skipped → PageTakes l saved graph page skipped
+use Rattle.theorems.specs.Demand2.{PastSeven, constants, written, LoadDecides, RunTakes, PageTakes, Demand2}
 
 -- ── the proof: load ─────────────────────────────────────────────────────────────────────────
 
@@ -163,17 +65,33 @@ module _ {A : Type 0} {P : Type 0} (n : ℕ) (lo : 1 ≤ n) (hi : n ≤ 7) where
   given-reaches none k = low lo hi
   given-reaches (some b) k = k b refl
 
+module _ {A B C : Type 0} {P : Type 0} where
+  regroup : (m : Result A) (f : A → Result B) (k : B → Result C) → Reaches P (m >>= λ a. f a >>= k) → Reaches P ((m >>= f) >>= k)
+  regroup m f k h = by-bind (λ (x : Result C). Reaches P x) m f k h
+
+  together : (m : Result A) (n : Result B) (k : B → Result C) → Reaches P (m >> (n >>= k)) → Reaches P ((m >> n) >>= k)
+  together m n k h = by-after (λ (x : Result C). Reaches P x) m n k h
+
 load-reaches : (l : Lent) → Reaches (PastSeven l) (loadTests l)
-unfolding loadTests check
+unfolding loadTests check readTests recordTests scriptTests _>>=_
 load-reaches l =
     require-reaches 1 (omega arith) (omega arith) (lengthsFit l) λ lengths.
-    given-reaches 2 (omega arith) (omega arith) (readTerms (l .terms)) λ listed reads.
-    require-reaches 3 (omega arith) (omega arith) (distinct sameTerm listed) λ apart.
-    given-reaches 4 (omega arith) (omega arith) (readSchema (l .schema)) λ S entries.
-    require-reaches 5 (omega arith) (omega arith) (distinct sameProperty S) λ properties.
-    require-reaches 6 (omega arith) (omega arith) (sizesFit (withProperties S listed) S (l .script)) λ sizes.
-    given-reaches 6 (omega arith) (omega arith) (parsed (length (withProperties S listed)) (l .script)) λ root parses.
-    require-reaches 7 (omega arith) (omega arith) (inScope root) λ scope.
+    regroup (recordTests (l .terms) (l .schema)) _ _
+    (regroup (given 2 (readTerms (l .terms))) _ _
+    (given-reaches 2 (omega arith) (omega arith) (readTerms (l .terms)) λ listed reads.
+    together (require 3 (distinct sameTerm listed)) _ _
+    (require-reaches 3 (omega arith) (omega arith) (distinct sameTerm listed) λ apart.
+    regroup (given 4 (readSchema (l .schema))) _ _
+    (given-reaches 4 (omega arith) (omega arith) (readSchema (l .schema)) λ S entries.
+    together (require 5 (distinct sameProperty S)) _ _
+    (require-reaches 5 (omega arith) (omega arith) (distinct sameProperty S) λ properties.
+    regroup (scriptTests (withProperties S listed) S (l .script)) _ _
+    (together (require 6 (sizesFit (withProperties S listed) S (l .script))) _ _
+    (require-reaches 6 (omega arith) (omega arith) (sizesFit (withProperties S listed) S (l .script)) λ sizes.
+    regroup (given 6 (parsed (length (withProperties S listed)) (l .script))) _ _
+    (given-reaches 6 (omega arith) (omega arith) (parsed (length (withProperties S listed)) (l .script)) λ root parses.
+    together (require 7 (inScope root)) _ _
+    (require-reaches 7 (omega arith) (omega arith) (inScope root) λ scope.
     past (record {
       lengths = lengths;
       listed = listed;
@@ -186,7 +104,7 @@ load-reaches l =
       root = root;
       parses = parses;
       scope = scope;
-    })
+    }))))))))))
 
 number-reaches : (l : Lent) (r : Result Checked) → Reaches (PastSeven l) r
     → ((1 ≤ loadNumber (loadResult l r .returned .answer)) × (loadNumber (loadResult l r .returned .answer) ≤ 7)) ⊎ PastSeven l
@@ -225,7 +143,7 @@ module _ (l : Lent) (p : PastSeven l) where
   decided = verdict (constants p) (written p) (p .root)
 
   tests : loadTests l ≡ (typesOf decided >>= λ Γ. passed (found Γ))
-  unfolding loadTests check require given _>>_ _>>=_ decided found
+  unfolding loadTests check readTests recordTests scriptTests typeTests require given _>>_ _>>=_ decided found
   tests =
       let sizes = isTrue (sizesFit (withProperties (p .schema) (p .listed)) (p .schema) (l .script)) (p .sizes) in
       rw (isTrue (lengthsFit l) (p .lengths), p .reads, isTrue (distinct sameTerm (p .listed)) (p .apart), p .entries)

@@ -1,104 +1,42 @@
--- Demand 3: one claim about the whole list of calls after a load.
---
---   For every accepted script and every list of run and page calls after its load, refused ones included: document 01's
---   untyped machine, fed the same calls, stops at none of its eight type faults, and each call gives the machine's answer.
---   After every step and page each bound variable holds a term of its reported type, each stored triple has a property in
---   the schema and an object of its datatype, each stack item keeps the typing rules. It is one claim about the whole list:
---   the machine starts from the load with the reported types written at the variables, and also holds the numbered terms
---   and stored quads; it is fed only each call's table lengths with budget and now, or with graph number and page; refusals
---   are tested on these and on what it holds; a refused call changes nothing. After each call saved run and tables hold the
---   machine's stack, last tuples, bound variables' terms, terms by number and sets of fetched graphs and quads; refusal 10
---   never comes. The search that tells waiting from spent meets no fault either.
---
--- The machine is `CallList.machineCalls`, which holds a state and is fed `Engine.fed` of each call. The calls on bytes are
--- `Engine.engineCalls`. `Safety.WellTyped` says the sentence on variables, triples and stack items.
+-- Demand 3, proved: a load's result is sound, every call keeps soundness, so refusal 10 never comes and each call does what the machine does.
 use Prim.Native.Nat.{ℕ}
 use native.Mathlib.Omega.{arith}
-use mathlib.Core.Path.{_≡_, refl, ap, subst⁻¹, _∙_}
+use mathlib.Core.Path.{_≡_, refl, sym, ap, subst⁻¹, _∙_}
 use mathlib.Core.List.{List, [], _∷_, map}
 use mathlib.Core.Bool.{_&&_}
 use mathlib.Core.Option.{Option, none, some}
 use lib.Dec.{leb}
 use lib.ListN.{length, getElem?}
-use Rattle.definitions.specs.Limits.{termTableWidth, quadTableWidth, budgetLimit}
+use Rattle.definitions.specs.Limits.{budgetLimit}
 use Rattle.definitions.specs.Terms.{Triple, isDateTime}
 use Rattle.definitions.specs.Typing.{typeAt}
 use Rattle.definitions.specs.Outcome.{Outcome, ok, _>>=_}
 use Rattle.definitions.specs.Machine.{State, Run, run, lastOf, loaded, taken, withPage, inLimits}
-use Rattle.definitions.specs.Saved.{held, savedOf}
+use Rattle.definitions.specs.Saved.{savedOf}
 use Rattle.definitions.specs.Result as Results
 use Rattle.definitions.specs.Result.{Result, refused, passed, require, given}
 use Rattle.definitions.specs.Calls.{Checked, check, reported, Lent, tablesFit, lengthsFit, loadTests, loadResult, load, runIn}
 use Rattle.definitions.specs.Calls.{isGraph, pageIn, PageTaken, pageTaken, takeIn}
-use Rattle.definitions.specs.CallList.{Call, running, paging, Answer, ran, paged, Done, runDone, pageDone, machineCall, machineCalls}
-use Rattle.definitions.specs.Numbers.{runNumber, pageNumber}
+use Rattle.definitions.specs.CallList.{Call, running, paging, ran, Done, runDone, pageDone, machineCall, machineCalls}
 use Rattle.definitions.specs.declared.LoadAnswer.the-variants as LoadAnswers
 use Rattle.definitions.specs.declared.RunAnswer.the-variants as RunAnswers
-use Rattle.laws.proofs.All.{All}
-use Rattle.laws.proofs.Fine.{fine-ok, OrFault, holds, holds-after, holds-ok}
-use Rattle.laws.proofs.Results.{require-after-inv}
+use Rattle.laws.proofs.NoFault.{fine-ok, holds-after, holds-ok}
+use Rattle.laws.specs.Outcomes.{OrFault, holds}
+use Rattle.laws.proofs.Tests.{isFalse}
+use Rattle.laws.proofs.Results.{require-after-inv, require-refused}
+use Rattle.theorems.proofs.CallsPassed.{ok-is}
 use Rattle.laws.proofs.Refusing.{by-require}
 use Rattle.laws.proofs.Check.{check-accepted}
 use Rattle.laws.proofs.Tables.{term-table-length, quad-table-length}
-use Rattle.laws.proofs.Valid.{ValidIn, loaded-valid, check-valid}
+use Rattle.laws.specs.Valid.{ValidIn}
+use Rattle.laws.proofs.Valid.{loaded-valid, check-valid}
 use Rattle.laws.proofs.Saved.{held-again, terms-few, quads-few}
-use Rattle.laws.proofs.Sound.{Accepted, Sound}
+use Rattle.laws.specs.Sound.{Accepted, Sound}
 use Rattle.safety.proofs.RunSound.{last-sound}
-use Rattle.theorems.proofs.Safety.{WellTyped, well-typed, loaded-sound, CallSound, call-sound}
-use Rattle.theorems.proofs.Engine.{HostCall, fed, Kept, keptOf, keptAfterLoad, Handed, engineCall, engineCalls}
+use Rattle.theorems.proofs.Safety.{well-typed, loaded-sound, CallSound, call-sound}
+use Rattle.theorems.specs.Hosts.{Kept, Lending, asLeft, others, HostCall, lending, fed, keptOf, keptAfterLoad, Handed, numberOf, lentKept, keptAfter, engineCall, engineCalls}
+use Rattle.theorems.specs.Demand3.{Keeps, Wrong, Agrees, CallByCall, Demand3}
 use Rattle.theorems.proofs.EngineSound.{handedOf, engine-call, call-valid}
-
--- ── the statement ───────────────────────────────────────────────────────────────────────────
-
--- 0, or the refusal's number
-abbrev pub numberOf : Answer → ℕ
-numberOf (ran a) = runNumber a
-numberOf (paged a) = pageNumber a
-
--- saved run and tables are a state's
-pub record Keeps (c : Checked) (k : Kept) (s : State) : Type 0 where
-  -- every byte of them is the state's, with the reported types
-  pub written : k ≡ keptOf c s
-  -- and they hold the state: stack, last tuples, bound variables' terms, terms by number, fetched graphs and quads
-  pub holds : held (c .root) (k .termTable) (k .quadTable) (k .saved) ≡ some s
-  -- the tables have the lengths that the machine is fed
-  pub lengths : (length (k .termTable) ≡ termTableWidth) × (length (k .quadTable) ≡ quadTableWidth)
-
--- a call that the machine, from state s, answers with d
-pub record Agrees (c : Checked) (s : State) (d : Done) (h : Handed) : Type 0 where
-  -- the call gives the machine's answer
-  pub answer : h .answer ≡ d .answer
-  -- refusal 10 never comes
-  pub neverTen : numberOf (h .answer) ≡ 10 → ⊥
-  -- after every step and page: variables, triples and stack items are well typed
-  pub typed : All (WellTyped c) (d .passed)
-  -- after the call saved run and tables are the machine's
-  pub keeps : Keeps c (h .kept) (lastOf s (d .passed))
-  -- a refused call changes nothing
-  pub refused : (numberOf (h .answer) ≡ 0 → ⊥) → (d .passed ≡ []) × (h .kept ≡ keptOf c s)
-
--- call by call, from a state on
-abbrev pub CallByCall : Checked → State → List Done → List Handed → Type 0
-CallByCall c s [] [] = Unit {0}
-CallByCall c s [] (h ∷ hs) = ⊥
-CallByCall c s (d ∷ ds) [] = ⊥
-CallByCall c s (d ∷ ds) (h ∷ hs) = Agrees c s d h × CallByCall c (lastOf s (d .passed)) ds hs
-
-pub record Demand3 (l : Lent) (calls : List HostCall) : Type 0 where
-  -- what loading finds: terms, script and the types worked out, which are the reported ones
-  pub checked : Checked
-  pub loads : check (l .terms) (l .schema) (l .script) ≡ passed checked
-  pub types : load l .returned .saved .types ≡ reported checked
-  -- the machine starts from the load
-  pub start : Keeps checked (keptAfterLoad l) (loaded (checked .terms) (checked .root))
-  pub startTyped : WellTyped checked (loaded (checked .terms) (checked .root))
-  -- fed the same calls it stops at no fault; its look with no budget left, which tells waiting from spent, is part of it
-  pub done : List Done
-  pub noFault : machineCalls checked (map fed calls) (loaded (checked .terms) (checked .root)) ≡ ok done
-  -- and the calls, each on what the one before left, agree with it
-  pub handed : List Handed
-  pub given : engineCalls (l .terms) (l .schema) (l .script) calls (keptAfterLoad l) ≡ ok handed
-  pub agree : CallByCall checked (loaded (checked .terms) (checked .root)) done handed
 
 -- ── the proof: refusals ─────────────────────────────────────────────────────────────────────
 
@@ -150,6 +88,18 @@ fair-call c (paging m n g page) s =
     by-require ask 14 (inLimits (withPage g (taken (c .schema) g triples (s .store)) (s .store))) _ (fair-page 14 (λ e. omega (arith, e)))
     (fair-paged (pageTaken g (taken (c .schema) g triples (s .store)) s)))))
 
+-- a table of another length gives 1
+wrong-one : (c : Checked) (x : HostCall) (s : State) (d : Done) → machineCall c (fed x) s ≡ ok d → Wrong (lending x) → numberOf (d .answer) ≡ 1
+unfolding machineCall runDone pageDone
+wrong-one c (HostCall.running (others l saved wrong) budget now) s d e w =
+    let one = rw (require-refused 1 (runIn c budget now s) (isFalse (lengthsFit l) wrong)) at e in
+    ap (λ (d : Done). numberOf (d .answer)) (sym (ok-is one))
+wrong-one c (HostCall.paging (others l saved wrong) g page) s d e w =
+    let one = rw (require-refused 1 (takeIn c g page s) (isFalse (lengthsFit l) wrong)) at e in
+    ap (λ (d : Done). numberOf (d .answer)) (sym (ok-is one))
+wrong-one c (HostCall.running asLeft budget now) s d e w = absurd w
+wrong-one c (HostCall.paging asLeft g page) s d e w = absurd w
+
 -- ── the proof: the list ─────────────────────────────────────────────────────────────────────
 
 -- one call and the rest
@@ -158,23 +108,22 @@ machine-more : (c : Checked) (x : Call) (xs : List Call) (s : State) (d : Done) 
 unfolding machineCalls _>>=_
 machine-more c x xs s d ds e f = rw (e, f) refl
 
-engine-more : (terms schema script : List ℕ) (x : HostCall) (xs : List HostCall) (k : Kept) (h : Handed) (hs : List Handed)
-    → engineCall terms schema script x k ≡ ok h → engineCalls terms schema script xs (h .kept) ≡ ok hs
-    → engineCalls terms schema script (x ∷ xs) k ≡ ok (h ∷ hs)
+pub engine-more : (l : Lent) (x : HostCall) (xs : List HostCall) (k : Kept) (h : Handed) (hs : List Handed) → engineCall l x k ≡ ok h
+    → engineCalls l xs (keptAfter (lending x) k h) ≡ ok hs → engineCalls l (x ∷ xs) k ≡ ok (h ∷ hs)
 unfolding engineCalls _>>=_
-engine-more terms schema script x xs k h hs e f = rw (e, f) refl
+engine-more l x xs k h hs e f = rw (e, f) refl
 
 -- what holds of a list of calls from a state on
-record FromHere (terms schema script : List ℕ) (c : Checked) (s : State) (calls : List HostCall) : Type 0 where
+record FromHere (l : Lent) (c : Checked) (s : State) (calls : List HostCall) : Type 0 where
   done : List Done
   noFault : machineCalls c (map fed calls) s ≡ ok done
   handed : List Handed
-  given : engineCalls terms schema script calls (keptOf c s) ≡ ok handed
-  agree : CallByCall c s done handed
+  given : engineCalls l calls (keptOf c s) ≡ ok handed
+  agree : CallByCall c calls (keptOf c s) s done handed
 
-module _ (terms schema script : List ℕ) (c : Checked) (loads : check terms schema script ≡ passed c) where
+module _ (l : Lent) (c : Checked) (loads : check (l .terms) (l .schema) (l .script) ≡ passed c) where
   accepted : Accepted c
-  accepted = check-accepted terms schema script c loads
+  accepted = check-accepted (l .terms) (l .schema) (l .script) c loads
 
   -- what a sound state leaves in saved run and tables
   kept-again : (s : State) → Sound c s → ValidIn s → Keeps c (keptOf c s) s
@@ -188,18 +137,44 @@ module _ (terms schema script : List ℕ) (c : Checked) (loads : check terms sch
         );
       }
 
-  agrees : (x : Call) (s : State) (d : Done) → CallSound c x d → Fair d → Keeps c (keptOf c (lastOf s (d .passed))) (lastOf s (d .passed))
-      → Agrees c s d (handedOf c s d)
-  agrees x s d h fair keeps =
-      record {
-        answer = refl;
-        neverTen = fair .neverTen;
-        typed = h .typed;
-        keeps = keeps;
-        refused = λ n. let e = fair .still n in (e, ap (λ (p : List State). keptOf c (lastOf s p)) e);
-      }
+  -- the host keeps what the machine's state leaves, whatever it lent
+  after-call : (t : Lending) (s : State) (d : Done) → (Wrong t → d .passed ≡ []) → keptAfter t (keptOf c s) (handedOf c t s d) ≡ keptOf c (lastOf s (d .passed))
+  after-call asLeft s d h = refl
+  after-call (others x saved wrong) s d h = ap (λ (p : List State). keptOf c (lastOf s p)) (sym (h tt))
 
-  from-here : (calls : List HostCall) (s : State) → Sound c s → ValidIn s → FromHere terms schema script c s calls
+  -- a call that is lent something else leaves the machine where it was
+  wrong-still : (x : HostCall) (s : State) (d : Done) → machineCall c (fed x) s ≡ ok d → Wrong (lending x) → d .passed ≡ []
+  wrong-still x s d e w =
+      let n = wrong-one c x s d e w in
+      holds-ok d e (fair-call c (fed x) s) .still (λ z. omega (arith, n, z))
+
+  pub call-keeps : (x : HostCall) (s : State) (d : Done) → machineCall c (fed x) s ≡ ok d
+      → keptAfter (lending x) (keptOf c s) (handedOf c (lending x) s d) ≡ keptOf c (lastOf s (d .passed))
+  call-keeps x s d e = after-call (lending x) s d (wrong-still x s d e)
+
+  left-as-lent : (t : Lending) (s : State) (d : Done) → d .passed ≡ [] → handedOf c t s d .left ≡ lentKept t (keptOf c s)
+  left-as-lent asLeft s d e = ap (λ (p : List State). keptOf c (lastOf s p)) e
+  left-as-lent (others x saved wrong) s d e = refl
+
+  agrees : (x : HostCall) (s : State) (d : Done) → machineCall c (fed x) s ≡ ok d → CallSound c (fed x) d
+      → Keeps c (keptOf c (lastOf s (d .passed))) (lastOf s (d .passed)) → Agrees c x (keptOf c s) s d (handedOf c (lending x) s d)
+  agrees x s d e h keeps =
+      let fair = holds-ok d e (fair-call c (fed x) s) in
+      let number = ap numberOf (answer-of (lending x)) in
+      record {
+        answer = answer-of (lending x);
+        neverTen = λ z. fair .neverTen (sym number ∙ z);
+        one = λ w. number ∙ wrong-one c x s d e w;
+        typed = h .typed;
+        keeps = subst⁻¹ (λ k. Keeps c k (lastOf s (d .passed))) (call-keeps x s d e) keeps;
+        refused = λ n. let still = fair .still (λ z. n (number ∙ z)) in (still, left-as-lent (lending x) s d still);
+      }
+    where
+      answer-of : (t : Lending) → handedOf c t s d .answer ≡ d .answer
+      answer-of asLeft = refl
+      answer-of (others y saved wrong) = refl
+
+  from-here : (calls : List HostCall) (s : State) → Sound c s → ValidIn s → FromHere l c s calls
   unfolding machineCalls engineCalls
   from-here [] s sound valid = record { done = []; noFault = refl; handed = []; given = refl; agree = tt }
   from-here (x ∷ xs) s sound valid =
@@ -207,16 +182,18 @@ module _ (terms schema script : List ℕ) (c : Checked) (loads : check terms sch
       let d = m .0 in
       let after = lastOf s (d .passed) in
       let sound′ = last-sound c s (d .passed) sound (m .2 .passed) in
-      let valid′ = call-valid terms schema script c loads s sound valid x d (m .1) in
+      let valid′ = call-valid l c loads s sound valid x d (m .1) in
       let rest = from-here xs after sound′ valid′ in
-      let one = agrees (fed x) s d (m .2) (holds-ok d (m .1) (fair-call c (fed x) s)) (kept-again after sound′ valid′) in
+      let h = handedOf c (lending x) s d in
+      let one = agrees x s d (m .1) (m .2) (kept-again after sound′ valid′) in
+      let kept : keptAfter (lending x) (keptOf c s) h ≡ keptOf c after = call-keeps x s d (m .1) in
       record {
         done = d ∷ rest .done;
         noFault = machine-more c (fed x) (map fed xs) s d (rest .done) (m .1) (rest .noFault);
-        handed = handedOf c s d ∷ rest .handed;
-        given = engine-more terms schema script x xs (keptOf c s) (handedOf c s d) (rest .handed)
-            (engine-call terms schema script c loads s sound valid x d (m .1)) (rest .given);
-        agree = (one, rest .agree);
+        handed = h ∷ rest .handed;
+        given = engine-more l x xs (keptOf c s) h (rest .handed) (engine-call l c loads s sound valid x d (m .1))
+            (ap (engineCalls l xs) kept ∙ rest .given);
+        agree = (one, subst⁻¹ (λ k. CallByCall c xs k after (rest .done) (rest .handed)) kept (rest .agree));
       }
 
 -- a load that is accepted, and what it leaves
@@ -246,16 +223,16 @@ demand-3 l e calls =
     let sound = loaded-sound c accepted in
     let valid = loaded-valid c (check-valid (l .terms) (l .schema) (l .script) c loads) in
     let kept = load-keeps l c (r .1) in
-    let all = from-here (l .terms) (l .schema) (l .script) c loads calls s sound valid in
+    let all = from-here l c loads calls s sound valid in
     record {
       checked = c;
       loads = loads;
       types = load-types l c (r .1);
-      start = subst⁻¹ (λ k. Keeps c k s) kept (kept-again (l .terms) (l .schema) (l .script) c loads s sound valid);
+      start = subst⁻¹ (λ k. Keeps c k s) kept (kept-again l c loads s sound valid);
       startTyped = well-typed c accepted s sound;
       done = all .done;
       noFault = all .noFault;
       handed = all .handed;
-      given = ap (engineCalls (l .terms) (l .schema) (l .script) calls) kept ∙ all .given;
-      agree = all .agree;
+      given = ap (engineCalls l calls) kept ∙ all .given;
+      agree = subst⁻¹ (λ k. CallByCall c calls k s (all .done) (all .handed)) kept (all .agree);
     }

@@ -1,32 +1,45 @@
 -- The demands are about something: a card as bytes is accepted, and a list of calls on bytes, some of them refused, runs it to its end.
 -- By computation; then demand 3 is applied to it.
+use Prim.Native.Nat.{ℕ}
 use mathlib.Core.Path.{_≡_, refl}
 use mathlib.Core.List.{List, [], _∷_, map}
 use lib.IntN.{pos}
+use lib.ListN.{replicate}
 use Rattle.definitions.specs.Outcome.{Outcome, ok, fault}
-use Rattle.definitions.specs.Calls.{tablesFit, load}
+use Rattle.definitions.specs.Saved.{noRun}
+use Rattle.definitions.specs.Calls.{Lent, tablesFit, load}
 use Rattle.definitions.specs.CallList.{Answer, ran, paged}
+use Rattle.definitions.specs.Limits.{savedWidth}
 use Rattle.definitions.specs.declared.RunState.the-variants.{Ended, Wanted, Spent}
 use Rattle.definitions.specs.declared.LoadAnswer.the-variants as LoadAnswers
 use Rattle.definitions.specs.declared.RunAnswer.the-variants as RunAnswers
 use Rattle.definitions.specs.declared.PageAnswer.the-variants as PageAnswers
 use Rattle.definitions.proofs.Opened.{opened}
 use Rattle.definitions.proofs.Season.{card, uri, number}
-use Rattle.theorems.proofs.Engine.{asLeft, others, HostCall, running, paging, Handed, keptAfterLoad, engineCall, engineCalls}
-use Rattle.theorems.proofs.Demand3.{Demand3, demand-3}
+use Rattle.theorems.specs.Hosts.{asLeft, others, HostCall, running, paging, Handed, keptAfterLoad, engineCall, engineCalls}
+use Rattle.theorems.specs.Demand3.{Demand3}
+use Rattle.theorems.proofs.Demand3.{demand-3}
+use Rattle.theorems.specs.OnBytes as OnBytes
+use Rattle.theorems.specs.OnBytes.{ExportCall, Exported, bytesOf, exportCall, exportCalls}
+use Rattle.theorems.proofs.OnBytes.{on-bytes}
 
 -- `Season.card`: from named c:club, an each block; term 1 is c:club
 accepted : load card .returned .answer ≡ LoadAnswers.Accepted
 unfolding card uri number opened
 accepted = refl
 
--- a run; one with tables of 0 bytes; one with too large a budget; an empty page; the rest of the run
+-- no records, and tables of no bytes
+none : Lent
+none = record { terms = []; schema = []; script = []; termTable = []; quadTable = [] }
+
+-- a run; one with tables of no bytes, no records and the saved run of a refused load; one with too large a budget; a page lent in the same way; an empty page; the rest of the run
 calls : List HostCall
-unfolding tablesFit
+unfolding tablesFit none
 calls =
     running asLeft 10 (pos 0)
-    ∷ running (others [] [] tt) 10 (pos 0)
+    ∷ running (others none noRun tt) 10 (pos 0)
     ∷ running asLeft 60001 (pos 0)
+    ∷ paging (others none noRun tt) 1 []
     ∷ paging asLeft 1 []
     ∷ running asLeft 1 (pos 0)
     ∷ running asLeft 10 (pos 0)
@@ -37,16 +50,42 @@ answersOf (ok hs) = map (λ h. h .answer) hs
 answersOf (fault x) = []
 
 answers :
-    answersOf (engineCalls (card .terms) (card .schema) (card .script) calls (keptAfterLoad card))
+    answersOf (engineCalls card calls (keptAfterLoad card))
     ≡ ran (RunAnswers.Ran 0 (Wanted 1))
     ∷ ran (RunAnswers.Refused 1)
     ∷ ran (RunAnswers.Refused 11)
+    ∷ paged (PageAnswers.Refused 1)
     ∷ paged (PageAnswers.Taken 0)
     ∷ ran (RunAnswers.Ran 1 Spent)
     ∷ ran (RunAnswers.Ran 1 Ended)
     ∷ []
-unfolding card uri number calls answersOf engineCall engineCalls opened
+unfolding card uri number none calls answersOf engineCall engineCalls opened
 answers = refl
 
 applies : Demand3 card calls
 applies = demand-3 card accepted calls
+
+-- ── on bytes ────────────────────────────────────────────────────────────────────────────────
+
+-- a run; one lent a saved run of 485 bytes; one a report of 7; a page lent a report of 3; an empty page; the rest of the run
+exportsCalled : List ExportCall
+unfolding tablesFit card
+exportsCalled =
+    ExportCall.running (OnBytes.asLeft (replicate 8 9) refl) 10 (pos 0)
+    ∷ ExportCall.running (OnBytes.others card (replicate 485 5) (replicate 8 9) tt) 10 (pos 0)
+    ∷ ExportCall.running (OnBytes.others card (replicate 486 5) (replicate 7 9) tt) 10 (pos 0)
+    ∷ ExportCall.paging (OnBytes.others card (replicate 486 5) (replicate 3 9) tt) 1 []
+    ∷ ExportCall.paging (OnBytes.asLeft (replicate 4 9) refl) 1 []
+    ∷ ExportCall.running (OnBytes.asLeft (replicate 8 9) refl) 10 (pos 0)
+    ∷ []
+
+numbersOf : Outcome (List Exported) → List ℕ
+numbersOf (ok es) = map (λ e. e .number) es
+numbersOf (fault x) = []
+
+numbers : numbersOf (exportCalls card exportsCalled (bytesOf (keptAfterLoad card))) ≡ 0 ∷ 1 ∷ 1 ∷ 1 ∷ 0 ∷ 0 ∷ []
+unfolding card uri number exportsCalled numbersOf exportCall exportCalls opened
+numbers = refl
+
+applies-on-bytes : OnBytes.OnBytes card (replicate savedWidth 9) exportsCalled
+applies-on-bytes = on-bytes card accepted (replicate savedWidth 9) refl exportsCalled

@@ -6,7 +6,6 @@ use mathlib.Core.List.{List}
 use mathlib.Core.Bool.{not, _&&_}
 use mathlib.Core.Option.{some}
 use lib.Dec.{T, leb}
-use lib.ListN.{length}
 use lib.IntN.{ℤ}
 use Rattle.definitions.specs.Limits.{budgetLimit}
 use Rattle.definitions.specs.Terms.{isDateTime}
@@ -23,44 +22,56 @@ use Rattle.definitions.specs.Calls.{PageTaken, takeIn, Taking, pageTests, PageR
 use Rattle.definitions.specs.CallList.{ran, paged, Done, runDone, pageDone, machineCall}
 use Rattle.definitions.specs.declared.Ran.{Ran}
 use Rattle.laws.proofs.Tests.{isFalse}
-use Rattle.laws.proofs.All.{All}
+use Rattle.laws.specs.Lists.{All}
 use Rattle.laws.proofs.Results.{passed-is, require-after, require-after-inv, given-bind, require-refused}
-use Rattle.laws.proofs.Valid.{Valid, ValidIn, page-keeps-valid}
+use Rattle.laws.specs.Valid.{Valid, ValidIn}
+use Rattle.laws.proofs.Valid.{page-keeps-valid}
 use Rattle.laws.proofs.RunStore.{run-keeps, last-all}
-use Rattle.laws.proofs.Sound.{Sound}
-use Rattle.laws.proofs.SoundIn.{lentWith, lengths-again, sound-again}
+use Rattle.laws.specs.Sound.{Sound}
+use Rattle.laws.proofs.SoundIn.{lengths-again, sound-again}
 use Rattle.theorems.proofs.CallsPassed.{ok-is}
-use Rattle.theorems.proofs.Engine.{Tables, asLeft, others, HostCall, termBytes, quadBytes, fed, Kept, keptOf, Handed, lentTo, engineCall}
+use Rattle.theorems.specs.Hosts.{Kept, Lending, asLeft, others, HostCall, lending, termBytes, quadBytes, fed, keptOf, Handed, lentTo, engineCall}
+use Rattle.definitions.specs.declared.SavedRun.{SavedRun}
 
 -- what a call hands back where the machine does this from a state
-abbrev pub handedOf : Checked → State → Done → Handed
-handedOf c s d = record { answer = d .answer; kept = keptOf c (lastOf s (d .passed)) }
+abbrev pub handedOf : Checked → Lending → State → Done → Handed
+handedOf c asLeft s d = record { answer = d .answer; left = keptOf c (lastOf s (d .passed)) }
+handedOf c (others l saved wrong) s d = record { answer = d .answer; left = record { saved = saved; termTable = l .termTable; quadTable = l .quadTable } }
 
 -- refusal 1, as the machine tests it
-abbrev fits : Tables → Result (Unit {0})
+abbrev fits : Lending → Result (Unit {0})
 fits t = require 1 (tablesFit (termBytes t) (quadBytes t))
 
 fits-as-left : {A : Type 0} (m : Result A) → (fits asLeft >> m) ≡ m
 unfolding tablesFit require _>>_
 fits-as-left m = refl
 
-fits-others : {A : Type 0} (t q : List ℕ) (wrong : T (not (tablesFit (length t) (length q)))) (m : Result A)
-    → (fits (others t q wrong) >> m) ≡ refused 1
-fits-others t q wrong m = require-refused 1 m (isFalse (tablesFit (length t) (length q)) wrong)
+module _ (l : Lent) (saved : SavedRun) (wrong : T (not (lengthsFit l))) where
+  fits-others : {A : Type 0} (m : Result A) → (fits (others l saved wrong) >> m) ≡ refused 1
+  fits-others m = require-refused 1 m (isFalse (lengthsFit l) wrong)
 
-module _ (terms schema script : List ℕ) (c : Checked) (loads : check terms schema script ≡ passed c)
+  -- a call that is lent a table of another length tests nothing else
+  run-one : (budget : ℕ) (now : ℤ) → runTests l saved budget now ≡ refused 1
+  unfolding runTests
+  run-one budget now = require-refused 1 _ (isFalse (lengthsFit l) wrong)
+
+  page-one : (g : ℕ) (page : List ℕ) → pageTests l saved g page ≡ refused 1
+  unfolding pageTests
+  page-one g page = require-refused 1 _ (isFalse (lengthsFit l) wrong)
+
+module _ (l : Lent) (c : Checked) (loads : check (l .terms) (l .schema) (l .script) ≡ passed c)
     (s : State) (sound : Sound c s) (valid : ValidIn s) where
   abbrev kept : Kept
   kept = keptOf c s
 
-  fit : T (lengthsFit (lentWith terms schema script s))
-  fit = lengths-again terms schema script c loads s sound valid
+  abbrev lent : Lent
+  lent = lentTo l asLeft kept
 
-  found : soundIn (lentWith terms schema script s) (kept .saved) ≡ some (record { checked = c; state = s })
-  found = sound-again terms schema script c loads s sound valid
+  fit : T (lengthsFit lent)
+  fit = lengths-again (l .terms) (l .schema) (l .script) c loads s sound valid
 
-  abbrev lent : Tables → Lent
-  lent t = lentTo terms schema script t kept
+  found : soundIn lent (kept .saved) ≡ some (record { checked = c; state = s })
+  found = sound-again (l .terms) (l .schema) (l .script) c loads s sound valid
 
   -- ── a run ─────────────────────────────────────────────────────────────────────────────────
 
@@ -69,36 +80,33 @@ module _ (terms schema script : List ℕ) (c : Checked) (loads : check terms sch
     running o = record { checked = c; state = s; run = o }
 
     -- refusal 1 is tested on the lengths, refusal 10 does not come, and 11 is the machine's
-    run-tests : (t : Tables) → runTests (lent t) (kept .saved) budget now ≡ ((fits t >> runIn c budget now s) >>= λ o. passed (running o))
+    run-tests : runTests lent (kept .saved) budget now ≡ ((fits asLeft >> runIn c budget now s) >>= λ o. passed (running o))
     unfolding runTests
-    run-tests asLeft =
+    run-tests =
         let rest : Calls.Sound → Result Running = λ x.
         runIn (x .checked) budget now (x .state) >>= λ o. passed (record { checked = x .checked; state = x .state; run = o }) in
-        require-after 1 (lengthsFit (lent asLeft)) (given 10 (soundIn (lent asLeft) (kept .saved)) >>= rest) fit
+        require-after 1 (lengthsFit lent) (given 10 (soundIn lent (kept .saved)) >>= rest) fit
         ∙ given-bind 10 rest found
         ∙ sym (ap (λ m. m >>= λ o. passed (running o)) (fits-as-left (runIn c budget now s)))
-    run-tests (others t q wrong) =
-        unfold _>>=_ in
-        rw (fits-others t q wrong (runIn c budget now s)) (require-refused 1 _ (isFalse (tablesFit (length t) (length q)) wrong))
 
     -- what the host makes of it
     abbrev handed : Ran → Handed
-    handed r = record { answer = ran (r .answer); kept = record { saved = r .saved; termTable = kept .termTable; quadTable = kept .quadTable } }
+    handed r = record { answer = ran (r .answer); left = record { saved = r .saved; termTable = kept .termTable; quadTable = kept .quadTable } }
 
     -- a run keeps the store, and so the tables
     run-handed : (m : Result (Outcome Run)) → ((r : Run) → m ≡ passed (ok r) → lastOf s (r .passed) .store ≡ s .store) → (d : Done) → runDone m ≡ ok d
-        → Outcomes._>>=_ (runResult (kept .saved) (m >>= λ o. passed (running o))) (λ r. ok (handed r)) ≡ ok (handedOf c s d)
+        → Outcomes._>>=_ (runResult (kept .saved) (m >>= λ o. passed (running o))) (λ r. ok (handed r)) ≡ ok (handedOf c asLeft s d)
     unfolding runDone runResult ranOf _>>=_ Outcomes._>>=_
-    run-handed (refused n) same d e = ap (λ (d : Done). ok (handedOf c s d)) (ok-is e)
+    run-handed (refused n) same d e = ap (λ (d : Done). ok (handedOf c asLeft s d)) (ok-is e)
     run-handed (passed (fault x)) same d e = absurd (let z : _≡_ {A = ℕ} 0 1 = cc in omega arith)
     run-handed (passed (ok r)) same d e =
         let after = lastOf s (r .passed) in
         let tables : (σ : Store) → Kept = λ σ.
         record { saved = savedOf (reported c) after; termTable = termTable (σ .terms); quadTable = quadTable (σ .quads) } in
-        ap (λ (σ : Store). ok (record { answer = ran (ranOf c s r .answer); kept = tables σ })) (sym (same r refl))
-        ∙ ap (λ (d : Done). ok (handedOf c s d)) (ok-is e)
+        ap (λ (σ : Store). ok (record { answer = ran (ranOf c s r .answer); left = tables σ })) (sym (same r refl))
+        ∙ ap (λ (d : Done). ok (handedOf c asLeft s d)) (ok-is e)
 
-    store-same : (t : Tables) (r : Run) → (fits t >> runIn c budget now s) ≡ passed (ok r) → lastOf s (r .passed) .store ≡ s .store
+    store-same : (t : Lending) (r : Run) → (fits t >> runIn c budget now s) ≡ passed (ok r) → lastOf s (r .passed) .store ≡ s .store
     unfolding runIn
     store-same t r e =
         let i₁ = require-after-inv 1 (tablesFit (termBytes t) (quadBytes t)) (runIn c budget now s) e in
@@ -106,12 +114,16 @@ module _ (terms schema script : List ℕ) (c : Checked) (loads : check terms sch
         let i₁₁ = require-after-inv 11 (leb budget budgetLimit && isDateTime now) (passed machine) (i₁ .1) in
         last-all (λ x. x .store ≡ s .store) s (r .passed) refl (run-keeps (c .schema) (typeAt (c .types)) now budget s r (passed-is (i₁₁ .1)))
 
-    run-call : (t : Tables) (d : Done) → machineCall c (fed (HostCall.running t budget now)) s ≡ ok d
-        → engineCall terms schema script (HostCall.running t budget now) kept ≡ ok (handedOf c s d)
+    run-call : (t : Lending) (d : Done) → machineCall c (fed (HostCall.running t budget now)) s ≡ ok d
+        → engineCall l (HostCall.running t budget now) kept ≡ ok (handedOf c t s d)
     unfolding machineCall engineCall runCall
-    run-call t d e =
-        ap (λ m. Outcomes._>>=_ (runResult (kept .saved) m) (λ r. ok (handed r))) (run-tests t)
-        ∙ run-handed (fits t >> runIn c budget now s) (store-same t) d e
+    run-call asLeft d e =
+        ap (λ m. Outcomes._>>=_ (runResult (kept .saved) m) (λ r. ok (handed r))) run-tests
+        ∙ run-handed (fits asLeft >> runIn c budget now s) (store-same asLeft) d e
+    run-call (others x saved wrong) d e =
+        unfold runResult runDone Outcomes._>>=_ in
+        let one = rw (fits-others x saved wrong (runIn c budget now s)) at e in
+        rw (run-one x saved wrong budget now) (ap (λ (d : Done). ok (handedOf c (others x saved wrong) s d)) (ok-is one))
 
     run-store : (m : Result (Outcome Run)) → ((r : Run) → m ≡ passed (ok r) → lastOf s (r .passed) .store ≡ s .store) → (d : Done) → runDone m ≡ ok d
         → lastOf s (d .passed) .store ≡ s .store
@@ -120,7 +132,7 @@ module _ (terms schema script : List ℕ) (c : Checked) (loads : check terms sch
     run-store (passed (fault x)) same d e = absurd (let z : _≡_ {A = ℕ} 0 1 = cc in omega arith)
     run-store (passed (ok r)) same d e = subst (λ (d : Done). lastOf s (d .passed) .store ≡ s .store) (ok-is e) (same r refl)
 
-    run-valid : (t : Tables) (d : Done) → machineCall c (fed (HostCall.running t budget now)) s ≡ ok d → ValidIn (lastOf s (d .passed))
+    run-valid : (t : Lending) (d : Done) → machineCall c (fed (HostCall.running t budget now)) s ≡ ok d → ValidIn (lastOf s (d .passed))
     unfolding machineCall
     run-valid t d e = subst (λ (σ : Store). All Valid (σ .terms)) (sym (run-store (fits t >> runIn c budget now s) (store-same t) d e)) valid
 
@@ -131,53 +143,40 @@ module _ (terms schema script : List ℕ) (c : Checked) (loads : check terms sch
     taking k = record { checked = c; taken = k }
 
     -- refusal 1 is tested on the lengths, refusal 10 does not come, and 12 to 14 are the machine's
-    page-tests : (t : Tables) → pageTests (lent t) (kept .saved) g page ≡ ((fits t >> takeIn c g page s) >>= λ k. passed (taking k))
+    page-tests : pageTests lent (kept .saved) g page ≡ ((fits asLeft >> takeIn c g page s) >>= λ k. passed (taking k))
     unfolding pageTests
-    page-tests asLeft =
+    page-tests =
         let rest : Calls.Sound → Result Taking = λ x.
         takeIn (x .checked) g page (x .state) >>= λ k. passed (record { checked = x .checked; taken = k }) in
-        require-after 1 (lengthsFit (lent asLeft)) (given 10 (soundIn (lent asLeft) (kept .saved)) >>= rest) fit
+        require-after 1 (lengthsFit lent) (given 10 (soundIn lent (kept .saved)) >>= rest) fit
         ∙ given-bind 10 rest found
         ∙ sym (ap (λ m. m >>= λ k. passed (taking k)) (fits-as-left (takeIn c g page s)))
-    page-tests (others t q wrong) =
-        unfold _>>=_ in
-        rw (fits-others t q wrong (takeIn c g page s)) (require-refused 1 _ (isFalse (tablesFit (length t) (length q)) wrong))
 
-    -- what the host makes of it, with its own tables or with others
-    abbrev pageHanded : Tables → PageResult → Handed
-    pageHanded asLeft r =
+    -- what the host makes of it
+    abbrev pageHanded : PageResult → Handed
+    pageHanded r =
         record {
           answer = paged (r .returned .answer);
-          kept = record { saved = r .returned .saved; termTable = r .termTable; quadTable = r .quadTable };
-        }
-    pageHanded (others t q wrong) r =
-        record {
-          answer = paged (r .returned .answer);
-          kept = record { saved = r .returned .saved; termTable = kept .termTable; quadTable = kept .quadTable };
+          left = record { saved = r .returned .saved; termTable = r .termTable; quadTable = r .quadTable };
         }
 
-    own-tables : (m : Result PageTaken)
-        → pageHanded asLeft (pageResult (lent asLeft) (kept .saved) (m >>= λ k. passed (taking k))) ≡ handedOf c s (pageDone m)
+    page-handed : (m : Result PageTaken) → pageHanded (pageResult lent (kept .saved) (m >>= λ k. passed (taking k))) ≡ handedOf c asLeft s (pageDone m)
     unfolding pageResult pageDone _>>=_
-    own-tables (refused n) = refl
-    own-tables (passed k) = refl
+    page-handed (refused n) = refl
+    page-handed (passed k) = refl
 
-    page-handed : (t : Tables) → pageHanded t (pageCall (lent t) (kept .saved) g page) ≡ handedOf c s (pageDone (fits t >> takeIn c g page s))
-    unfolding pageCall
-    page-handed asLeft =
-        ap (λ m. pageHanded asLeft (pageResult (lent asLeft) (kept .saved) m)) (page-tests asLeft)
-        ∙ own-tables (fits asLeft >> takeIn c g page s)
-    page-handed (others t q wrong) =
-        unfold pageResult pageDone _>>=_ in
-        rw (page-tests (others t q wrong), fits-others t q wrong (takeIn c g page s)) refl
+    page-call : (t : Lending) (d : Done) → machineCall c (fed (HostCall.paging t g page)) s ≡ ok d
+        → engineCall l (HostCall.paging t g page) kept ≡ ok (handedOf c t s d)
+    unfolding machineCall engineCall pageCall
+    page-call asLeft d e =
+        ap (λ m. ok (pageHanded (pageResult lent (kept .saved) m))) page-tests
+        ∙ ap ok (page-handed (fits asLeft >> takeIn c g page s) ∙ ap (handedOf c asLeft s) (ok-is e))
+    page-call (others x saved wrong) d e =
+        unfold pageResult pageDone in
+        let one = rw (fits-others x saved wrong (takeIn c g page s)) at e in
+        rw (page-one x saved wrong g page) (ap (λ (d : Done). ok (handedOf c (others x saved wrong) s d)) (ok-is one))
 
-    page-call : (t : Tables) (d : Done) → machineCall c (fed (HostCall.paging t g page)) s ≡ ok d
-        → engineCall terms schema script (HostCall.paging t g page) kept ≡ ok (handedOf c s d)
-    unfolding machineCall engineCall
-    page-call asLeft d e = ap ok (page-handed asLeft ∙ ap (handedOf c s) (ok-is e))
-    page-call (others t q wrong) d e = ap ok (page-handed (others t q wrong) ∙ ap (handedOf c s) (ok-is e))
-
-    page-valid : (t : Tables) (d : Done) → machineCall c (fed (HostCall.paging t g page)) s ≡ ok d → ValidIn (lastOf s (d .passed))
+    page-valid : (t : Lending) (d : Done) → machineCall c (fed (HostCall.paging t g page)) s ≡ ok d → ValidIn (lastOf s (d .passed))
     unfolding machineCall pageDone
     page-valid t d e = subst (λ (d : Done). ValidIn (lastOf s (d .passed))) (ok-is e) (go (fits t >> takeIn c g page s) refl)
       where
@@ -188,7 +187,7 @@ module _ (terms schema script : List ℕ) (c : Checked) (loads : check terms sch
 
   -- ── any call ──────────────────────────────────────────────────────────────────────────────
 
-  pub engine-call : (x : HostCall) (d : Done) → machineCall c (fed x) s ≡ ok d → engineCall terms schema script x kept ≡ ok (handedOf c s d)
+  pub engine-call : (x : HostCall) (d : Done) → machineCall c (fed x) s ≡ ok d → engineCall l x kept ≡ ok (handedOf c (lending x) s d)
   engine-call (HostCall.running t budget now) d e = run-call budget now t d e
   engine-call (HostCall.paging t g page) d e = page-call g page t d e
 

@@ -1,5 +1,4 @@
--- Demand 1 at the C interface, where the saved run and the report are lent as bytes too and count as lent tables: the same tables of rules, and on a
--- refusal every lent buffer keeps its bytes.
+-- Demand 1 at the C interface, proved.
 use Prim.Native.Nat.{ℕ, zero, suc}
 use mathlib.Core.Path.{_≡_, refl, sym, _∙_}
 use mathlib.Core.List.{List}
@@ -10,9 +9,10 @@ use lib.ListN.{length}
 use lib.IntN.{ℤ}
 use Rattle.definitions.specs.Bytes.{onward}
 use Rattle.definitions.specs.Outcome.{ok, _>>=_}
-use Rattle.definitions.specs.Calls.{Lent, lengthsFit, load, Sound, soundIn, pageCall}
+use Rattle.definitions.specs.Calls.{Lent, lengthsFit, load, soundIn, pageCall}
 use Rattle.definitions.specs.Numbers.{loadNumber, runNumber, pageNumber}
-use Rattle.definitions.specs.Exports.{savedWidth, savedFrom, runReportWidth, runReport, pageReportWidth, pageReport, savedAfter}
+use Rattle.definitions.specs.Limits.{savedWidth, runReportWidth, pageReportWidth}
+use Rattle.definitions.specs.Exports.{savedFrom, runReport, pageReport, savedAfter}
 use Rattle.definitions.specs.Exports.{loadExport, RunExport, runOn, runExport, pageOn, pageExport, ranExport}
 use Rattle.definitions.specs.declared.SavedRun.{SavedRun}
 use Rattle.definitions.specs.declared.RunAnswer.{RunAnswer}
@@ -20,47 +20,9 @@ use Rattle.definitions.specs.declared.PageAnswer.{PageAnswer}
 use Rattle.definitions.specs.declared.RunAnswer.the-variants as RunAnswers
 use Rattle.definitions.specs.declared.PageAnswer.the-variants as PageAnswers
 use Rattle.laws.proofs.Tests.{andLeft, isTrue, trueIs}
-use Rattle.theorems.proofs.Demand1.{firstBroken, isThere, loadRules, runRules, pageRules, demand-1}
-
--- ── the statement ───────────────────────────────────────────────────────────────────────────
-
--- bytes that no saved run has are unsound
-abbrev pub soundBytes : Lent → (saved : List ℕ) → Option Sound
-soundBytes l saved = onward (savedFrom saved) (soundIn l)
-
--- tables, saved run and report have their lengths
-abbrev pub buffersFit : Lent → (saved report : List ℕ) → (reportWidth : ℕ) → Bool
-buffersFit l saved report width = lengthsFit l && (eqb (length saved) savedWidth && eqb (length report) width)
-
-abbrev pub loadBroken : Lent → (saved : List ℕ) → ℕ
-loadBroken l saved = firstBroken (loadRules (lengthsFit l && eqb (length saved) savedWidth) l)
-
-abbrev pub runBroken : Lent → (saved : List ℕ) → (budget : ℕ) → (now : ℤ) → (report : List ℕ) → ℕ
-runBroken l saved budget now report = firstBroken (runRules (buffersFit l saved report runReportWidth) (soundBytes l saved) budget now)
-
-abbrev pub pageBroken : Lent → (saved : List ℕ) → (graph : ℕ) → (page report : List ℕ) → ℕ
-pageBroken l saved g page report = firstBroken (pageRules (buffersFit l saved report pageReportWidth) (soundBytes l saved) g page)
-
-pub record LoadRefuses (l : Lent) (saved : List ℕ) : Type 0 where
-  pub number : loadExport l saved .number ≡ loadBroken l saved
-  pub keeps : (loadBroken l saved ≡ 0 → ⊥) → let r = loadExport l saved in
-      (r .termTable ≡ l .termTable) × (r .quadTable ≡ l .quadTable) × (r .saved ≡ saved)
-
-pub record RunRefuses (l : Lent) (saved : List ℕ) (budget : ℕ) (now : ℤ) (report : List ℕ) : Type 0 where
-  pub ran : RunExport
-  pub given : runExport l saved budget now report ≡ ok ran
-  pub number : ran .number ≡ runBroken l saved budget now report
-  pub keeps : (runBroken l saved budget now report ≡ 0 → ⊥) → (ran .saved ≡ saved) × (ran .report ≡ report)
-
-pub record PageRefuses (l : Lent) (saved : List ℕ) (graph : ℕ) (page report : List ℕ) : Type 0 where
-  pub number : pageExport l saved graph page report .number ≡ pageBroken l saved graph page report
-  pub keeps : (pageBroken l saved graph page report ≡ 0 → ⊥) → let r = pageExport l saved graph page report in
-      (r .termTable ≡ l .termTable) × (r .quadTable ≡ l .quadTable) × (r .saved ≡ saved) × (r .report ≡ report)
-
-pub record ExportRefusals : Type 0 where
-  pub load : (l : Lent) (saved : List ℕ) → LoadRefuses l saved
-  pub run : (l : Lent) (saved : List ℕ) (budget : ℕ) (now : ℤ) (report : List ℕ) → RunRefuses l saved budget now report
-  pub page : (l : Lent) (saved : List ℕ) (graph : ℕ) (page report : List ℕ) → PageRefuses l saved graph page report
+use Rattle.theorems.specs.Demand1.{firstBroken, isThere, loadRules, runRules, pageRules}
+use Rattle.theorems.proofs.Demand1.{demand-1}
+use Rattle.theorems.specs.ExportRefusals.{buffersFit, loadBroken, LoadRefuses, RunRefuses, PageRefuses, ExportRefusals}
 
 -- ── the proof ───────────────────────────────────────────────────────────────────────────────
 
@@ -77,12 +39,12 @@ saved-kept : (n : ℕ) (r : SavedRun) (lent : List ℕ) → (n ≡ 0 → ⊥) �
 saved-kept zero r lent h = absurd (h refl)
 saved-kept (suc n) r lent h = refl
 
-run-report-kept : (report : List ℕ) (a : RunAnswer) → (runNumber a ≡ 0 → ⊥) → runReport report a ≡ report
+pub run-report-kept : (report : List ℕ) (a : RunAnswer) → (runNumber a ≡ 0 → ⊥) → runReport report a ≡ report
 unfolding runReport
 run-report-kept report (RunAnswers.Ran steps state) h = absurd (h refl)
 run-report-kept report (RunAnswers.Refused n) h = refl
 
-page-report-kept : (report : List ℕ) (a : PageAnswer) → (pageNumber a ≡ 0 → ⊥) → pageReport report a ≡ report
+pub page-report-kept : (report : List ℕ) (a : PageAnswer) → (pageNumber a ≡ 0 → ⊥) → pageReport report a ≡ report
 unfolding pageReport
 page-report-kept report (PageAnswers.Taken skipped) h = absurd (h refl)
 page-report-kept report (PageAnswers.Refused n) h = refl

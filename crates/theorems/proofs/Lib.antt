@@ -5,12 +5,13 @@ pub mod Safety
 pub mod PageTaken
 pub mod NotVacuous
 pub mod CallsPassed
-pub mod Engine
 pub mod EngineSound
 pub mod StillHeld
 pub mod Demand1
 pub mod ExportRefusals
 pub mod Demand2
 pub mod Demand3
-pub mod Demands
+pub mod RoundTrip
+pub mod SavedFits
+pub mod OnBytes
 pub mod DemandsApply

@@ -24,7 +24,8 @@ use Rattle.laws.proofs.Tests.{trueIs}
 use Rattle.definitions.proofs.Opened.{opened}
 use Rattle.definitions.proofs.Season.{uri, number}
 use Rattle.theorems.proofs.Safety.{Safe, safety-from-load}
-use Rattle.theorems.proofs.StepBound.{size, noEach, stepsOf, few-steps}
+use Rattle.theorems.specs.StepCounts.{size, noEach, stepsOf}
+use Rattle.theorems.proofs.StepBound.{few-steps}
 
 -- ── terms, schema and page ──────────────────────────────────────────────────────────────────
 

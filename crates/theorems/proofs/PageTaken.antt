@@ -2,7 +2,7 @@
 use Prim.Native.Nat.{ℕ, zero, _+_}
 use native.Mathlib.Omega.{arith}
 use mathlib.Core.Path.{_≡_, refl, sym, ap, _∙_, subst, subst⁻¹}
-use mathlib.Core.Logic.{_⊎_, ⊎-elim, _↔_}
+use mathlib.Core.Logic.{⊎-elim}
 use mathlib.Core.List.{List, [], _∷_, _++_, List·Memᴰ·not-nil, List·Memᴰ·cases-cons}
 use mathlib.Core.Bool.{Bool, true, false, cond, not, _||_}
 use mathlib.Core.Option.{some, Option·some-injective}
@@ -16,47 +16,19 @@ use Rattle.definitions.specs.Machine.{State, Taken, skip, withQuad, store, well
 use Rattle.definitions.specs.Result.{passed}
 use Rattle.definitions.specs.Calls.{Checked, pageIn, PageTaken, pageTaken, takeIn}
 use Rattle.laws.proofs.Tests.{isFalse, trueIs, falseIs, notBoth, by-test}
-use Rattle.laws.proofs.All.{All, kept, all-weaken, all-at}
-use Rattle.laws.proofs.Lists.{_∈_}
-use Rattle.laws.proofs.Same.{same-quad, quad-refl}
-use Rattle.laws.proofs.Bindings.{Extends}
-use Rattle.laws.proofs.Numbers.{number-unique}
-use Rattle.laws.proofs.Taking.{Names, names-more, stored-one, with-quad-all, stored-now, stored-still, joined-has, joined-keeps, joined-cases, take-one, take-all}
+use Rattle.laws.specs.Lists.{All}
+use Rattle.laws.proofs.All.{kept, all-weaken, all-at}
+use Rattle.laws.specs.Lists.{_∈_}
+use Rattle.laws.proofs.Equality.{same-quad, quad-refl}
+use Rattle.laws.specs.Bindings.{Extends}
+use Rattle.laws.proofs.TermNumbers.{number-unique}
+use Rattle.laws.specs.Quads.{Names}
+use Rattle.laws.proofs.Taking.{names-more, stored-one, with-quad-all, stored-now, stored-still, joined-has, joined-keeps, joined-cases, take-one, take-all}
 use Rattle.laws.proofs.PageCheck.{page-passed}
-use Rattle.laws.proofs.Sound.{Accepted, Sound}
+use Rattle.laws.specs.Sound.{Accepted, Sound}
 use Rattle.laws.proofs.SoundMeans.{Facts, facts}
 use Rattle.safety.proofs.PageSound.{page-sound}
-
--- ── the claim ───────────────────────────────────────────────────────────────────────────────
-
--- a quad is a well typed triple of a page, by the numbers of its terms
-pub record FromPage (S : Schema) (page : List Triple) (terms : List Term) (q : Quad) : Type 0 where
-  pub triple : Triple
-  pub inPage : triple ∈ page
-  pub typed : T (wellTyped S triple)
-  pub names : Names terms q triple
-
-abbrev pub notOf : ℕ → Quad → Bool
-notOf g q = not (ofGraph g q)
-
--- what the page of a graph leaves behind
-pub record PageLeaves (S : Schema) (g : ℕ) (page : List Triple) (s : State) (k : PageTaken) : Type 0 where
-  -- terms keep their numbers, and none has two
-  pub numbers : Extends (s .store .terms) (k .state .store .terms)
-  pub termsApart : T (distinct sameTerm (k .state .store .terms))
-  -- the graph's quads are the page's well typed triples
-  pub graph : (q : Quad) → q .graph ≡ g → T (stored q (k .state .store .quads)) ↔ FromPage S page (k .state .store .terms) q
-  -- the quads of other graphs stay, in their order
-  pub others : keep (notOf g) (k .state .store .quads) ≡ keep (notOf g) (s .store .quads)
-  pub elsewhere : (q : Quad) → (q .graph ≡ g → ⊥) → stored q (k .state .store .quads) ≡ stored q (s .store .quads)
-  -- no quad stands twice
-  pub quadsApart : T (distinct sameQuad (k .state .store .quads))
-  -- the count of those that are not well typed
-  pub skipped : k .skipped ≡ length (keep (λ r. not (wellTyped S r)) page)
-  -- the graph is fetched, and so are those that were
-  pub fetched : (x : ℕ) → T (isIn x (k .state .store .fetched)) ↔ ((x ≡ g) ⊎ T (isIn x (s .store .fetched)))
-  -- the stack and the bindings stay
-  pub control : k .state .control ≡ s .control
+use Rattle.theorems.specs.PageLeaves.{FromPage, notOf, PageLeaves}
 
 -- ── quads ───────────────────────────────────────────────────────────────────────────────────
 

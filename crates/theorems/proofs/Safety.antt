@@ -1,56 +1,76 @@
 -- Type safety (demand 3): over any list of calls the untyped machine meets no fault, and every state that a call passes is sound.
-use Prim.Native.Nat.{ℕ, _≤_}
+use Prim.Native.Nat.{ℕ, _≤_, _<_}
 use native.Mathlib.Omega.{arith}
-use mathlib.Core.Path.{_≡_, refl, _∙_}
+use mathlib.Core.Path.{_≡_, refl, sym, ap, fun-ext, _∙_}
+use mathlib.Core.Logic.{⊎-elim}
 use mathlib.Core.List.{List, [], _∷_}
 use mathlib.Core.Bool.{_&&_}
 use mathlib.Core.Option.{some, Option·none-ne-some}
-use lib.Dec.{T, leb, le→leb}
-use lib.ListN.{length}
+use lib.Dec.{leb, le→leb}
+use lib.ListN.{length, getD, List·getD-eq-default}
 use lib.IntN.{ℤ}
 use Rattle.definitions.specs.Limits.{termLimit, quadLimit, graphLimit, budgetLimit, scriptLimit}
 use Rattle.definitions.specs.Terms.{isDateTime}
-use Rattle.definitions.specs.Scope.{isFree}
-use Rattle.definitions.specs.Typing.{typeAt, scriptTyped}
+use Rattle.definitions.specs.Types.{Datatype, Ty, plain, typeOfCode}
+use Rattle.definitions.specs.Typing.{Written, unbound, undecided, fixed, writtenTypes, typeAt}
 use Rattle.definitions.specs.Outcome.{Outcome, ok}
-use Rattle.definitions.specs.Evaluate.{Quad, sameQuad, stored}
+use Rattle.definitions.specs.Evaluate.{sameQuad, stored}
 use Rattle.definitions.specs.Machine.{Item, State, Run, lastOf, loaded, inLimits}
-use Rattle.definitions.specs.Saved.{placeIn, offsetOf}
 use Rattle.definitions.specs.Result.{Result, refused, passed}
-use Rattle.definitions.specs.Calls.{Checked, check, constantsOf, tablesFit, runIn, PageTaken, takeIn}
+use Rattle.definitions.specs.Calls as Calls
+use Rattle.definitions.specs.Calls.{Checked, check, constantsOf, reported, tablesFit, runIn, PageTaken, takeIn}
 use Rattle.definitions.specs.CallList.{Call, running, paging, ran, Done, runDone, pageDone, machineCall, machineCalls}
 use Rattle.definitions.specs.declared.RunState.{RunState}
 use Rattle.definitions.specs.declared.RunState.the-variants.{Spent}
 use Rattle.definitions.specs.declared.RunAnswer.the-variants as RunAnswers
-use Rattle.laws.proofs.All.{All, all-weaken, all-conj, all-at}
-use Rattle.laws.proofs.Same.{same-quad, quad-refl}
-use Rattle.laws.proofs.Fine.{Fine, fine, fine-then, fine-ok}
-use Rattle.laws.proofs.Bindings.{Holds, Bound}
+use Rattle.laws.specs.Lists.{All}
+use Rattle.laws.proofs.All.{all-weaken, all-conj, all-at}
+use Rattle.laws.proofs.Equality.{same-quad, quad-refl}
+use Rattle.laws.specs.Outcomes.{Fine, fine}
+use Rattle.laws.proofs.NoFault.{fine-then, fine-ok}
 use Rattle.laws.proofs.Results.{not-refused}
 use Rattle.laws.proofs.Refusing.{by-require}
-use Rattle.laws.proofs.Check.{check-accepted}
+use Rattle.laws.specs.Typings.{Allowed}
+use Rattle.laws.proofs.Order.{type-of-code}
+use Rattle.laws.proofs.Ranges.{split}
+use Rattle.laws.proofs.Typings.{fits-length, fits-at}
+use Rattle.laws.proofs.Check.{check-accepted, reported-length, variable-count}
+use Rattle.laws.proofs.Reported.{reported-at, type-reported}
 use Rattle.laws.proofs.Places.{atRoot, place-found, typed-at}
-use Rattle.laws.proofs.Sound.{Accepted, Sound}
-use Rattle.laws.proofs.SoundMeans.{QuadFacts, StackFacts, facts, sound, no-last}
+use Rattle.laws.specs.Sound.{Accepted, Sound}
+use Rattle.laws.specs.Quads.{QuadFacts}
+use Rattle.laws.proofs.SoundMeans.{StackFacts, BindingFacts, facts, sound, no-last}
 use Rattle.safety.proofs.RunSound.{RunSound, run-sound, last-sound}
 use Rattle.safety.proofs.PageSound.{page-sound}
+use Rattle.theorems.specs.WellTyped.{typeOr, reportedType, VariableTyped, ItemTyped, WellTyped}
 
 -- ── what a sound state is, in demand 3's words ──────────────────────────────────────────────
 
--- a record of the script, well typed under the reported types, its free variables bound
-pub record ItemTyped (c : Checked) (s : State) (i : Item) : Type 0 where
-  pub depth : ℕ
-  pub place : placeIn (c .root) (offsetOf (i .script)) ≡ some (record { depth = depth; script = i .script })
-  pub typed : T (scriptTyped (constantsOf (c .schema) (c .terms)) (typeAt (c .types)) (i .script))
-  pub bound : (v : ℕ) → T (isFree v (i .script)) → Bound (s .control .bindings) v
+-- the reported types are those worked out
+code-type : (w : Written) (τ : Ty) → Allowed w τ → typeOr (typeOfCode (Calls.reportedType w τ)) ≡ τ
+code-type unbound τ e = sym e
+code-type undecided τ e = ap typeOr (type-of-code τ)
+code-type (fixed σ) τ e = ap typeOr (type-of-code τ)
 
-pub record WellTyped (c : Checked) (s : State) : Type 0 where
-  -- each bound variable holds a term of its reported type
-  pub variables : (v i : ℕ) → s .control .bindings v ≡ some i → Holds (c .schema) (s .store .terms) i (typeAt (c .types) v)
-  -- each stored triple has a property in the schema and an object of its datatype
-  pub triples : (q : Quad) → T (stored q (s .store .quads)) → QuadFacts (c .schema) (s .store .terms) (s .store .fetched) q
-  -- each stack item keeps the typing rules
-  pub items : All (ItemTyped c s) (s .control .stack)
+reported-types : (c : Checked) → Accepted c → reportedType c ≡ typeAt (c .types)
+reported-types c accepted = fun-ext go
+  where
+    ws : List Written
+    ws = writtenTypes (c .root)
+
+    n : length (c .types) ≡ length ws
+    n = fits-length ws (c .types) (accepted .written)
+
+    go : (v : ℕ) → reportedType c v ≡ typeAt (c .types) v
+    go v =
+        ⊎-elim
+        (λ (h : length ws ≤ v).
+        ap (λ (k : ℕ). typeOr (typeOfCode k)) (List·getD-eq-default (reported c) 0 (omega (arith, reported-length ws (c .types) n)))
+        ∙ sym (List·getD-eq-default (c .types) (plain Datatype.anyURI) (omega (arith, n))))
+        (λ (h : v < length ws).
+        ap (λ (k : ℕ). typeOr (typeOfCode k)) (reported-at ws (c .types) v n h)
+        ∙ code-type (getD ws v unbound) (typeAt (c .types) v) (fits-at ws (c .types) (accepted .written) v))
+        (split (length ws) v)
 
 module _ (c : Checked) (accepted : Accepted c) where
   items-typed : (s : State) (stack : List Item) → StackFacts (c .root) (length (s .store .terms)) (s .control .bindings) stack → All (ItemTyped c s) stack
@@ -60,18 +80,29 @@ module _ (c : Checked) (accepted : Accepted c) where
         record {
           depth = k .depth;
           place = place-found 0 scriptLimit (accepted .placed) (k .inRoot);
-          typed = typed-at (k .inRoot) (constantsOf (c .schema) (c .terms)) (typeAt (c .types)) (accepted .typed);
+          typed = rw (reported-types c accepted)
+              (typed-at (k .inRoot) (constantsOf (c .schema) (c .terms)) (typeAt (c .types)) (accepted .typed));
           bound = k .bound;
         },
         items-typed s rest (h .1),
       )
+
+  variable-typed : (s : State) (v i : ℕ) → BindingFacts (c .schema) (typeAt (c .types)) (s .store .terms) (c .root) v i → VariableTyped c s v i
+  variable-typed s v i b =
+      let τ : reportedType c v ≡ typeAt (c .types) v = ap (λ (f : ℕ → Ty). f v) (reported-types c accepted) in
+      let n = fits-length (writtenTypes (c .root)) (c .types) (accepted .written) ∙ variable-count (c .root) in
+      record {
+        binds = b .binds;
+        code = type-reported (c .root) (c .types) n v (b .below) (b .binds) ∙ ap some (sym τ);
+        holds = rw τ (b .holds);
+      }
 
   pub well-typed : (s : State) → Sound c s → WellTyped c s
   unfolding stored
   well-typed s h =
       let k = facts c accepted s h in
       record {
-        variables = λ v i e. k .bindings v i e .holds;
+        variables = λ v i e. variable-typed s v i (k .bindings v i e);
         triples = λ q m.
             all-at sameQuad same-quad quad-refl (QuadFacts (c .schema) (s .store .terms) (s .store .fetched)) q (s .store .quads) (k .quads) m;
         items = items-typed s (s .control .stack) (k .stack);

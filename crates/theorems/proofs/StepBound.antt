@@ -3,7 +3,7 @@ use Prim.Native.Nat.{ℕ, zero, suc, _+_, _≤_}
 use native.Mathlib.Omega.{arith}
 use mathlib.Core.Path.{_≡_, refl, ap}
 use mathlib.Core.List.{List, [], _∷_}
-use mathlib.Core.Bool.{Bool, true, false, not, _&&_}
+use mathlib.Core.Bool.{true, false, _&&_}
 use mathlib.Core.Option.{Option, none, some}
 use lib.Dec.{T, leb}
 use lib.ListN.{length}
@@ -20,40 +20,19 @@ use Rattle.definitions.specs.Search.{Typing, Tuple, answer}
 use Rattle.definitions.specs.Machine.{Item, State, fresh, withStack, Next, step, stand, enterNamed, enterOnce, act, nextOf, look, Run, still, preceded, goOn, run, lastOf, loaded}
 use Rattle.definitions.specs.Result.{Result, refused, passed}
 use Rattle.definitions.specs.Calls.{Checked, tablesFit, runIn, PageTaken, takeIn}
-use Rattle.definitions.specs.CallList.{Call, running, paging, Answer, ran, paged, Done, runDone, pageDone, machineCall, machineCalls}
+use Rattle.definitions.specs.CallList.{Call, running, paging, ran, Done, runDone, pageDone, machineCall, machineCalls}
 use Rattle.definitions.specs.declared.RunState.the-variants.{Wanted}
 use Rattle.definitions.specs.declared.RunAnswer.the-variants as RunAnswers
 use Rattle.laws.proofs.Tests.{andLeft, andRight, by-test}
-use Rattle.laws.proofs.Fine.{OrFault, holds, holds-then, holds-after, holds-and, holds-ok}
+use Rattle.laws.specs.Outcomes.{OrFault, holds}
+use Rattle.laws.proofs.NoFault.{holds-then, holds-after, holds-and, holds-ok}
 use Rattle.laws.proofs.Results.{not-refused}
 use Rattle.laws.proofs.Refusing.{by-require}
 use Rattle.laws.proofs.PageCheck.{page-passed}
-use Rattle.laws.proofs.Sound.{Placed, Accepted}
+use Rattle.laws.specs.Sound.{Placed, Accepted}
+use Rattle.theorems.specs.StepCounts.{size, noEach, stepsIn, stepsOf}
 
 -- ── the counts ──────────────────────────────────────────────────────────────────────────────
-
--- how many records of kinds 71 to 74 a script has
-unfoldable pub size : Script → ℕ
-size (success at) = 1
-size (fromNamed at n c) = suc (size c)
-size (block at each bs q c) = suc (size c)
-size (sequence at c d) = suc (size c + size d)
-
-unfoldable pub noEach : Script → Bool
-noEach (success at) = true
-noEach (fromNamed at n c) = noEach c
-noEach (block at each bs q c) = not each && noEach c
-noEach (sequence at c d) = noEach c && noEach d
-
--- the steps that an answer reports, and those of all answers
-unfoldable pub stepsIn : Answer → ℕ
-stepsIn (ran (RunAnswers.Ran steps r)) = steps
-stepsIn (ran (RunAnswers.Refused n)) = 0
-stepsIn (paged a) = 0
-
-unfoldable pub stepsOf : List Done → ℕ
-stepsOf [] = 0
-stepsOf (d ∷ ds) = stepsIn (d .answer) + stepsOf ds
 
 -- a record takes a byte at least
 size-fits : (lo hi : ℕ) (c : Script) → Placed lo hi c → lo + size c ≤ hi

@@ -15,9 +15,10 @@ use Rattle.definitions.specs.Saved.{termTable, quadTable, slotTerm, termsFrom, 
 use Rattle.definitions.specs.Calls.{Checked}
 use Rattle.definitions.specs.declared.SavedRun.{SavedRun}
 use Rattle.laws.proofs.Options.{some-is, onward-inv, provided-inv}
-use Rattle.laws.proofs.All.{All}
-use Rattle.laws.proofs.Sound.{Accepted, Sound}
-use Rattle.laws.proofs.Valid.{Valid, ValidIn, term-valid}
+use Rattle.laws.specs.Lists.{All}
+use Rattle.laws.specs.Sound.{Accepted, Sound}
+use Rattle.laws.specs.Valid.{Valid, ValidIn}
+use Rattle.laws.proofs.Valid.{term-valid}
 use Rattle.laws.proofs.Saved.{Holding, held-of, held-inv, held-again}
 
 -- ── terms ───────────────────────────────────────────────────────────────────────────────────

@@ -10,11 +10,12 @@ use Rattle.definitions.specs.Tree.{Script}
 use Rattle.definitions.specs.Reading.{parsed}
 use Rattle.definitions.specs.Typing.{verdict, writtenTypes}
 use Rattle.definitions.specs.Calls.{constantsOf}
-use Rattle.laws.proofs.Sorts.{least}
-use Rattle.typing.specs.declared.Answer.{Answer}
-use Rattle.typing.specs.Codes.{datatypeOf, typeOf, sortAbove, sortsIn}
-use Rattle.typing.specs.Answers.{answerOf}
-use Rattle.typing.proofs.CodeLaws.{type-back}
+use Rattle.laws.specs.Sorts.{least}
+use Rattle.facts.specs.declared.Answer.{Answer}
+use Rattle.codes.specs.TypeCodes.{datatypeOf, typeOf}
+use Rattle.facts.specs.Codes.{sortAbove, sortsIn}
+use Rattle.facts.specs.Answers.{answerOf}
+use Rattle.codes.proofs.CodeLaws.{type-back}
 
 uri-back : (o : Option Datatype) → sortAbove (least (Sort.uri o)) ≡ Sort.uri o
 unfolding least
@@ -41,18 +42,18 @@ module _ (S : Schema) where
   sort-at (t ∷ terms) zero = ap sortAbove (type-back (least (sortOf S t))) ∙ sort-back S t
   sort-at (t ∷ terms) (suc c) = sort-at terms c
 
-  module _ (terms : List Term) {sorts : List ℕ} (e : sorts ≡ map leastOf terms) where
-    pub sorts-are : sortsIn sorts ≡ constantsOf S terms
+  module _ (terms : List Term) {leasts : List ℕ} (e : leasts ≡ map leastOf terms) where
+    pub sorts-are : sortsIn leasts ≡ constantsOf S terms
     unfolding sortsIn constantsOf
     sorts-are = fun-ext (λ c. ap (λ (l : List ℕ). sortAbove (typeOf (getD l c 1))) e ∙ sort-at terms c)
 
-    pub sorts-many : length sorts ≡ length terms
-    sorts-many = ap length e ∙ length-map terms leastOf
+    pub leasts-many : length leasts ≡ length terms
+    leasts-many = ap length e ∙ length-map terms leastOf
 
     -- what `work_out` ensures, over the terms
     pub worked-out : (s : List ℕ) {r : Answer}
-        → ((root : Script) → parsed (length sorts) s ≡ some root → r ≡ answerOf (writtenTypes root) (verdict (sortsIn sorts) (writtenTypes root) root))
+        → ((root : Script) → parsed (length leasts) s ≡ some root → r ≡ answerOf (writtenTypes root) (verdict (sortsIn leasts) (writtenTypes root) root))
         → (root : Script) → parsed (length terms) s ≡ some root → r ≡ answerOf (writtenTypes root) (verdict (constantsOf S terms) (writtenTypes root) root)
     worked-out s h root p =
-        h root (ap (λ (n : ℕ). parsed n s) sorts-many ∙ p)
+        h root (ap (λ (n : ℕ). parsed n s) leasts-many ∙ p)
         ∙ ap (λ (constants : ℕ → Sort). answerOf (writtenTypes root) (verdict constants (writtenTypes root) root)) sorts-are

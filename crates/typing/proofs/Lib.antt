@@ -1,14 +1,4 @@
-pub mod Family
-pub mod Demands
-pub mod UnionFind
-pub mod Tables
-pub mod Noted
-pub mod Solve
-pub mod Infer
-pub mod CodeLaws
-pub mod TableLaws
-pub mod WalkLaws
-pub mod ReadOffLaws
+-- In this order: the written types that the pairs say, the answer at the root, and last the least types of a load's terms.
 pub mod PairLaws
 pub mod TyperLaws
 pub mod Constants

@@ -6,10 +6,10 @@ use mathlib.Core.List.{List, [], _∷_, _++_, map}
 use mathlib.Core.Bool.{Bool, true, false, not, _&&_}
 use mathlib.Core.Option.{Option, none, some}
 use lib.Dec.{eqb, ltb}
-use lib.ListN.{length, getD, set, replicate, length-set, getD-replicate, List·getD-map}
+use lib.ListN.{length, getD, set, replicate, length-set, getD-replicate}
 use lib.Seq.{ext-getD, getD-set-same, getD-set-other}
 use borrow.Author.Tests.{eq-eqb, ne-eqb, eqb-false}
-use Rattle.definitions.specs.Limits.{variableLimit}
+use Rattle.definitions.specs.Limits.{variableLimit, pairLimit, depthLimit, countOffset, pairsOffset}
 use Rattle.definitions.specs.Bytes.{byte, onward}
 use Rattle.definitions.specs.Types.{Ty, typeCode, typeOfCode, typeRows}
 use Rattle.definitions.specs.Tree.{Binder, Script}
@@ -20,17 +20,16 @@ use Rattle.laws.proofs.Tests.{isFalse}
 use Rattle.laws.proofs.Order.{byType}
 use Rattle.laws.proofs.Options.{some-not-none, some-is, same-some, provided-inv, onward-inv}
 use Rattle.laws.proofs.Reading.{row-keys}
-use Rattle.laws.proofs.Lists.{getD-inside}
 use Rattle.laws.proofs.Fields.{by-same}
-use Rattle.laws.proofs.Walked.{Walked}
-use Rattle.reader.specs.Fields.{isSome}
-use Rattle.reader.proofs.WholeLaws.{whole-of, of-root}
-use Rattle.typing.specs.Codes.{unboundCode, writtenAs, allWritten}
+use Rattle.laws.specs.Walks.{Walked}
+use Rattle.laws.specs.ReadAnswers.{isSome}
+use Rattle.scope.proofs.RootLaws.{whole-of, of-root}
+use Rattle.facts.specs.Codes.{unboundCode, writtenAs, allWritten}
 use Rattle.typing.specs.Pairs.{writtenCode, earlier, pairNoted, pairsNoted, bindersNoted}
-use Rattle.typing.proofs.CodeLaws.{type-back}
-use Rattle.typing.proofs.Infer.{variable-at}
-use Rattle.typing.proofs.WalkLaws.{written-here}
-use Rattle.typing.proofs.ReadOffLaws.{written-length}
+use Rattle.codes.proofs.CodeLaws.{type-back}
+use Rattle.laws.proofs.Variables.{at-variable}
+use Rattle.facts.proofs.WalkLaws.{written-here}
+use Rattle.facts.proofs.ReadOffLaws.{written-length}
 
 -- ── a pair, and the next ────────────────────────────────────────────────────────────────────
 
@@ -110,9 +109,9 @@ pub two-noted : (codes : List ℕ) (bs cs : List Binder) {between after : List �
     → after ≡ bindersNoted (bs ++ cs) codes
 two-noted codes bs cs e h = h ∙ ap (bindersNoted cs) e ∙ sym (noted-append bs cs codes)
 
-pub block-noted : (s : List ℕ) (at : ℕ) (bs : List Binder) → bindersAt 4 (byte s (at + 2)) s (at + 3) ≡ some bs → (codes : List ℕ) (cs : List Binder)
-    {between after : List ℕ} → between ≡ pairsNoted (byte s (at + 2)) s (at + 3) codes → after ≡ bindersNoted cs between → after ≡ bindersNoted (bs ++ cs) codes
-block-noted s at bs read codes cs e h = two-noted codes bs cs (e ∙ pairs-noted 4 (byte s (at + 2)) s (at + 3) bs codes read) h
+pub block-noted : (s : List ℕ) (at : ℕ) (bs : List Binder) → bindersAt pairLimit (byte s (at + countOffset)) s (at + pairsOffset) ≡ some bs → (codes : List ℕ) (cs : List Binder)
+    {between after : List ℕ} → between ≡ pairsNoted (byte s (at + countOffset)) s (at + pairsOffset) codes → after ≡ bindersNoted cs between → after ≡ bindersNoted (bs ++ cs) codes
+block-noted s at bs read codes cs e h = two-noted codes bs cs (e ∙ pairs-noted pairLimit (byte s (at + countOffset)) s (at + pairsOffset) bs codes read) h
 
 -- ── the written types ───────────────────────────────────────────────────────────────────────
 
@@ -203,34 +202,34 @@ said-by (b ∷ bs) x codes l e =
     (other-pair (b .variable) k x codes (λ s. eqb-false (b .variable) x n (sym s)) ∙ e))
 
 -- from no pair at all
-pub written-is : (c : Script) → allWritten (bindersNoted (bindersOf c) (replicate 16 unboundCode)) ≡ writtenTypes c
+pub written-is : (c : Script) → allWritten (bindersNoted (bindersOf c) (replicate variableLimit unboundCode)) ≡ writtenTypes c
 unfolding writtenTypes
-written-is c = ext-getD unbound (allWritten codes) (map (writtenIn bs) variables) (written-length codes sixteen) each
+written-is c = ext-getD unbound (allWritten codes) (map (writtenIn bs) variables) (written-length codes per-variable) each
   where
     bs : List Binder
     bs = bindersOf c
 
     codes : List ℕ
-    codes = bindersNoted bs (replicate 16 unboundCode)
+    codes = bindersNoted bs (replicate variableLimit unboundCode)
 
-    sixteen : length codes ≡ 16
-    sixteen = noted-length bs (replicate 16 unboundCode)
+    per-variable : length codes ≡ variableLimit
+    per-variable = noted-length bs (replicate variableLimit unboundCode)
 
     each : (x : ℕ) → x < length (allWritten codes) → getD (allWritten codes) x unbound ≡ getD (map (writtenIn bs) variables) x unbound
     each x l =
-        let m : x < 16 = subst (λ (k : ℕ). x < k) (written-length codes sixteen) l in
-        written-here [] codes x sixteen m
-        ∙ said-by bs x (replicate 16 unboundCode) m (getD-replicate 16 x unboundCode 0 m)
-        ∙ sym (getD-inside (map (writtenIn bs) variables) x unbound (writtenIn bs 0) m ∙ List·getD-map (writtenIn bs) variables x 0 ∙ ap (writtenIn bs) (variable-at x m))
+        let m : x < variableLimit = subst (λ (k : ℕ). x < k) (written-length codes per-variable) l in
+        written-here [] codes x per-variable m
+        ∙ said-by bs x (replicate variableLimit unboundCode) m (getD-replicate variableLimit x unboundCode 0 m)
+        ∙ sym (at-variable (writtenIn bs) unbound x m)
 
 -- ── the root ────────────────────────────────────────────────────────────────────────────────
 
 -- what a walk from the first byte shows holds of the script
-pub at-root : (terms : ℕ) (s : List ℕ) → isSome (parsed terms s) ≡ true → {P : Script → Type 0} {n : ℕ} → Walked P (readScript s terms 24 0) n
+pub at-root : (terms : ℕ) (s : List ℕ) → isSome (parsed terms s) ≡ true → {P : Script → Type 0} {n : ℕ} → Walked P (readScript s terms depthLimit 0) n
     → (root : Script) → parsed terms s ≡ some root → P root
 at-root terms s e {P} w root p = subst P (same-some (whole-of terms s e .parses) p) (of-root terms s e w)
 
 pub types-written : (terms : ℕ) (s : List ℕ) → isSome (parsed terms s) ≡ true → {codes : List ℕ} {n : ℕ}
-    → Walked (λ c. codes ≡ bindersNoted (bindersOf c) (replicate 16 unboundCode)) (readScript s terms 24 0) n
+    → Walked (λ c. codes ≡ bindersNoted (bindersOf c) (replicate variableLimit unboundCode)) (readScript s terms depthLimit 0) n
     → (root : Script) → parsed terms s ≡ some root → allWritten codes ≡ writtenTypes root
 types-written terms s e w root p = ap allWritten (at-root terms s e w root p) ∙ written-is root

@@ -8,7 +8,7 @@ use lib.ListN.{getD, set}
 use Rattle.definitions.specs.Bytes.{byte}
 use Rattle.definitions.specs.Types.{Ty, typeCode}
 use Rattle.definitions.specs.Tree.{Binder}
-use Rattle.typing.specs.Codes.{unboundCode}
+use Rattle.facts.specs.Codes.{unboundCode}
 
 -- the byte of a pair's written type
 abbrev pub writtenCode : Option Ty → ℕ

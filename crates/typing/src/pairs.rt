@@ -1,23 +1,28 @@
 // The written types of a script's variables, by a walk over the pairs of its blocks: a byte for each variable, 0 open,
 // 255 for a variable that no pair binds, else the code of its type.
 use crate::CodesRead;
-use crate::UNBOUND;
-use reader::after::after_name;
-use reader::after::after_query;
+use definitions::COUNT_OFFSET;
+use definitions::DEPTH_LIMIT;
+use definitions::PAIRS_OFFSET;
+use definitions::QUERY_OFFSET;
+use definitions::VARIABLES;
+use facts::UNBOUND;
+use scope::after::after_name;
+use scope::after::after_query;
 ghost use mathlib.Core.Path.{_≡_};
 ghost use mathlib.Core.Bool.{true};
 ghost use mathlib.Core.Option.{some};
 ghost use Prim.Native.Nat.{_+_, _<_};
+ghost use Rattle.definitions.specs.Limits.{countOffset, pairsOffset};
 ghost use Rattle.definitions.specs.Bytes.{byte};
 ghost use Rattle.definitions.specs.Tree.{Script};
 ghost use Rattle.definitions.specs.Scope.{bindersOf};
 ghost use Rattle.definitions.specs.Reading.{readScript, parsed};
 ghost use Rattle.definitions.specs.Typing.{writtenTypes};
-ghost use Rattle.laws.proofs.Walking.{Loads};
-ghost use Rattle.laws.proofs.Walked.{Walked};
-ghost use Rattle.reader.specs.Fields.{isSome};
-ghost use Rattle.reader.specs.Bindings.{PairsAt};
-ghost use Rattle.typing.specs.Codes.{allWritten};
+ghost use Rattle.laws.specs.Walks.{Loads, Walked};
+ghost use Rattle.laws.specs.ReadAnswers.{isSome};
+ghost use Rattle.scope.specs.Bindings.{PairsAt};
+ghost use Rattle.facts.specs.Codes.{allWritten};
 ghost use Rattle.typing.specs.Pairs.{earlier, pairsNoted, bindersNoted};
 
 // The byte of a variable after a pair: what an earlier pair said stands.
@@ -31,13 +36,13 @@ fn earlier(here: u8, said: u8) -> u8
 }
 
 // The pairs of the block at an offset.
-fn note_pairs(script: &[u8], at: usize, codes: [u8; 16]) -> [u8; 16]
+fn note_pairs(script: &[u8], at: usize, codes: [u8; VARIABLES]) -> [u8; VARIABLES]
     requires { ⌜ PairsAt (now script) at ⌝ }
-    ensures { λ r. ⌜ r ≡ pairsNoted (byte (now (script .entry)) (at + 2)) (now (script .entry)) (at + 3) codes ⌝ }
+    ensures { λ r. ⌜ r ≡ pairsNoted (byte (now (script .entry)) (at + countOffset)) (now (script .entry)) (at + pairsOffset) codes ⌝ }
 {
-    let count = script[at + 2];
+    let count = script[at + COUNT_OFFSET];
     let mut after = codes;
-    let mut place = at + 3;
+    let mut place = at + PAIRS_OFFSET;
     let mut k: u8 = 0;
     while k < count {
         let v = script[place] as usize;
@@ -50,7 +55,13 @@ fn note_pairs(script: &[u8], at: usize, codes: [u8; 16]) -> [u8; 16]
 }
 
 // The pairs of a script.
-fn note_script(script: &[u8], terms: usize, at: usize, left: u8, codes: [u8; 16]) -> CodesRead
+fn note_script(
+    script: &[u8],
+    terms: usize,
+    at: usize,
+    left: u8,
+    codes: [u8; VARIABLES],
+) -> CodesRead
     requires { ⌜ Loads (readScript (now script) terms left at) ⌝ }
     ensures { λ r. ⌜ Walked (λ c. r .codes ≡ bindersNoted (bindersOf c) codes) (readScript (now (script .entry)) terms left at) (r .next) ⌝ }
 {
@@ -65,7 +76,7 @@ fn note_script(script: &[u8], terms: usize, at: usize, left: u8, codes: [u8; 16]
         }
         0x73 => {
             let pairs = note_pairs(script, at, codes);
-            let next = after_query(script, terms, at + 11, below);
+            let next = after_query(script, terms, at + QUERY_OFFSET, below);
             note_script(script, terms, next, below, pairs)
         }
         _ => {
@@ -78,11 +89,11 @@ fn note_script(script: &[u8], terms: usize, at: usize, left: u8, codes: [u8; 16]
 
 // The written types of a script that reads well.
 // Ruled out: every variable open; the types of the first block alone.
-pub fn written_types(script: &[u8], terms: usize) -> [u8; 16]
+pub fn written_types(script: &[u8], terms: usize) -> [u8; VARIABLES]
     requires { ⌜ isSome (parsed terms (now script)) ≡ true ⌝ }
     ensures { λ r. ⌜ ((root : Script) → parsed terms (now (script .entry)) ≡ some root → allWritten r ≡ writtenTypes root) ⌝ }
 {
-    let none = [UNBOUND; 16];
-    let walked = note_script(script, terms, 0, 24, none);
+    let none = [UNBOUND; VARIABLES];
+    let walked = note_script(script, terms, 0, DEPTH_LIMIT, none);
     walked.codes
 }

@@ -1,40 +1,42 @@
-// The typer: the types of a script's variables, or that there is no typing (8), or no greatest one (9).
+// The typer: the types of a script's variables, or that there is no typing, or no greatest one.
+use definitions::DEPTH_LIMIT;
 ghost use mathlib.Core.Path.{_≡_};
 ghost use mathlib.Core.Bool.{true};
 ghost use mathlib.Core.Option.{some};
 ghost use lib.ListN.{length};
+ghost use Rattle.definitions.specs.Limits.{variableLimit};
 ghost use Rattle.definitions.specs.Tree.{Script};
 ghost use Rattle.definitions.specs.Reading.{parsed};
 ghost use Rattle.definitions.specs.Typing.{writtenTypes, verdict};
-ghost use Rattle.reader.specs.Fields.{isSome};
-ghost use Rattle.typing.specs.Codes.{sortsIn, allWritten};
-ghost use Rattle.typing.specs.Answers.{answerOf};
-use crate::Answer;
-use crate::noting::Tables;
+ghost use Rattle.laws.specs.ReadAnswers.{isSome};
+ghost use Rattle.facts.specs.Codes.{sortsIn, allWritten};
+ghost use Rattle.facts.specs.Answers.{answerOf};
 use crate::pairs;
-use crate::readoff;
 use crate::walk;
+use facts::Answer;
+use facts::noting::Tables;
+use facts::readoff;
 
-// The types of a script whose written types stand beside it: `sorts` has the code of each term's least type, `written` a byte
+// The types of a script whose written types stand beside it: `leasts` has the code of each term's least type, `written` a byte
 // for each variable.
-// Ruled out: 8 for every script; anyURI for every variable.
-pub fn type_of_script(script: &[u8], sorts: &[u8], written: &[u8]) -> Answer
-    requires { ⌜ isSome (parsed (length (now sorts)) (now script)) ≡ true ⌝ }
-    requires { ⌜ length (now written) ≡ 16 ⌝ }
-    ensures { λ r. ⌜ ((root : Script) → parsed (length (now (sorts .entry))) (now (script .entry)) ≡ some root → r ≡ answerOf (allWritten (now (written .entry))) (verdict (sortsIn (now (sorts .entry))) (allWritten (now (written .entry))) root)) ⌝ }
+// Ruled out: no typing for every script; anyURI for every variable.
+pub fn type_of_script(script: &[u8], leasts: &[u8], written: &[u8]) -> Answer
+    requires { ⌜ isSome (parsed (length (now leasts)) (now script)) ≡ true ⌝ }
+    requires { ⌜ length (now written) ≡ variableLimit ⌝ }
+    ensures { λ r. ⌜ ((root : Script) → parsed (length (now (leasts .entry))) (now (script .entry)) ≡ some root → r ≡ answerOf (allWritten (now (written .entry))) (verdict (sortsIn (now (leasts .entry))) (allWritten (now (written .entry))) root)) ⌝ }
 {
     let fresh = Tables::fresh();
-    let walked = walk::type_script(script, sorts, written, 0, 24, fresh);
+    let walked = walk::type_script(script, leasts, written, 0, DEPTH_LIMIT, fresh);
     let tables = walked.tables;
     readoff::read_off(tables, written)
 }
 
 // The types of a script, with the written types of its own pairs.
 // Ruled out: the least types that do; an anyURI variable as a property.
-pub fn work_out(script: &[u8], sorts: &[u8]) -> Answer
-    requires { ⌜ isSome (parsed (length (now sorts)) (now script)) ≡ true ⌝ }
-    ensures { λ r. ⌜ ((root : Script) → parsed (length (now (sorts .entry))) (now (script .entry)) ≡ some root → r ≡ answerOf (writtenTypes root) (verdict (sortsIn (now (sorts .entry))) (writtenTypes root) root)) ⌝ }
+pub fn work_out(script: &[u8], leasts: &[u8]) -> Answer
+    requires { ⌜ isSome (parsed (length (now leasts)) (now script)) ≡ true ⌝ }
+    ensures { λ r. ⌜ ((root : Script) → parsed (length (now (leasts .entry))) (now (script .entry)) ≡ some root → r ≡ answerOf (writtenTypes root) (verdict (sortsIn (now (leasts .entry))) (writtenTypes root) root)) ⌝ }
 {
-    let written = pairs::written_types(script, sorts.len());
-    type_of_script(script, sorts, &written)
+    let written = pairs::written_types(script, leasts.len());
+    type_of_script(script, leasts, &written)
 }

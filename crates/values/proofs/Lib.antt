@@ -1,18 +1,14 @@
-mod Booleans
-pub mod Signed
-mod Views
-mod Arithmetic
-mod Fields
-mod Orders
-mod Compare
-mod Ranks
-mod LanguageRanges
-mod TextTests
-mod Patterns
-mod Rows
-mod Writing
-mod Calendars
-pub mod Strings
-mod Str
-mod SlotValues
-mod Making
+-- Read KindLaws and SignedLaws first, then ArithmeticLaws, ComparisonLaws with OrderLaws and RankTable, TestLaws, TextOfLaws with
+-- LineLaws, CalendarLaws and TextLaws, and SlotLaws.
+pub mod SignedLaws
+mod KindLaws
+pub mod ArithmeticLaws
+mod OrderLaws
+mod ComparisonLaws
+mod RankTable
+mod TestLaws
+mod LineLaws
+mod CalendarLaws
+pub mod TextLaws
+mod TextOfLaws
+pub mod SlotLaws

@@ -1,8 +1,5 @@
 pub mod Meaning
-pub mod Numbers
-pub mod Texts
-pub mod Matching
-pub mod Whole
+pub mod NumberKinds
+pub mod Means
 pub mod Lines
 pub mod Dates
-pub mod Made

@@ -1,7 +1,7 @@
 -- A line of the code: a text in a field, and the text's length.
 use Prim.Native.Nat.{ℕ, _+_, _%_, _≤_}
 use mathlib.Core.Path.{_≡_}
-use mathlib.Core.List.{List, _++_}
+use mathlib.Core.List.{_++_}
 use lib.Dec.{T}
 use lib.ListN.{length}
 use Rattle.definitions.specs.Limits.{textWidth}

@@ -1,11 +1,28 @@
-// Signed numbers within the limits of their kinds. Nothing here overflows: an i64 holds 9 * 10^18, the limits are 10^18 at most.
+// Signed numbers within the limits of their kinds. Nothing here overflows: an i64 holds nine times the widest limit.
 ghost use mathlib.Core.Path.{_≡_};
 ghost use mathlib.Core.Bool.{_&&_};
 ghost use lib.Dec.{T};
-ghost use lib.IntN.{ℤ, pos, natAbs, _+ℤ_, _-ℤ_, _*ℤ_};
+ghost use lib.IntN.{pos, natAbs, _+ℤ_, _-ℤ_, _*ℤ_};
 ghost use lib.Signed.{leZ, ltZ};
 ghost use Rattle.definitions.specs.Terms.{isInteger, isDecimal, sameNumber};
 ghost use Rattle.definitions.specs.Values.{million};
+use definitions::DECIMAL_LIMIT;
+use definitions::INTEGER_LIMIT;
+use definitions::SECONDS_AFTER;
+use definitions::SECONDS_BEFORE;
+
+// The least and the greatest number of each kind.
+pub const INTEGER_LEAST: i64 = -(INTEGER_LIMIT as i64);
+
+pub const INTEGER_MOST: i64 = INTEGER_LIMIT as i64;
+
+pub const DECIMAL_LEAST: i64 = -(DECIMAL_LIMIT as i64);
+
+pub const DECIMAL_MOST: i64 = DECIMAL_LIMIT as i64;
+
+pub const DATE_TIME_LEAST: i64 = -(SECONDS_BEFORE as i64);
+
+pub const DATE_TIME_MOST: i64 = SECONDS_AFTER as i64;
 
 // Ruled out: a sum that wraps; a difference.
 pub fn sum(a: i64, b: i64) -> i64

@@ -1,5 +1,5 @@
 -- By the length of the saved run, and else as the engine answers.
-use Rattle.exports.proofs.Exported.{load-length, load-done}
+use Rattle.exports.proofs.ExportLaws.{load-length, load-done}
 use borrow.Author.Needs.{needs}
 use Rattle.exports.proofs.willetcoffer_load.Statement.{statement}
 use Rattle.exports.proofs.willetcoffer_load.Tie as tie

@@ -1,6 +1,6 @@
 -- By the lengths, by whether the bytes are a saved run, and else as the engine answers.
-use Rattle.exports.proofs.Lending.{saved-fits, report-fits}
-use Rattle.exports.proofs.Exported.{read-none, read-some, page-length, page-unsound, page-done}
+use Rattle.exports.proofs.BufferLaws.{saved-fits, report-fits}
+use Rattle.exports.proofs.ExportLaws.{read-none, read-some, page-length, page-unsound, page-done}
 use borrow.Author.Needs.{needs}
 use Rattle.exports.proofs.willetcoffer_page.Statement.{statement}
 use Rattle.exports.proofs.willetcoffer_page.Tie as tie

@@ -1,7 +1,7 @@
 -- By the lengths, by whether the bytes are a saved run, and else as the engine answers.
 use mir.Facts.{toZ-ofZ}
-use Rattle.exports.proofs.Lending.{saved-fits, report-fits}
-use Rattle.exports.proofs.Exported.{read-none, read-some, run-length, run-unsound, run-done}
+use Rattle.exports.proofs.BufferLaws.{saved-fits, report-fits}
+use Rattle.exports.proofs.ExportLaws.{read-none, read-some, run-length, run-unsound, run-done}
 use borrow.Author.Needs.{needs}
 use Rattle.exports.proofs.willetcoffer_run.Statement.{statement}
 use Rattle.exports.proofs.willetcoffer_run.Tie as tie

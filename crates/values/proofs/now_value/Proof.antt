@@ -1,5 +1,5 @@
--- `values::now_value` meets its contract, by the laws of Arithmetic.
-use Rattle.values.proofs.Arithmetic.{time-holds}
+-- `values::now_value` meets its contract, by the laws of ArithmeticLaws.
+use Rattle.values.proofs.ArithmeticLaws.{time-holds}
 use Rattle.values.proofs.now_value.Statement.{statement}
 use Rattle.values.proofs.now_value.Tie as tie
 

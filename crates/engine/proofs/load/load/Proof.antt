@@ -4,9 +4,9 @@ use native.Mathlib.Omega.{arith}
 use mathlib.Core.Path.{refl}
 use borrow.Author.Needs.{needs}
 use lib.ListN.{length-replicate}
-use Rattle.engine.specs.Saved.{lentOf}
+use Rattle.engine.specs.BareRun.{lentOf}
 use Rattle.engine.proofs.LoadLaws.{load-refused, term-bytes, quad-bytes, check-refused, table-width, load-accepted}
-use Rattle.machine.proofs.DoneLaws.{empty-table}
+use Rattle.pages.proofs.DoneLaws.{empty-table}
 use Rattle.engine.proofs.load.load.Statement.{statement}
 use Rattle.engine.proofs.load.load.Tie as tie
 

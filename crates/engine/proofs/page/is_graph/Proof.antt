@@ -1,7 +1,7 @@
 -- `engine::page::is_graph` meets its contract, by what soundness proves of the codes of URIs.
 use native.Mathlib.Omega.{arith}
 use borrow.Author.Needs.{needs}
-use Rattle.engine.proofs.Lent.{graph-number, graph-past}
+use Rattle.engine.proofs.LentLaws.{graph-number, graph-past}
 use Rattle.engine.proofs.page.is_graph.Statement.{statement}
 use Rattle.engine.proofs.page.is_graph.Tie as tie
 

@@ -5,8 +5,8 @@ use mathlib.Core.Path.{sym, _∙_}
 use lib.ListN.{length-replicate}
 use borrow.Author.Tests.{not-true, not-false}
 use Rattle.definitions.specs.Calls.{Lent}
-use Rattle.engine.specs.Saved.{lentOf}
-use Rattle.engine.proofs.Lent.{some-of, none-of, fit-terms, fit-quads}
+use Rattle.engine.specs.BareRun.{lentOf}
+use Rattle.engine.proofs.LentLaws.{some-of, none-of, fit-terms, fit-quads}
 use Rattle.engine.proofs.PageLaws.{refused-1, refused-10, refused-12, refused-13}
 use borrow.Author.Needs.{needs}
 use Rattle.engine.proofs.page.page.Statement.{statement}

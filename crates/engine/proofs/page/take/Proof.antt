@@ -3,7 +3,7 @@ use native.Mathlib.Omega.{arith}
 use mathlib.Core.Path.{_≡_}
 use lib.ListN.{length}
 use Rattle.laws.proofs.Bytes.{AreBytes}
-use Rattle.engine.proofs.Lent.{length-mapped}
+use Rattle.engine.proofs.LentLaws.{length-mapped}
 use Rattle.engine.proofs.TakeLaws.{run-low, graph-small, page-is, page-read, page-fits, schema-is, schema-read, held-store, held-tables, not-taken, now-taken}
 use borrow.Author.Needs.{needs}
 use Rattle.engine.proofs.page.take.Statement.{statement}

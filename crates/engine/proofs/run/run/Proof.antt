@@ -8,9 +8,9 @@ use lib.ListN.{length, length-replicate}
 use borrow.Author.Tests.{not-true, not-false}
 use Rattle.definitions.specs.Bytes.{signed}
 use Rattle.definitions.specs.Calls.{Lent, runCall}
-use Rattle.engine.specs.Saved.{lentOf}
-use Rattle.engine.proofs.Lent.{length-mapped, some-of, none-of, fit-terms, fit-quads}
-use Rattle.engine.proofs.Held.{stack-low, graphs-low}
+use Rattle.engine.specs.BareRun.{lentOf}
+use Rattle.engine.proofs.LentLaws.{length-mapped, some-of, none-of, fit-terms, fit-quads}
+use Rattle.engine.proofs.PassedLaws.{stack-low, graphs-low}
 use Rattle.engine.proofs.RunLaws.{refused-1, refused-10, refused-11, lends, budget-small, ran-is}
 use borrow.Author.Needs.{needs}
 use Rattle.engine.proofs.run.run.Statement.{statement}

@@ -3,7 +3,7 @@ use native.Mathlib.Omega.{arith}
 use mathlib.Core.Path.{_≡_, sym}
 use lib.ListN.{length}
 use borrow.Author.Tests.{not-true, not-false}
-use Rattle.records.proofs.TableLaws.{holds-few}
+use Rattle.table.proofs.TableLaws.{holds-few}
 use Rattle.engine.proofs.SoundLaws.{not-checked, no-terms, other-types, schema-good, schema-short, script-good, loading-holds, loading-apart, table-holds, no-store, lends}
 use borrow.Author.Needs.{needs}
 use Rattle.engine.proofs.sound.sound.Statement.{statement}

@@ -1,5 +1,5 @@
 -- A law for each length that is wrong, and one where the report decides.
-use Rattle.exports.proofs.Lending.{wrong-terms, wrong-quads, wrong-saved, report-decides}
+use Rattle.exports.proofs.BufferLaws.{wrong-terms, wrong-quads, wrong-saved, report-decides}
 use Rattle.exports.proofs.handing.buffers_fit.Statement.{statement}
 use Rattle.exports.proofs.handing.buffers_fit.Tie as tie
 

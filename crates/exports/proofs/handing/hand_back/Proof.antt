@@ -1,5 +1,5 @@
 -- By the number: 0, or a refusal.
-use Rattle.exports.proofs.Lending.{handed, kept}
+use Rattle.exports.proofs.BufferLaws.{handed, kept}
 use borrow.Author.Needs.{needs}
 use Rattle.exports.proofs.handing.hand_back.Statement.{statement}
 use Rattle.exports.proofs.handing.hand_back.Tie as tie

@@ -9,10 +9,10 @@ use Rattle.machine.proofs.answers.block_answer.Tie as tie
 use Rattle.machine.proofs.answers.block_answer.Reads as reads
 use Rattle.machine.proofs.answers.block_answer.Lts as lts
 use Rattle.machine.proofs.answers.block_of.Reads as block-of-reads
-use Rattle.query.proofs.answer.answer.Reads as answer-reads
+use Rattle.search.proofs.answer.answer.Reads as answer-reads
 use Rattle.machine.proofs.answers.known_of.Reads as known-of-reads
 use Rattle.machine.proofs.answers.short_numbers.Reads as short-numbers-reads
-use Rattle.machine.proofs.stack.top.Reads as top-reads
+use Rattle.store.proofs.stack.top.Reads as top-reads
 
 top-requires : tie.Need-top-requires
 top-requires c κs = let x = onTop (c .before .before .before .before .pre .0 .0 .here) (c .before .before .before .before .pre .0 .1) in (omega (arith, height-is _ _ _ _ x), omega (arith, height-is _ _ _ _ x, room _ _ _ _ x))

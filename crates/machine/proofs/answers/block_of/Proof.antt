@@ -11,7 +11,7 @@ use Rattle.machine.proofs.answers.block_of.Lts as lts
 use Rattle.machine.proofs.answers.pair_numbers.Reads as pair-numbers-reads
 use Rattle.machine.proofs.answers.types_of.Reads as types-of-reads
 use Rattle.machine.proofs.answers.wide_numbers.Reads as wide-numbers-reads
-use Rattle.machine.proofs.stack.index.Reads as index-reads
+use Rattle.store.proofs.stack.index.Reads as index-reads
 
 add-query : tie.Need-add-query
 add-query c = search needs

@@ -5,7 +5,7 @@ use mathlib.Core.Path.{_≡_, refl}
 use Rattle.definitions.specs.Scope.{variables}
 use Rattle.query.specs.Codes.{freeCode}
 use Rattle.machine.specs.Answers.{knownCode, knownOf}
-use Rattle.machine.proofs.Filling.{madeTo, made-variable, made-variables}
+use Rattle.store.proofs.FillLaws.{madeTo, made-variable, made-variables}
 use Rattle.machine.proofs.answers.known_of.Statement.{statement}
 use Rattle.machine.proofs.answers.known_of.Tie as tie
 use Rattle.machine.proofs.answers.known_of.Reads as reads

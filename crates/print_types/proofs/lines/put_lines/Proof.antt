@@ -4,14 +4,14 @@ use native.Mathlib.Omega.{arith}
 use mathlib.Core.Path.{_≡_, refl}
 use borrow.Author.Needs.{needs}
 use lib.ListN.{length, take}
-use Rattle.print_types.specs.Lines.{Written, boundLines}
+use Rattle.print_types.specs.Lines.{lineRoom, Written, boundLines}
 use Rattle.print_types.proofs.Writing.{written-none, written-as, written-then}
 use Rattle.print_types.proofs.Texts.{lines-none, lines-next, lines-all}
 use Rattle.print_types.proofs.lines.put_lines.Statement.{statement}
 use Rattle.print_types.proofs.lines.put_lines.Tie as tie
 
 abbrev Inv-loop : tie.InvT-loop
-Inv-loop codes out₀ from at₀ i₀ out at i = (i ≤ length codes) × (at ≤ from + 24 * i) × (length out ≡ length out₀) × Written (boundLines 0 (take i codes)) out₀ out from at
+Inv-loop codes out₀ from at₀ i₀ out at i = (i ≤ length codes) × (at ≤ from + lineRoom * i) × (length out ≡ length out₀) × Written (boundLines 0 (take i codes)) out₀ out from at
 
 abbrev μ-loop : tie.MeasureT-loop
 μ-loop codes out₀ from at₀ i₀ out at i = length codes - i

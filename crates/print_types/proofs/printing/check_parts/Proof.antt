@@ -1,6 +1,6 @@
 -- The parts as they are cut are those of the definition.
 use mathlib.Core.Path.{ap, _∙_}
-use Rattle.engine.specs.Check.{cardOf}
+use Rattle.card.specs.Check.{cardOf}
 use Rattle.print_types.proofs.Printed.{parts-checked}
 use borrow.Author.Needs.{needs}
 use Rattle.print_types.proofs.printing.check_parts.Statement.{statement}

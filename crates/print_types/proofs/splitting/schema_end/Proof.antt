@@ -3,13 +3,14 @@ use Prim.Native.Nat.{_+_, _-_, _≤_}
 use native.Mathlib.Omega.{arith}
 use borrow.Author.Needs.{needs}
 use lib.ListN.{length}
-use Rattle.definitions.specs.Printer.{entryWidth, endFrom}
-use Rattle.print_types.proofs.Ends.{Ends, ends-start, ends-here, ends-out, ends-next, entry-none, entry-some, entry-zero}
+use Rattle.definitions.specs.Limits.{textWidth, tagWidth}
+use Rattle.definitions.specs.Printer.{entryBody, endFrom}
+use Rattle.print_types.proofs.EndLaws.{Ends, ends-start, ends-here, ends-out, ends-next, entry-none, entry-some, entry-zero}
 use Rattle.print_types.proofs.splitting.schema_end.Statement.{statement}
 use Rattle.print_types.proofs.splitting.schema_end.Tie as tie
 
 abbrev Inv-loop : tie.InvT-loop
-Inv-loop s from at₀ at = (from ≤ at) × (at ≤ length s + 48) × Ends entryWidth s (endFrom entryWidth (length s) s from) at
+Inv-loop s from at₀ at = (from ≤ at) × (at ≤ length s + (tagWidth + textWidth)) × Ends entryBody s (endFrom entryBody (length s) s from) at
 
 abbrev μ-loop : tie.MeasureT-loop
 μ-loop s from at₀ at = length s - at

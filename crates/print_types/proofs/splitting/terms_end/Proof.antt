@@ -4,15 +4,16 @@ use native.Mathlib.Omega.{arith}
 use mathlib.Core.Path.{refl, sym, _∙_}
 use borrow.Author.Needs.{needs}
 use lib.ListN.{length}
+use Rattle.definitions.specs.Limits.{textWidth, tagWidth}
 use Rattle.definitions.specs.Terms.{ofTermKind}
 use Rattle.definitions.specs.Bytes.{byte}
-use Rattle.definitions.specs.Printer.{termWidth, termsEnd}
-use Rattle.print_types.proofs.Ends.{Ends, ends-start, ends-here, ends-out, ends-next, width-none, width-some, width-few}
+use Rattle.definitions.specs.Printer.{termBody, termsEnd}
+use Rattle.print_types.proofs.EndLaws.{Ends, ends-start, ends-here, ends-out, ends-next, width-none, width-some, width-few}
 use Rattle.print_types.proofs.splitting.terms_end.Statement.{statement}
 use Rattle.print_types.proofs.splitting.terms_end.Tie as tie
 
 abbrev Inv-loop : tie.InvT-loop
-Inv-loop s at₀ at = (at ≤ length s + 48) × Ends (λ k. termWidth (ofTermKind k)) s (termsEnd s) at
+Inv-loop s at₀ at = (at ≤ length s + (tagWidth + textWidth)) × Ends (λ k. termBody (ofTermKind k)) s (termsEnd s) at
 
 abbrev μ-loop : tie.MeasureT-loop
 μ-loop s at₀ at = length s - at

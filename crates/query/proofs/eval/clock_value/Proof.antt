@@ -1,4 +1,4 @@
--- `eval::clock_value` meets its contract. Assumes nothing.
+-- `query::eval::clock_value` meets its contract. Assumes nothing.
 use Rattle.query.proofs.EvalLaws.{clock-within, clock-gives}
 use borrow.Author.Needs.{needs}
 use Rattle.query.proofs.eval.clock_value.Statement.{statement}

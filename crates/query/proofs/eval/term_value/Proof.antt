@@ -1,4 +1,4 @@
--- `eval::term_value` meets its contract: the slot that it reads is the term's. Assumes nothing.
+-- `query::eval::term_value` meets its contract: the slot that it reads is the term's. Assumes nothing.
 use native.Mathlib.Omega.{arith}
 use Rattle.query.proofs.TermLaws.{few, past-value, fits, slot-value}
 use borrow.Author.Needs.{needs}

@@ -1,9 +1,9 @@
--- `names::name_at` meets its contract: what loads is a variable or a constant. Assumes nothing.
+-- `query::names::name_at` meets its contract: what loads is a variable or a constant. Assumes nothing.
 use borrow.Author.Needs.{needs}
 use native.Mathlib.Omega.{arith}
 use mathlib.Core.Path.{_≡_, ap, _∙_}
 use Rattle.definitions.specs.Tree.{var}
-use Rattle.laws.proofs.Loaded.{name-inside, name-var, name-const, name-last}
+use Rattle.laws.proofs.Records.{name-inside, variable-of, constant-of, name-last}
 use Rattle.laws.proofs.Walked.{leaf-walked}
 use Rattle.query.specs.Codes.{codeOf}
 use Rattle.query.proofs.names.name_at.Statement.{statement}
@@ -16,29 +16,29 @@ add-first : tie.Need-add-first
 add-first c = omega (arith, name-inside _ _ _ _ (c .before .before .before .pre .0))
 
 shared-slice-read-wide : tie.Need-shared-slice-read-wide
-shared-slice-read-wide c = omega (arith, name-var _ _ _ _ (c .before .before .before .before .before .pre .0) (c .before .if1 .taken))
+shared-slice-read-wide c = omega (arith, variable-of _ _ _ _ (c .before .before .before .before .before .pre .0) (c .before .if1 .taken))
 
 wide-requires : tie.Need-wide-requires
 wide-requires c κs = search needs
 
 variable-code-requires : tie.Need-variable-code-requires
-variable-code-requires c κs = omega (arith, name-var _ _ _ _ (c .before .before .before .before .before .before .pre .0) (c .before .before .if1 .taken))
+variable-code-requires c κs = omega (arith, variable-of _ _ _ _ (c .before .before .before .before .before .before .pre .0) (c .before .before .if1 .taken))
 
 add-next : tie.Need-add-next
-add-next c = omega (arith, name-var _ _ _ _ (c .before .before .before .before .before .before .before .pre .0) (c .before .before .before .if1 .taken))
+add-next c = omega (arith, variable-of _ _ _ _ (c .before .before .before .before .before .before .before .pre .0) (c .before .before .before .if1 .taken))
 
 returns : tie.Need-returns
-returns c = leaf-walked (name-var _ _ _ _ (c .before .before .before .before .before .before .before .pre .0) (c .before .before .before .if1 .taken) .2) (c .variable-code .ensures ∙ ap (λ w. codeOf (c .before .before .before .before .before .before .before .args .known .now) (c .before .before .before .before .before .before .before .args .v) (var w)) (c .before .wide .ensures), name-var _ _ _ _ (c .before .before .before .before .before .before .before .pre .0) (c .before .before .before .if1 .taken) .1)
+returns c = leaf-walked (variable-of _ _ _ _ (c .before .before .before .before .before .before .before .pre .0) (c .before .before .before .if1 .taken) .2) (c .variable-code .ensures ∙ ap (λ w. codeOf (c .before .before .before .before .before .before .before .args .known .now) (c .before .before .before .before .before .before .before .args .v) (var w)) (c .before .wide .ensures), variable-of _ _ _ _ (c .before .before .before .before .before .before .before .pre .0) (c .before .before .before .if1 .taken) .1)
 
 word-at-requires : tie.Need-word-at-requires
-word-at-requires c κs = omega (arith, name-const _ _ _ _ (c .before .before .before .before .pre .0) (name-last _ _ _ _ (c .before .before .before .before .pre .0) (c .if1 .left)))
+word-at-requires c κs = omega (arith, constant-of _ _ _ _ (c .before .before .before .before .pre .0) (name-last _ _ _ _ (c .before .before .before .before .pre .0) (tt, c .if1 .left)))
 
 add-next-2 : tie.Need-add-next-2
-add-next-2 c = omega (arith, name-const _ _ _ _ (c .before .before .before .before .before .pre .0) (name-last _ _ _ _ (c .before .before .before .before .before .pre .0) (c .before .if1 .left)))
+add-next-2 c = omega (arith, constant-of _ _ _ _ (c .before .before .before .before .before .pre .0) (name-last _ _ _ _ (c .before .before .before .before .before .pre .0) (tt, c .before .if1 .left)))
 
 returns-2 : tie.Need-returns-2
 unfolding codeOf
-returns-2 c = leaf-walked (name-const _ _ _ _ (c .before .before .before .before .before .pre .0) (name-last _ _ _ _ (c .before .before .before .before .before .pre .0) (c .before .if1 .left)) .2) (c .word-at .ensures .0, omega arith)
+returns-2 c = leaf-walked (constant-of _ _ _ _ (c .before .before .before .before .before .pre .0) (name-last _ _ _ _ (c .before .before .before .before .before .pre .0) (tt, c .before .if1 .left)) .2) (c .word-at .ensures .0, omega arith)
 
 pub name-at-spec : {M : Type 1} → statement M
 name-at-spec =

@@ -1,4 +1,4 @@
--- `names::variable_code` meets its contract: one law for each way through. Assumes nothing.
+-- `query::names::variable_code` meets its contract: one law for each way through. Assumes nothing.
 use Rattle.query.proofs.CodeLaws.{code-sought, code-known, code-free}
 use borrow.Author.Needs.{needs}
 use Rattle.query.proofs.names.variable_code.Statement.{statement}

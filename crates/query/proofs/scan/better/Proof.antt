@@ -1,4 +1,4 @@
--- `scan::better` meets its contract: one law for each way through. Assumes nothing.
+-- `query::scan::better` meets its contract: one law for each way through. Assumes nothing.
 use Rattle.query.proofs.RowLaws.{row-taken, row-left, miss-graph, miss-subject, miss-property, miss-object}
 use borrow.Author.Needs.{needs}
 use Rattle.query.proofs.scan.better.Statement.{statement}

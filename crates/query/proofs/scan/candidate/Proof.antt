@@ -1,4 +1,4 @@
--- `scan::candidate` meets its contract. Assumes nothing.
+-- `query::scan::candidate` meets its contract. Assumes nothing.
 use mathlib.Core.Path.{refl}
 use Rattle.query.specs.Seek.{candidate}
 use borrow.Author.Needs.{needs}

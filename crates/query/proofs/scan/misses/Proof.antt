@@ -1,4 +1,4 @@
--- `scan::misses` meets its contract: a known number that is another rules the quad out. Assumes nothing.
+-- `query::scan::misses` meets its contract: a known number that is another rules the quad out. Assumes nothing.
 use Rattle.query.proofs.CodeLaws.{never, miss}
 use Rattle.query.proofs.scan.misses.Statement.{statement}
 use Rattle.query.proofs.scan.misses.Tie as tie

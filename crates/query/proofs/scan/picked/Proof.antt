@@ -1,4 +1,4 @@
--- `scan::picked` meets its contract, by what the code stands for. Assumes nothing.
+-- `query::scan::picked` meets its contract, by what the code stands for. Assumes nothing.
 use mathlib.Core.Path.{refl}
 use Rattle.query.proofs.CodeLaws.{at-sought, pick-other}
 use Rattle.query.proofs.scan.picked.Statement.{statement}

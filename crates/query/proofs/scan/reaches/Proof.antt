@@ -1,4 +1,4 @@
--- `scan::reaches` meets its contract. Assumes nothing.
+-- `query::scan::reaches` meets its contract. Assumes nothing.
 use mathlib.Core.Path.{sym}
 use Rattle.query.proofs.CodeLaws.{never}
 use borrow.Author.Needs.{needs}

@@ -1,4 +1,4 @@
--- `scan::row_stands` meets its contract. Assumes nothing.
+-- `query::scan::row_stands` meets its contract. Assumes nothing.
 use mathlib.Core.Path.{refl}
 use borrow.Author.Needs.{needs}
 use Rattle.query.proofs.scan.row_stands.Statement.{statement}

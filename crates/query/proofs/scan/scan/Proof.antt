@@ -1,4 +1,4 @@
--- `scan::scan` meets its contract: one of the two loops, at a place that is fixed. Assumes nothing.
+-- `query::scan::scan` meets its contract: one of the two loops, at a place that is fixed. Assumes nothing.
 use mathlib.Core.Path.{refl}
 use native.Mathlib.Omega.{arith}
 use Rattle.query.proofs.RowLaws.{scan-done, fixed-graph, fixed-subject, fixed-property, fixed-object}

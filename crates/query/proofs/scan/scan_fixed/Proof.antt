@@ -1,10 +1,11 @@
--- `scan::scan_fixed` meets its contract. The loop's invariant is that of `scan_all`; a quad that is passed over changes nothing. Assumes nothing.
+-- `query::scan::scan_fixed` meets its contract. The loop's invariant is that of `scan_all`; a quad that is passed over changes nothing. Assumes nothing.
 use mathlib.Core.Path.{_≡_, refl, _∙_}
 use mathlib.Core.Logic.{⊎-elim}
 use Prim.Native.Nat.{_*_, _-_, _≤_}
 use native.Mathlib.Omega.{arith}
 use Rattle.query.specs.Seek.{scan as isScan}
-use Rattle.query.specs.Codes.{placesAt, rowsFrom}
+use Rattle.query.specs.Codes.{placesAt}
+use Rattle.laws.specs.Quads.{rowsFrom}
 use Rattle.query.proofs.RowLaws.{scan-start, scan-turn, scan-ends, scan-done, too-far}
 use Rattle.query.proofs.scan.scan_fixed.Statement.{statement}
 use Rattle.query.proofs.scan.scan_fixed.Tie as tie

@@ -1,4 +1,4 @@
--- `scan::sought_at` meets its contract: the first place that is sought. Assumes nothing.
+-- `query::scan::sought_at` meets its contract: the first place that is sought. Assumes nothing.
 use Rattle.query.proofs.RowLaws.{given-graph, given-subject, given-property, given-object}
 use borrow.Author.Needs.{needs}
 use Rattle.query.proofs.scan.sought_at.Statement.{statement}

@@ -1,4 +1,4 @@
--- `scan::stands` meets its contract, by what the code stands for. Assumes nothing.
+-- `query::scan::stands` meets its contract, by what the code stands for. Assumes nothing.
 use mathlib.Core.Path.{refl}
 use Rattle.query.proofs.CodeLaws.{at-sought, at-fixed, at-free}
 use Rattle.query.proofs.scan.stands.Statement.{statement}

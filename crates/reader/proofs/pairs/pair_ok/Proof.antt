@@ -2,6 +2,7 @@
 use mathlib.Core.Bool.{Bool, _&&_}
 use mathlib.Core.Path.{ap}
 use lib.Dec.{ltb}
+use Rattle.definitions.specs.Limits.{variableLimit}
 use Rattle.reader.specs.Pairs.{pairOk}
 use borrow.Author.Needs.{needs}
 use Rattle.reader.proofs.pairs.pair_ok.Statement.{statement}
@@ -12,7 +13,7 @@ written-ok-requires c κs = search needs
 
 returns : tie.Need-returns
 unfolding pairOk
-returns c = rw (c .before .if1 .taken) (ap (λ (t : Bool). ltb (c .before .before .args .variable) 16 && t) (c .written-ok .ensures))
+returns c = rw (c .before .if1 .taken) (ap (λ (t : Bool). ltb (c .before .before .args .variable) variableLimit && t) (c .written-ok .ensures))
 
 returns-2 : tie.Need-returns-2
 unfolding pairOk

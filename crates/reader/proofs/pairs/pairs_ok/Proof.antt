@@ -4,17 +4,18 @@ use Prim.Native.Nat.{_-_, _+_, _*_, _≤_}
 use borrow.Author.Needs.{needs}
 use borrow.Author.Tests.{not-true, not-false}
 use mathlib.Core.Path.{_≡_, sym, _∙_}
+use Rattle.definitions.specs.Limits.{pairLimit}
 use Rattle.definitions.specs.Reading.{bindersAt}
-use Rattle.reader.specs.Fields.{isSome}
+use Rattle.laws.specs.ReadAnswers.{isSome}
 use Rattle.reader.proofs.PairLaws.{pairsFrom, pair-bad, pair-turn, pairs-done, pairs-many}
 use Rattle.reader.proofs.pairs.pairs_ok.Statement.{statement}
 use Rattle.reader.proofs.pairs.pairs_ok.Tie as tie
 
 abbrev Inv-loop : tie.InvT-loop
-Inv-loop s at count k₀ next₀ k next = (isSome (bindersAt 4 count s at) ≡ pairsFrom s count k next) × (next ≡ at + 2 * k) × (k ≤ 4)
+Inv-loop s at count used k₀ next₀ k next = (isSome (bindersAt pairLimit count s at) ≡ pairsFrom s count k next) × (next ≡ at + 2 * k) × (k ≤ pairLimit)
 
 abbrev μ-loop : tie.MeasureT-loop
-μ-loop s at count k₀ next₀ k next = 4 - k
+μ-loop s at count used k₀ next₀ k next = pairLimit - k
 
 returns : tie.Need-returns Inv-loop μ-loop
 returns c = sym (pairs-many (c .before .before .args .s .now) (c .before .before .args .count) (c .before .before .args .at) (c .if1 .taken))

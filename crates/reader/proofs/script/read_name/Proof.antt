@@ -1,8 +1,9 @@
 -- `reader::script::read_name` meets its contract.
+use Prim.Native.Nat.{_+_}
 use native.Mathlib.Omega.{arith}
 use mathlib.Core.Path.{_∙_}
 use Rattle.laws.proofs.Reading.{name-none, name-out, name-is, name-others, variable-is, variable-bad, variable-cut, constant-is, constant-bad, constant-cut}
-use Rattle.reader.proofs.Ends.{none-ends, leaf-ends}
+use Rattle.laws.proofs.ReadAnswers.{none-ends, leaf-ends}
 use borrow.Author.Needs.{needs}
 use Rattle.reader.proofs.script.read_name.Statement.{statement}
 use Rattle.reader.proofs.script.read_name.Tie as tie
@@ -28,8 +29,11 @@ add-if4 c = search needs
 shared-slice-read-if4 : tie.Need-shared-slice-read-if4
 shared-slice-read-if4 c = search needs
 
-add-t18 : tie.Need-add-t18
-add-t18 c = search needs
+cast-if4 : tie.Need-cast-if4
+cast-if4 c = omega (arith, c .shared-slice-known3 .given (c .before .before .before .before .before .before .before .args .at + 1))
+
+add-next : tie.Need-add-next
+add-next c = search needs
 
 returns-4 : tie.Need-returns-4
 returns-4 c = none-ends (name-is _ _ _ _ (omega arith) 0x32 (c .before .match .keys2) ∙ constant-cut (c .before .before .before .before .before .before .args .script .now) (c .before .before .before .before .before .before .args .terms) (c .before .before .before .before .before .before .args .at) (omega arith))
@@ -40,8 +44,8 @@ add-word-at c = search needs
 word-at-requires : tie.Need-word-at-requires
 word-at-requires c κs = search needs
 
-add-t22 : tie.Need-add-t22
-add-t22 c = search needs
+add-next-2 : tie.Need-add-next-2
+add-next-2 c = search needs
 
 returns-5 : tie.Need-returns-5
 returns-5 c = leaf-ends (name-is _ _ _ _ (omega arith) 0x31 (c .before .before .before .match .keys1) ∙ variable-is (c .before .before .before .before .before .before .before .before .args .script .now) (c .before .before .before .before .before .before .before .before .args .terms) (c .before .before .before .before .before .before .before .before .args .at) (omega arith) (omega arith))
@@ -69,11 +73,12 @@ read-name-spec =
     returns-3
     add-if4
     shared-slice-read-if4
-    add-t18
+    cast-if4
+    add-next
     returns-4
     add-word-at
     word-at-requires
-    add-t22
+    add-next-2
     returns-5
     returns-6
     returns-7

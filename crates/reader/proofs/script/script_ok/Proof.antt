@@ -1,6 +1,6 @@
 -- `reader::script::script_ok` meets its contract.
 use mathlib.Core.Path.{sym, _∙_}
-use Rattle.reader.proofs.Ends.{whole-fails, whole-ends}
+use Rattle.reader.proofs.ReadLaws.{whole-fails, whole-ends}
 use borrow.Author.Needs.{needs}
 use Rattle.reader.proofs.script.script_ok.Statement.{statement}
 use Rattle.reader.proofs.script.script_ok.Tie as tie

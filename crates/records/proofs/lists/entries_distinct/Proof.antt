@@ -5,10 +5,12 @@ use mathlib.Core.Bool.{true}
 use mathlib.Core.Path.{_≡_, sym, ap, _∙_}
 use lib.ListN.{length}
 use Rattle.definitions.specs.Terms.{sameProperty, readEntry, readSchema}
-use Rattle.laws.proofs.RecordsAt.{recordsAt, entry-forward, schema-at}
-use Rattle.records.specs.Answers.{isSome, distinctIn}
+use Rattle.laws.specs.Records.{recordsAt}
+use Rattle.laws.proofs.RecordsAt.{entry-forward, schema-at}
+use Rattle.laws.specs.ReadAnswers.{isSome}
+use Rattle.fields.specs.Answers.{distinctIn}
 use Rattle.records.proofs.ListLaws.{good-one, good-after, good-rest, distinct-not, distinct-rest, distinct-end}
-use Rattle.records.proofs.SameLaws.{entry-inside, entry-ends}
+use Rattle.fields.proofs.SameLaws.{entry-inside, entry-ends}
 use Rattle.records.proofs.lists.entries_distinct.Statement.{statement}
 use Rattle.records.proofs.lists.entries_distinct.Tie as tie
 

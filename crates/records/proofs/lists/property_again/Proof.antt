@@ -5,10 +5,12 @@ use mathlib.Core.Bool.{true}
 use mathlib.Core.Path.{_≡_, refl, sym, _∙_}
 use lib.ListN.{length}
 use Rattle.definitions.specs.Terms.{sameProperty, readEntry}
-use Rattle.records.specs.Answers.{isSome, againIn}
-use Rattle.laws.proofs.RecordsAt.{recordsAt, entry-forward}
+use Rattle.laws.specs.ReadAnswers.{isSome}
+use Rattle.fields.specs.Answers.{againIn}
+use Rattle.laws.specs.Records.{recordsAt}
+use Rattle.laws.proofs.RecordsAt.{entry-forward}
 use Rattle.records.proofs.ListLaws.{good-one, good-after, good-rest, again-here, again-rest, again-end}
-use Rattle.records.proofs.SameLaws.{entry-inside, entry-ends}
+use Rattle.fields.proofs.SameLaws.{entry-inside, entry-ends}
 use Rattle.records.proofs.lists.property_again.Statement.{statement}
 use Rattle.records.proofs.lists.property_again.Tie as tie
 

@@ -3,11 +3,12 @@ use Prim.Native.Nat.{_-_}
 use native.Mathlib.Omega.{arith}
 use mathlib.Core.Bool.{true}
 use mathlib.Core.Path.{_≡_, sym, ap, _∙_}
-use borrow.Author.Needs.{needs}
 use lib.ListN.{length}
 use Rattle.definitions.specs.Terms.{sameTerm, readTerm, readTerms}
-use Rattle.records.specs.Answers.{isSome, distinctIn}
-use Rattle.laws.proofs.RecordsAt.{recordsAt, term-forward, terms-at}
+use Rattle.laws.specs.ReadAnswers.{isSome}
+use Rattle.fields.specs.Answers.{distinctIn}
+use Rattle.laws.specs.Records.{recordsAt}
+use Rattle.laws.proofs.RecordsAt.{term-forward, terms-at}
 use Rattle.records.proofs.ListLaws.{good-one, good-after, good-rest, distinct-not, distinct-rest, distinct-end}
 use Rattle.records.proofs.lists.records_distinct.Statement.{statement}
 use Rattle.records.proofs.lists.records_distinct.Tie as tie

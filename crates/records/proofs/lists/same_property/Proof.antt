@@ -1,7 +1,7 @@
 -- `records::lists::same_property` meets its contract.
 use native.Mathlib.Omega.{arith}
 use borrow.Author.Needs.{needs}
-use Rattle.records.proofs.SameLaws.{entry-inside, same-properties}
+use Rattle.fields.proofs.SameLaws.{entry-inside, same-properties}
 use Rattle.records.proofs.lists.same_property.Statement.{statement}
 use Rattle.records.proofs.lists.same_property.Tie as tie
 

@@ -1,7 +1,7 @@
 -- `records::lists::same_term` meets its contract.
 use native.Mathlib.Omega.{arith}
 use borrow.Author.Needs.{needs}
-use Rattle.records.proofs.SameLaws.{term-next, same-terms}
+use Rattle.fields.proofs.SameLaws.{term-next, same-terms}
 use Rattle.records.proofs.lists.same_term.Statement.{statement}
 use Rattle.records.proofs.lists.same_term.Tie as tie
 

@@ -5,8 +5,10 @@ use mathlib.Core.Bool.{true}
 use mathlib.Core.Path.{_≡_, refl, sym, _∙_}
 use lib.ListN.{length}
 use Rattle.definitions.specs.Terms.{sameTerm, readTerm}
-use Rattle.records.specs.Answers.{isSome, againIn}
-use Rattle.laws.proofs.RecordsAt.{recordsAt, term-forward}
+use Rattle.laws.specs.ReadAnswers.{isSome}
+use Rattle.fields.specs.Answers.{againIn}
+use Rattle.laws.specs.Records.{recordsAt}
+use Rattle.laws.proofs.RecordsAt.{term-forward}
 use Rattle.records.proofs.ListLaws.{good-one, good-after, good-rest, again-here, again-rest, again-end}
 use Rattle.records.proofs.lists.term_again.Statement.{statement}
 use Rattle.records.proofs.lists.term_again.Tie as tie

@@ -1,7 +1,7 @@
 -- `records::lists::term_end` meets its contract.
 use native.Mathlib.Omega.{arith}
 use borrow.Author.Needs.{needs}
-use Rattle.records.proofs.SameLaws.{term-inside, term-ends, term-fits}
+use Rattle.fields.proofs.SameLaws.{term-inside, term-ends, term-fits}
 use Rattle.records.proofs.lists.term_end.Statement.{statement}
 use Rattle.records.proofs.lists.term_end.Tie as tie
 

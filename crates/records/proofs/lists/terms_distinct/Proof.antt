@@ -1,7 +1,7 @@
 -- `records::lists::terms_distinct` meets its contract.
 use mathlib.Core.Path.{ap, _∙_}
 use Rattle.definitions.specs.Terms.{sameTerm}
-use Rattle.records.specs.Answers.{distinctIn}
+use Rattle.fields.specs.Answers.{distinctIn}
 use Rattle.records.proofs.NumberingLaws.{listed-holds, listed-same}
 use borrow.Author.Needs.{needs}
 use Rattle.records.proofs.lists.terms_distinct.Statement.{statement}

@@ -1,23 +1,23 @@
--- `records::numbering::add_properties` meets its contract. The loop keeps what is asked of the rest equal to what is asked of the whole, and the marks of the terms so far.
+-- `records::numbering::add_properties` meets its contract. The loop keeps what is asked of the rest equal to what is asked of the whole, and the hashes of the terms so far.
 use Prim.Native.Nat.{_-_, _+_}
 use native.Mathlib.Omega.{arith}
 use mathlib.Core.Path.{_≡_, sym, _∙_}
 use borrow.Author.Needs.{needs}
+use Rattle.definitions.specs.Limits.{textWidth, termLimit}
 use lib.ListN.{length, length-take, drop}
-use Rattle.definitions.specs.Limits.{termLimit}
 use Rattle.definitions.specs.Saved.{termsIn}
-use Rattle.records.specs.Marks.{Marked}
-use Rattle.records.specs.Table.{listOf}
-use Rattle.records.proofs.SameLaws.{entry-inside}
-use Rattle.records.proofs.NumberingLaws.{Adding, holding-width, holds-of, count-marked, full-marked, entry-good, property-slot, adding-start, adding-end, adding-next, adding-full}
+use Rattle.table.specs.Hashes.{Hashed}
+use Rattle.table.specs.Table.{listOf}
+use Rattle.fields.proofs.SameLaws.{entry-inside}
+use Rattle.records.proofs.NumberingLaws.{Adding, holding-width, holds-of, count-hashed, full-hashed, entry-good, property-slot, adding-start, adding-end, adding-next, adding-full}
 use Rattle.records.proofs.numbering.add_properties.Statement.{statement}
 use Rattle.records.proofs.numbering.add_properties.Tie as tie
 
 abbrev Inv-loop : tie.InvT-loop
-Inv-loop schema table₀ n marks₀ used₀ at₀ table marks used at = Adding schema (listOf (termsIn table₀)) table at used × (length marks ≡ termLimit) × Marked table used marks
+Inv-loop schema table₀ n hashes₀ used₀ at₀ table hashes used at = Adding schema (listOf (termsIn table₀)) table at used × (length hashes ≡ termLimit) × Hashed table used hashes
 
 abbrev μ-loop : tie.MeasureT-loop
-μ-loop schema table₀ n marks₀ used₀ at₀ table marks used at = length schema - at
+μ-loop schema table₀ n hashes₀ used₀ at₀ table hashes used at = length schema - at
 
 loop-holds : tie.Need-loop-holds Inv-loop μ-loop
 loop-holds c = (adding-start _ _ _ (λ k. omega (arith, c .before .slice-known .given k)) (c .before .before .before .pre .0) (c .before .before .before .pre .1 .0), c .before .before .before .pre .1 .1 .0, c .before .before .before .pre .1 .1 .1)
@@ -38,7 +38,7 @@ part-slot-of-end : tie.Need-part-slot-of-end Inv-loop μ-loop
 part-slot-of-end c = omega (arith, entry-inside _ _ (entry-good _ _ _ _ _ (c .before .loop .inv .0) (c .loop-test .taken)))
 
 slot-of-requires : tie.Need-slot-of-requires Inv-loop μ-loop
-slot-of-requires c κs = omega (arith, entry-inside _ _ (entry-good _ _ _ _ _ (c .before .before .loop .inv .0) (c .before .loop-test .taken)), length-take (c .before .before .loop .at + 1 + 40 - (c .before .before .loop .at + 1)) (drop (c .before .before .loop .at + 1) (c .before .before .before .before .before .before .args .schema .now)))
+slot-of-requires c κs = omega (arith, entry-inside _ _ (entry-good _ _ _ _ _ (c .before .before .loop .inv .0) (c .before .loop-test .taken)), length-take (c .before .before .loop .at + 1 + textWidth - (c .before .before .loop .at + 1)) (drop (c .before .before .loop .at + 1) (c .before .before .before .before .before .before .args .schema .now)))
 
 slice-aggregate-add-term : tie.Need-slice-aggregate-add-term Inv-loop μ-loop
 slice-aggregate-add-term c = search needs
@@ -59,7 +59,7 @@ same-length-2 : tie.Need-same-length-2 Inv-loop μ-loop
 same-length-2 c = c .before .before .before .before .before .before .add-term .kept .1 .1 .0 ∙ c .before .before .before .before .before .before .before .before .before .before .before .before .before .loop .inv .1 ∙ sym (c .before .before .before .before .before .before .before .before .before .before .before .before .before .before .before .before .before .pre .1 .1 .0)
 
 returns : tie.Need-returns Inv-loop μ-loop
-returns c = let p = adding-full _ _ _ _ _ (c .before .before .before .before .before .before .before .before .before .before .before .before .before .loop .inv .0) (c .before .before .before .before .before .before .before .before .before .before .before .before .loop-test .taken) (c .before .before .before .before .before .before .before .before .before .before .slot-of .ensures) (c .before .before .before .before .before .before .add-term .ensures .0) (c .before .before .before .before .before .before .add-term .ensures .1) (c .enum-told .given .1) in (p .0, p .1, full-marked _ (c .before .before .before .before .before .before .add-term .last .1 .1 .0))
+returns c = let p = adding-full _ _ _ _ _ (c .before .before .before .before .before .before .before .before .before .before .before .before .before .loop .inv .0) (c .before .before .before .before .before .before .before .before .before .before .before .before .loop-test .taken) (c .before .before .before .before .before .before .before .before .before .before .slot-of .ensures) (c .before .before .before .before .before .before .add-term .ensures .0) (c .before .before .before .before .before .before .add-term .ensures .1) (c .enum-told .given .1) in (p .0, p .1, full-hashed _ (c .before .before .before .before .before .before .add-term .last .1 .1 .0))
 
 add-at : tie.Need-add-at Inv-loop μ-loop
 add-at c = omega (arith, entry-inside _ _ (entry-good _ _ _ _ _ (c .before .before .before .before .before .before .before .before .before .before .before .before .before .before .loop .inv .0) (c .before .before .before .before .before .before .before .before .before .before .before .before .before .loop-test .taken)))
@@ -77,7 +77,7 @@ same-length-4 : tie.Need-same-length-4 Inv-loop μ-loop
 same-length-4 c = c .before .loop .inv .1 ∙ sym (c .before .before .before .before .before .pre .1 .1 .0)
 
 returns-2 : tie.Need-returns-2 Inv-loop μ-loop
-returns-2 c = let p = adding-end _ _ _ _ _ (c .before .loop .inv .0) (c .loop-test .left) in (p .0, p .1, count-marked _ (c .before .loop .marks) _ (c .before .loop .inv .2))
+returns-2 c = let p = adding-end _ _ _ _ _ (c .before .loop .inv .0) (c .loop-test .left) in (p .0, p .1, count-hashed _ (c .before .loop .hashes) _ (c .before .loop .inv .2))
 
 pub add-properties-spec : {M : Type 1} → statement M
 add-properties-spec =

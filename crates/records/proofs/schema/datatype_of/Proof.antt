@@ -5,28 +5,28 @@ use mathlib.Core.Path.{sym, _∙_}
 use borrow.Author.Needs.{needs}
 use lib.ListN.{length}
 use lib.Seq.{length-take-le}
-use Rattle.records.specs.Marks.{entryWidth}
-use Rattle.records.proofs.SameLaws.{compared}
-use Rattle.records.proofs.PlaceLaws.{place-within}
+use Rattle.definitions.specs.Limits.{entryWidth}
+use Rattle.fields.proofs.SameLaws.{compared}
+use Rattle.table.proofs.PlaceLaws.{place-within}
 use Rattle.records.proofs.SchemaLaws.{code-end}
 use Rattle.records.proofs.EntryLaws.{AskedFrom, schema-whole, next-good, code-next, code-found, code-place, code-first}
 use Rattle.records.proofs.schema.datatype_of.Statement.{statement}
 use Rattle.records.proofs.schema.datatype_of.Tie as tie
 
 abbrev Inv-loop : tie.InvT-loop
-Inv-loop schema marks uri mark entries i₀ i = AskedFrom schema uri i
+Inv-loop schema hashes uri hash entries i₀ i = AskedFrom schema uri i
 
 abbrev μ-loop : tie.MeasureT-loop
-μ-loop schema marks uri mark entries i₀ i = entries - i
+μ-loop schema hashes uri hash entries i₀ i = entries - i
 
 slice-aggregate-place-of : tie.Need-slice-aggregate-place-of Inv-loop μ-loop
-slice-aggregate-place-of c = sym (length-take-le (length (c .before .before .before .before .args .schema .now) / entryWidth) (c .before .before .before .before .args .marks .now) (omega (arith, c .before .before .before .before .pre .1 .1 .0 .few, c .before .before .before .before .pre .1 .1 .0 .room)))
+slice-aggregate-place-of c = sym (length-take-le (length (c .before .before .before .before .args .schema .now) / entryWidth) (c .before .before .before .before .args .hashes .now) (omega (arith, c .before .before .before .before .pre .1 .1 .0 .few, c .before .before .before .before .pre .1 .1 .0 .room)))
 
 place-of-requires : tie.Need-place-of-requires Inv-loop μ-loop
 place-of-requires c κs = search needs
 
 loop-holds : tie.Need-loop-holds Inv-loop μ-loop
-loop-holds c = code-first (c .before .before .before .before .before .args .schema .now) (c .before .before .before .before .before .args .marks .now) _ (c .before .before .before .before .before .pre .1 .0) (c .before .before .before .before .before .pre .1 .1 .0) (c .before .before .before .before .before .pre .1 .1 .1) (c .before .before .before .before .before .pre .0) (c .place-of .ensures)
+loop-holds c = code-first (c .before .before .before .before .before .args .schema .now) (c .before .before .before .before .before .args .hashes .now) _ (c .before .before .before .before .before .pre .1 .0) (c .before .before .before .before .before .pre .1 .1 .0) (c .before .before .before .before .before .pre .1 .1 .1) (c .before .before .before .before .before .pre .0) (c .place-of .ensures)
 
 mul-at : tie.Need-mul-at Inv-loop μ-loop
 mul-at c = search needs
@@ -74,13 +74,13 @@ place-of-requires-2 : tie.Need-place-of-requires-2 Inv-loop μ-loop
 place-of-requires-2 c κs = search needs
 
 add-i : tie.Need-add-i Inv-loop μ-loop
-add-i c = omega (arith, c .before .before .before .before .before .before .before .before .before .before .before .before .pre .1 .1 .0 .few, place-within _ (c .before .before .before .before .before .before .before .before .before .before .before .before .args .marks .now) (length (c .before .before .before .before .before .before .before .before .before .before .before .before .args .schema .now) / entryWidth) (c .before .before .before .before .before .before .loop .i + 1) (omega (arith, c .before .before .before .before .before .before .before .before .before .before .before .before .pre .1 .1 .0 .few, c .before .before .before .before .before .before .before .before .before .before .before .before .pre .1 .1 .0 .room)) (omega (arith, c .before .before .before .before .before .loop-test .taken)) (c .place-of2 .ensures))
+add-i c = omega (arith, c .before .before .before .before .before .before .before .before .before .before .before .before .pre .1 .1 .0 .few, place-within _ (c .before .before .before .before .before .before .before .before .before .before .before .before .args .hashes .now) (length (c .before .before .before .before .before .before .before .before .before .before .before .before .args .schema .now) / entryWidth) (c .before .before .before .before .before .before .loop .i + 1) (omega (arith, c .before .before .before .before .before .before .before .before .before .before .before .before .pre .1 .1 .0 .few, c .before .before .before .before .before .before .before .before .before .before .before .before .pre .1 .1 .0 .room)) (omega (arith, c .before .before .before .before .before .loop-test .taken)) (c .place-of2 .ensures))
 
 loop-less : tie.Need-loop-less Inv-loop μ-loop
 loop-less c = search needs
 
 loop-again : tie.Need-loop-again Inv-loop μ-loop
-loop-again c = code-place (c .before .before .before .before .before .before .before .before .before .before .before .before .args .schema .now) (c .before .before .before .before .before .before .before .before .before .before .before .before .args .marks .now) _ (c .before .before .before .before .before .before .before .before .before .before .before .before .pre .1 .0) (c .before .before .before .before .before .before .before .before .before .before .before .before .pre .1 .1 .0) (c .before .before .before .before .before .before .before .before .before .before .before .before .pre .1 .1 .1) (c .before .before .before .before .before .before .loop .i + 1) (omega (arith, c .before .before .before .before .before .loop-test .taken)) (next-good (c .before .before .before .before .before .before .before .before .before .before .before .before .args .schema .now) (c .before .before .before .before .before .before .loop .i) (c .before .before .before .before .before .before .loop .inv .0) (c .before .before .before .before .before .loop-test .taken), c .before .before .before .before .before .before .loop .inv .1 ∙ code-next (c .before .before .before .before .before .before .before .before .before .before .before .before .args .schema .now) (c .before .before .before .before .before .before .loop .i) (c .before .before .before .before .before .before .loop .inv .0) (c .before .before .before .before .before .loop-test .taken) _ (c .before .before .before .before .before .before .before .before .before .before .before .before .pre .1 .0) (compared _ _ _ (c .before .before .before .same-bytes .ensures)) (c .before .before .if1 .left)) (c .place-of2 .ensures)
+loop-again c = code-place (c .before .before .before .before .before .before .before .before .before .before .before .before .args .schema .now) (c .before .before .before .before .before .before .before .before .before .before .before .before .args .hashes .now) _ (c .before .before .before .before .before .before .before .before .before .before .before .before .pre .1 .0) (c .before .before .before .before .before .before .before .before .before .before .before .before .pre .1 .1 .0) (c .before .before .before .before .before .before .before .before .before .before .before .before .pre .1 .1 .1) (c .before .before .before .before .before .before .loop .i + 1) (omega (arith, c .before .before .before .before .before .loop-test .taken)) (next-good (c .before .before .before .before .before .before .before .before .before .before .before .before .args .schema .now) (c .before .before .before .before .before .before .loop .i) (c .before .before .before .before .before .before .loop .inv .0) (c .before .before .before .before .before .loop-test .taken), c .before .before .before .before .before .before .loop .inv .1 ∙ code-next (c .before .before .before .before .before .before .before .before .before .before .before .before .args .schema .now) (c .before .before .before .before .before .before .loop .i) (c .before .before .before .before .before .before .loop .inv .0) (c .before .before .before .before .before .loop-test .taken) _ (c .before .before .before .before .before .before .before .before .before .before .before .before .pre .1 .0) (compared _ _ _ (c .before .before .before .same-bytes .ensures)) (c .before .before .if1 .left)) (c .place-of2 .ensures)
 
 returns-2 : tie.Need-returns-2 Inv-loop μ-loop
 returns-2 c = sym (c .before .loop .inv .1 ∙ code-end _ _ _ (c .before .before .before .before .before .before .before .pre .1 .0) (omega (arith, schema-whole (c .before .before .before .before .before .before .before .args .schema .now) (c .before .before .before .before .before .before .before .pre .0) .1)))

@@ -2,10 +2,11 @@
 use native.Mathlib.Omega.{arith}
 use mathlib.Core.Path.{refl, ap, _∙_}
 use borrow.Author.Needs.{needs}
+use Rattle.definitions.specs.Limits.{textWidth}
 use Rattle.definitions.specs.Bytes.{part}
 use Rattle.definitions.specs.Terms.{uriText, readSchema}
 use Rattle.definitions.specs.Types.{Datatype}
-use Rattle.records.specs.Marks.{markOf}
+use Rattle.table.specs.Hashes.{hashOf}
 use Rattle.records.proofs.SchemaLaws.{uri-field, uri-slot, no-schema-uri, schema-uri, least-literal, least-last, code-small}
 use Rattle.records.proofs.schema.least_type.Statement.{statement}
 use Rattle.records.proofs.schema.least_type.Tie as tie
@@ -22,17 +23,17 @@ part-datatype-of-start c = search needs
 part-datatype-of-end : tie.Need-part-datatype-of-end
 part-datatype-of-end c = search needs
 
-mark-of-requires : tie.Need-mark-of-requires
-mark-of-requires c κs = search needs
+hash-of-requires : tie.Need-hash-of-requires
+hash-of-requires c κs = search needs
 
 datatype-of-requires : tie.Need-datatype-of-requires
-datatype-of-requires c κs = (c .before .before .before .before .before .before .before .pre .0, (uri-field _ (c .before .before .before .before .before .before .before .pre .0) (c .before .before .before .before .before .before .before .args .slot .now) (c .before .before .before .before .before .before .before .pre .1 .1 .good) (c .before .before .match .keys1), (c .before .before .before .before .before .before .before .pre .1 .0, c .mark-of .ensures ∙ ap markOf (uri-slot _ (c .before .before .before .before .before .before .before .pre .0) (c .before .before .before .before .before .before .before .args .slot .now) (c .before .before .before .before .before .before .before .pre .1 .1 .good) (c .before .before .match .keys1) (c .before .before .before .before .before .before .before .pre .1 .1 .width) (λ k. omega (arith, c .before .before .before .before .shared-slice-known3 .given k))))))
+datatype-of-requires c κs = (c .before .before .before .before .before .before .before .pre .0, (uri-field (c .before .before .before .before .before .before .before .args .slot .now) (c .before .before .before .before .before .before .before .pre .1 .1 .good) (c .before .before .match .keys1), (c .before .before .before .before .before .before .before .pre .1 .0, c .hash-of .ensures ∙ ap hashOf (uri-slot (c .before .before .before .before .before .before .before .args .slot .now) (c .before .before .before .before .before .before .before .pre .1 .1 .good) (c .before .before .match .keys1) (c .before .before .before .before .before .before .before .pre .1 .1 .width) (λ k. omega (arith, c .before .before .before .before .shared-slice-known3 .given k))))))
 
 returns : tie.Need-returns
 returns c = no-schema-uri _ (c .before .before .before .before .before .before .before .before .before .pre .0) (c .before .before .before .before .before .before .before .before .before .args .slot .now) (c .before .before .before .before .before .before .before .before .before .pre .1 .1 .good) (c .before .before .before .before .match .keys1) (c .before .datatype-of .ensures) (c .if1 .taken)
 
 add-result : tie.Need-add-result
-add-result c = omega (arith, c .before .datatype-of .ensures, code-small (readSchema (c .before .before .before .before .before .before .before .before .before .args .schema .now)) (uriText (part (c .before .before .before .before .before .before .before .before .before .args .slot .now) 1 40)))
+add-result c = omega (arith, c .before .datatype-of .ensures, code-small (readSchema (c .before .before .before .before .before .before .before .before .before .args .schema .now)) (uriText (part (c .before .before .before .before .before .before .before .before .before .args .slot .now) 1 textWidth)))
 
 returns-2 : tie.Need-returns-2
 returns-2 c = schema-uri _ (c .before .before .before .before .before .before .before .before .before .pre .0) (c .before .before .before .before .before .before .before .before .before .args .slot .now) (c .before .before .before .before .before .before .before .before .before .pre .1 .1 .good) (c .before .before .before .before .match .keys1) (c .before .datatype-of .ensures) (c .if1 .left)
@@ -57,7 +58,7 @@ least-type-spec =
     sub-datatype-of
     part-datatype-of-start
     part-datatype-of-end
-    mark-of-requires
+    hash-of-requires
     datatype-of-requires
     returns
     add-result

@@ -6,6 +6,9 @@ use borrow.Author.Needs.{needs}
 use Rattle.soundness.proofs.control.control_sound.Statement.{statement}
 use Rattle.soundness.proofs.control.control_sound.Tie as tie
 
+cast-if1 : tie.Need-cast-if1
+cast-if1 c = search needs
+
 returns : tie.Need-returns
 returns c = λ card terms l. too-high _ _ _ _ _ card terms l (c .if1 .taken)
 
@@ -23,4 +26,4 @@ returns-3 c = λ card terms l. stack-holds _ _ _ _ _ card terms l (omega arith) 
 
 pub control-sound-spec : {M : Type 1} → statement M
 control-sound-spec =
-    tie.close (tie.spec returns stack-sound-requires returns-2 bindings-sound-requires returns-3)
+    tie.close (tie.spec cast-if1 returns stack-sound-requires returns-2 bindings-sound-requires returns-3)

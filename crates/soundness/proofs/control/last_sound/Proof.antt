@@ -2,7 +2,7 @@
 use native.Mathlib.Omega.{arith}
 use borrow.Author.Tests.{not-true, not-false}
 use Rattle.laws.proofs.Records.{script-inside}
-use Rattle.reader.proofs.BindLaws.{pairs-at, few-pairs}
+use Rattle.scope.proofs.BindLaws.{pairs-at, few-pairs}
 use Rattle.soundness.proofs.StackLaws.{last-idle, last-other, last-once, last-each}
 use borrow.Author.Needs.{needs}
 use Rattle.soundness.proofs.control.last_sound.Statement.{statement}

@@ -6,7 +6,7 @@ use mathlib.Core.Path.{_≡_, refl}
 use lib.Dec.{eqb}
 use lib.ListN.{length, drop}
 use Rattle.definitions.specs.Lists.{distinct}
-use Rattle.soundness.proofs.Looks.{distinct-none, distinct-next, distinct-stop}
+use Rattle.soundness.proofs.LookLaws.{distinct-none, distinct-next, distinct-stop}
 use Rattle.soundness.proofs.graphs.numbers_distinct.Statement.{statement}
 use Rattle.soundness.proofs.graphs.numbers_distinct.Tie as tie
 

@@ -1,21 +1,21 @@
 -- `soundness::quads::quad_again` meets its contract. The loop keeps what is asked of the rest equal to what is asked of the whole.
-use Rattle.soundness.proofs.MarkLaws.{marked-once}
+use Rattle.soundness.proofs.HashLaws.{hashed-once}
 use Prim.Native.Nat.{_+_, _*_, _≤_, _-_}
 use native.Mathlib.Omega.{arith}
 use borrow.Author.Needs.{needs}
 use mathlib.Core.Path.{_≡_, refl, sym, _∙_}
 use Rattle.definitions.specs.Lists.{some?}
 use Rattle.definitions.specs.Evaluate.{sameQuad}
-use Rattle.query.specs.Codes.{rowAt}
+use Rattle.laws.specs.Quads.{rowAt}
 use Rattle.soundness.proofs.QuadLaws.{rowsLeft, row-found, row-other, row-nowhere}
 use Rattle.soundness.proofs.quads.quad_again.Statement.{statement}
 use Rattle.soundness.proofs.quads.quad_again.Tie as tie
 
 abbrev Inv-loop : tie.InvT-loop
-Inv-loop rows n marks i j₀ from j = (i + 1 ≤ j) × (some? (sameQuad (rowAt rows (4 * i))) (rowsLeft rows n (i + 1)) ≡ some? (sameQuad (rowAt rows (4 * i))) (rowsLeft rows n j))
+Inv-loop rows n hashes i j₀ from j = (i + 1 ≤ j) × (some? (sameQuad (rowAt rows (4 * i))) (rowsLeft rows n (i + 1)) ≡ some? (sameQuad (rowAt rows (4 * i))) (rowsLeft rows n j))
 
 abbrev μ-loop : tie.MeasureT-loop
-μ-loop rows n marks i j₀ from j = n - j
+μ-loop rows n hashes i j₀ from j = n - j
 
 add-j : tie.Need-add-j Inv-loop μ-loop
 add-j c = search needs
@@ -42,7 +42,7 @@ is-in-requires : tie.Need-is-in-requires Inv-loop μ-loop
 is-in-requires c κs = search needs
 
 returns : tie.Need-returns Inv-loop μ-loop
-returns c = let a = c .before .before .before .before .before .before in marked-once (a .args .rows .now) (a .args .marks .now) (a .args .n) (a .pre .1 .0) (a .pre .1 .1 .0) (a .args .i) (a .pre .1 .1 .1) _ (c .before .is-in .ensures) (c .if1 .taken)
+returns c = let a = c .before .before .before .before .before .before in hashed-once (a .args .rows .now) (a .args .hashes .now) (a .args .n) (a .pre .1 .0) (a .pre .1 .1 .0) (a .args .i) (a .pre .1 .1 .1) _ (c .before .is-in .ensures) (c .if1 .taken)
 
 mul-from : tie.Need-mul-from Inv-loop μ-loop
 mul-from c = search needs

@@ -5,19 +5,19 @@ use borrow.Author.Needs.{needs}
 use mathlib.Core.Path.{_≡_, ap}
 use Rattle.definitions.specs.Lists.{distinct}
 use Rattle.definitions.specs.Evaluate.{sameQuad}
-use Rattle.query.specs.Codes.{rowsFrom}
+use Rattle.laws.specs.Quads.{rowsFrom}
 use Rattle.soundness.proofs.QuadLaws.{rowsLeft, rows-all, rows-differ, row-again, row-once}
 use Rattle.soundness.proofs.quads.quads_distinct.Statement.{statement}
 use Rattle.soundness.proofs.quads.quads_distinct.Tie as tie
 
 abbrev Inv-loop : tie.InvT-loop
-Inv-loop rows n marks i₀ i = distinct sameQuad (rowsFrom n rows 0) ≡ distinct sameQuad (rowsLeft rows n i)
+Inv-loop rows n hashes i₀ i = distinct sameQuad (rowsFrom n rows 0) ≡ distinct sameQuad (rowsLeft rows n i)
 
 abbrev μ-loop : tie.MeasureT-loop
-μ-loop rows n marks i₀ i = n - i
+μ-loop rows n hashes i₀ i = n - i
 
-mark-quads-requires : tie.Need-mark-quads-requires Inv-loop μ-loop
-mark-quads-requires c κs = search needs
+hash-quads-requires : tie.Need-hash-quads-requires Inv-loop μ-loop
+hash-quads-requires c κs = search needs
 
 loop-holds : tie.Need-loop-holds Inv-loop μ-loop
 loop-holds c = ap (distinct sameQuad) (rows-all (c .before .before .args .rows .now) (c .before .before .args .n))
@@ -26,7 +26,7 @@ slice-aggregate-quad-again : tie.Need-slice-aggregate-quad-again Inv-loop μ-loo
 slice-aggregate-quad-again c = search needs
 
 quad-again-requires : tie.Need-quad-again-requires Inv-loop μ-loop
-quad-again-requires c κs = let a = c .before .before .before .before .before in (a .pre .0, (search needs, (c .before .before .before .mark-quads .ensures, search needs)))
+quad-again-requires c κs = let a = c .before .before .before .before .before in (a .pre .0, (search needs, (c .before .before .before .hash-quads .ensures, search needs)))
 
 returns : tie.Need-returns Inv-loop μ-loop
 returns c = row-again (c .before .before .before .before .before .before .before .args .rows .now) (c .before .before .before .before .before .before .before .args .n) (c .before .before .before .before .loop .i) (c .before .before .before .before .loop .inv) (omega arith) (c .before .quad-again .ensures) (c .if1 .taken)
@@ -49,7 +49,7 @@ quads-distinct-spec =
     (tie.spec
     Inv-loop
     μ-loop
-    mark-quads-requires
+    hash-quads-requires
     loop-holds
     slice-aggregate-quad-again
     quad-again-requires

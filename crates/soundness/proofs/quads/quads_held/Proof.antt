@@ -4,7 +4,6 @@ use Rattle.soundness.proofs.QuadLaws.{too-many, held-is}
 use borrow.Author.Needs.{needs}
 use Rattle.soundness.proofs.quads.quads_held.Statement.{statement}
 use Rattle.soundness.proofs.quads.quads_held.Tie as tie
-use Rattle.records.proofs.numbers.is_zero.Reads as is-zero-reads
 
 returns : tie.Need-returns
 returns c = too-many _ _ (c .if1 .taken)

@@ -5,7 +5,7 @@ use borrow.Author.Needs.{needs}
 use borrow.Author.Tests.{not-true, not-false}
 use mathlib.Core.Path.{_≡_, sym, ap, _∙_}
 use Rattle.definitions.specs.Lists.{every}
-use Rattle.query.specs.Codes.{rowsFrom}
+use Rattle.laws.specs.Quads.{rowsFrom}
 use Rattle.soundness.specs.Store.{quadNumbers}
 use Rattle.soundness.proofs.QuadLaws.{rowsLeft, rows-all, row-fails, row-passes, rows-pass}
 use Rattle.soundness.proofs.quads.quads_sound.Statement.{statement}

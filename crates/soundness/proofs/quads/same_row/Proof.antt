@@ -1,6 +1,6 @@
 -- `soundness::quads::same_row` meets its contract. Each return is one law.
 use borrow.Author.Tests.{eq-eqb}
-use Rattle.query.specs.Codes.{rowAt}
+use Rattle.laws.specs.Quads.{rowAt}
 use Rattle.soundness.proofs.QuadLaws.{objects-differ, objects-same}
 use borrow.Author.Needs.{needs}
 use Rattle.soundness.proofs.quads.same_row.Statement.{statement}

@@ -1,7 +1,7 @@
 -- `soundness::store::quads_and_graphs` meets its contract. Each return is one law.
 use native.Mathlib.Omega.{arith}
 use Rattle.soundness.proofs.QuadLaws.{held-few}
-use Rattle.soundness.proofs.Whole.{never, not-held, bad-graphs, quads-twice, quads-all}
+use Rattle.soundness.proofs.Clauses.{never, not-held, bad-graphs, quads-twice, quads-all}
 use borrow.Author.Needs.{needs}
 use Rattle.soundness.proofs.store.quads_and_graphs.Statement.{statement}
 use Rattle.soundness.proofs.store.quads_and_graphs.Tie as tie

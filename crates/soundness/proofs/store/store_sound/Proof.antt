@@ -3,7 +3,7 @@ use native.Mathlib.Omega.{arith}
 use mathlib.Core.Path.{_≡_, sym}
 use lib.ListN.{length}
 use lib.Seq.{length-take-le}
-use Rattle.soundness.proofs.Whole.{never, bad-terms, many-graphs, store-sound}
+use Rattle.soundness.proofs.Clauses.{never, bad-terms, many-graphs, store-sound}
 use borrow.Author.Needs.{needs}
 use Rattle.soundness.proofs.store.store_sound.Statement.{statement}
 use Rattle.soundness.proofs.store.store_sound.Tie as tie

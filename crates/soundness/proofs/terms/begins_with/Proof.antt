@@ -4,9 +4,9 @@ use mathlib.Core.Path.{sym}
 use lib.Seq.{length-take-le}
 use Rattle.definitions.specs.Limits.{slotWidth}
 use native.Mathlib.Omega.{arith}
-use Rattle.records.proofs.TableLaws.{holds-few}
-use Rattle.soundness.proofs.Begins.{fewer, begins}
-use Rattle.records.proofs.SameLaws.{compared}
+use Rattle.table.proofs.TableLaws.{holds-few}
+use Rattle.soundness.proofs.BeginLaws.{fewer, begins}
+use Rattle.fields.proofs.SameLaws.{compared}
 use borrow.Author.Needs.{needs}
 use Rattle.soundness.proofs.terms.begins_with.Statement.{statement}
 use Rattle.soundness.proofs.terms.begins_with.Tie as tie

@@ -1,5 +1,5 @@
 -- `soundness::terms::terms_sound` meets its contract. Each return is one law.
-use Rattle.soundness.proofs.Begins.{begins-not, none-joined, terms-sound}
+use Rattle.soundness.proofs.BeginLaws.{begins-not, none-joined, terms-sound}
 use borrow.Author.Needs.{needs}
 use Rattle.soundness.proofs.terms.terms_sound.Statement.{statement}
 use Rattle.soundness.proofs.terms.terms_sound.Tie as tie

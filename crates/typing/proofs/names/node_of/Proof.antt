@@ -1,8 +1,8 @@
--- `names::node_of` meets its contract. Assumes nothing.
+-- `typing::names::node_of` meets its contract. Assumes nothing.
 use native.Mathlib.Omega.{arith}
 use borrow.Author.Needs.{needs}
-use Rattle.typing.proofs.TableLaws.{variable-in}
-use Rattle.typing.proofs.WalkLaws.{variable-node, known-node}
+use Rattle.facts.proofs.TableLaws.{variable-in}
+use Rattle.facts.proofs.WalkLaws.{variable-node, known-node}
 use Rattle.typing.proofs.names.node_of.Statement.{statement}
 use Rattle.typing.proofs.names.node_of.Tie as tie
 

@@ -1,6 +1,6 @@
--- `names::variable_place` meets its contract: open, unbound or fixed. Assumes nothing.
+-- `typing::names::variable_place` meets its contract: open, unbound or fixed. Assumes nothing.
 use borrow.Author.Needs.{needs}
-use Rattle.typing.proofs.WalkLaws.{open-placed, unbound-placed, fixed-placed}
+use Rattle.facts.proofs.WalkLaws.{open-placed, unbound-placed, fixed-placed}
 use Rattle.typing.proofs.names.variable_place.Statement.{statement}
 use Rattle.typing.proofs.names.variable_place.Tie as tie
 

@@ -1,4 +1,4 @@
--- `pairs::earlier` meets its contract: what stands already stands. Assumes nothing.
+-- `typing::pairs::earlier` meets its contract: what stands already stands. Assumes nothing.
 use Rattle.typing.proofs.PairLaws.{stands, first-said}
 use Rattle.typing.proofs.pairs.earlier.Statement.{statement}
 use Rattle.typing.proofs.pairs.earlier.Tie as tie

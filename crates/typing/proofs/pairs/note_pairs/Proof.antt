@@ -1,19 +1,20 @@
--- `pairs::note_pairs` meets its contract: the pairs left to note shrink by one. Assumes nothing.
+-- `typing::pairs::note_pairs` meets its contract: the pairs left to note shrink by one. Assumes nothing.
 use Prim.Native.Nat.{_+_, _-_, _*_, _≤_}
 use native.Mathlib.Omega.{arith}
 use borrow.Author.Needs.{needs}
 use mathlib.Core.Bool.{true}
 use mathlib.Core.Path.{_≡_, sym, _∙_}
+use Rattle.definitions.specs.Limits.{countOffset, pairsOffset}
 use Rattle.definitions.specs.Bytes.{byte}
 use Rattle.reader.proofs.PairLaws.{pairsFrom}
-use Rattle.reader.proofs.BindLaws.{few-pairs, pairs-read, pair-variable, pairs-rest}
+use Rattle.scope.proofs.BindLaws.{few-pairs, pairs-read, pair-variable, pairs-rest}
 use Rattle.typing.specs.Pairs.{pairsNoted}
 use Rattle.typing.proofs.PairLaws.{note-start, note-turn, note-done}
 use Rattle.typing.proofs.pairs.note_pairs.Statement.{statement}
 use Rattle.typing.proofs.pairs.note_pairs.Tie as tie
 
 abbrev Inv-loop : tie.InvT-loop
-Inv-loop script at count after₀ place₀ k₀ after place k = (pairsNoted count script (at + 3) after₀ ≡ pairsNoted (count - k) script place after) × (pairsFrom script count k place ≡ true) × (place ≡ at + 3 + 2 * k) × (k ≤ count)
+Inv-loop script at count after₀ place₀ k₀ after place k = (pairsNoted count script (at + pairsOffset) after₀ ≡ pairsNoted (count - k) script place after) × (pairsFrom script count k place ≡ true) × (place ≡ at + pairsOffset + 2 * k) × (k ≤ count)
 
 abbrev μ-loop : tie.MeasureT-loop
 μ-loop script at count after₀ place₀ k₀ after place k = count - k
@@ -28,13 +29,13 @@ add-place : tie.Need-add-place Inv-loop μ-loop
 add-place c = omega (arith, c .before .before .pre .room)
 
 loop-holds : tie.Need-loop-holds Inv-loop μ-loop
-loop-holds c = (note-start (c .before .before .args .script .now) (byte (c .before .before .args .script .now) (c .before .before .args .at + 2)) (c .before .before .args .at + 3) _, pairs-read (c .before .before .pre), omega arith, omega arith)
+loop-holds c = (note-start (c .before .before .args .script .now) (byte (c .before .before .args .script .now) (c .before .before .args .at + countOffset)) (c .before .before .args .at + pairsOffset) _, pairs-read (c .before .before .pre), omega arith, omega arith)
 
 shared-slice-read-v : tie.Need-shared-slice-read-v Inv-loop μ-loop
 shared-slice-read-v c = omega (arith, c .before .before .before .before .before .pre .room, few-pairs (c .before .before .before .before .before .pre))
 
 cast-v : tie.Need-cast-v Inv-loop μ-loop
-cast-v c = omega (arith, pair-variable (c .before .before .before .before .before .args .script .now) (byte (c .before .before .before .before .before .args .script .now) (c .before .before .before .before .before .args .at + 2)) (c .before .before .loop .k) (c .before .before .loop .place) (omega arith) (few-pairs (c .before .before .before .before .before .pre)) (c .before .before .loop .inv .1))
+cast-v c = omega (arith, pair-variable (c .before .before .before .before .before .args .script .now) (byte (c .before .before .before .before .before .args .script .now) (c .before .before .before .before .before .args .at + countOffset)) (c .before .before .loop .k) (c .before .before .loop .place) (omega arith) (few-pairs (c .before .before .before .before .before .pre)) (c .before .before .loop .inv .1))
 
 add-code : tie.Need-add-code Inv-loop μ-loop
 add-code c = omega (arith, c .before .before .before .before .before .pre .room, few-pairs (c .before .before .before .before .before .pre))
@@ -43,13 +44,13 @@ shared-slice-read-code : tie.Need-shared-slice-read-code Inv-loop μ-loop
 shared-slice-read-code c = omega (arith, c .before .before .before .before .before .before .pre .room, few-pairs (c .before .before .before .before .before .before .pre))
 
 array-read-earlier : tie.Need-array-read-earlier Inv-loop μ-loop
-array-read-earlier c = pair-variable (c .before .before .before .before .before .before .args .script .now) (byte (c .before .before .before .before .before .before .args .script .now) (c .before .before .before .before .before .before .args .at + 2)) (c .before .before .before .loop .k) (c .before .before .before .loop .place) (omega arith) (few-pairs (c .before .before .before .before .before .before .pre)) (c .before .before .before .loop .inv .1)
+array-read-earlier c = pair-variable (c .before .before .before .before .before .before .args .script .now) (byte (c .before .before .before .before .before .before .args .script .now) (c .before .before .before .before .before .before .args .at + countOffset)) (c .before .before .before .loop .k) (c .before .before .before .loop .place) (omega arith) (few-pairs (c .before .before .before .before .before .before .pre)) (c .before .before .before .loop .inv .1)
 
 earlier-requires : tie.Need-earlier-requires Inv-loop μ-loop
 earlier-requires c κs = search needs
 
 array-write-after : tie.Need-array-write-after Inv-loop μ-loop
-array-write-after c = pair-variable (c .before .before .before .before .before .before .before .args .script .now) (byte (c .before .before .before .before .before .before .before .args .script .now) (c .before .before .before .before .before .before .before .args .at + 2)) (c .before .before .before .before .loop .k) (c .before .before .before .before .loop .place) (omega arith) (few-pairs (c .before .before .before .before .before .before .before .pre)) (c .before .before .before .before .loop .inv .1)
+array-write-after c = pair-variable (c .before .before .before .before .before .before .before .args .script .now) (byte (c .before .before .before .before .before .before .before .args .script .now) (c .before .before .before .before .before .before .before .args .at + countOffset)) (c .before .before .before .before .loop .k) (c .before .before .before .before .loop .place) (omega arith) (few-pairs (c .before .before .before .before .before .before .before .pre)) (c .before .before .before .before .loop .inv .1)
 
 add-place-2 : tie.Need-add-place-2 Inv-loop μ-loop
 add-place-2 c = omega (arith, c .before .before .before .before .before .before .before .pre .room, few-pairs (c .before .before .before .before .before .before .before .pre))
@@ -61,10 +62,10 @@ loop-less : tie.Need-loop-less Inv-loop μ-loop
 loop-less c = omega (arith, c .before .before .before .before .before .before .before .pre .room)
 
 loop-again : tie.Need-loop-again Inv-loop μ-loop
-loop-again c = (c .before .before .before .before .loop .inv .0 ∙ note-turn (c .before .before .before .before .before .before .before .args .script .now) (byte (c .before .before .before .before .before .before .before .args .script .now) (c .before .before .before .before .before .before .before .args .at + 2)) (c .before .before .before .before .loop .k) (c .before .before .before .before .loop .place) (c .before .before .before .before .loop .after) (omega arith) (c .earlier .ensures), pairs-rest (c .before .before .before .before .before .before .before .args .script .now) (byte (c .before .before .before .before .before .before .before .args .script .now) (c .before .before .before .before .before .before .before .args .at + 2)) (c .before .before .before .before .loop .k) (c .before .before .before .before .loop .place) (omega arith) (few-pairs (c .before .before .before .before .before .before .before .pre)) (c .before .before .before .before .loop .inv .1), omega arith, omega arith)
+loop-again c = (c .before .before .before .before .loop .inv .0 ∙ note-turn (c .before .before .before .before .before .before .before .args .script .now) (byte (c .before .before .before .before .before .before .before .args .script .now) (c .before .before .before .before .before .before .before .args .at + countOffset)) (c .before .before .before .before .loop .k) (c .before .before .before .before .loop .place) (c .before .before .before .before .loop .after) (omega arith) (c .earlier .ensures), pairs-rest (c .before .before .before .before .before .before .before .args .script .now) (byte (c .before .before .before .before .before .before .before .args .script .now) (c .before .before .before .before .before .before .before .args .at + countOffset)) (c .before .before .before .before .loop .k) (c .before .before .before .before .loop .place) (omega arith) (few-pairs (c .before .before .before .before .before .before .before .pre)) (c .before .before .before .before .loop .inv .1), omega arith, omega arith)
 
 returns : tie.Need-returns Inv-loop μ-loop
-returns c = sym (c .before .loop .inv .0 ∙ note-done (c .before .before .before .before .args .script .now) (byte (c .before .before .before .before .args .script .now) (c .before .before .before .before .args .at + 2)) (c .before .loop .k) (c .before .loop .place) (c .before .loop .after) (omega arith))
+returns c = sym (c .before .loop .inv .0 ∙ note-done (c .before .before .before .before .args .script .now) (byte (c .before .before .before .before .args .script .now) (c .before .before .before .before .args .at + countOffset)) (c .before .loop .k) (c .before .loop .place) (c .before .loop .after) (omega arith))
 
 pub note-pairs-spec : {M : Type 1} → statement M
 note-pairs-spec =

@@ -1,5 +1,5 @@
--- `typer::type_of_script` meets its contract: what the walk noted, read off. Assumes nothing.
-use Rattle.reader.proofs.WholeLaws.{whole-loads}
+-- `typing::typer::type_of_script` meets its contract: what the walk noted, read off. Assumes nothing.
+use Rattle.scope.proofs.RootLaws.{whole-loads}
 use Rattle.typing.proofs.TyperLaws.{fresh-joined, typed}
 use borrow.Author.Needs.{needs}
 use Rattle.typing.proofs.typer.type_of_script.Statement.{statement}

@@ -1,4 +1,4 @@
--- `typer::work_out` meets its contract: the script's own written types. Assumes nothing.
+-- `typing::typer::work_out` meets its contract: the script's own written types. Assumes nothing.
 use Rattle.typing.proofs.TyperLaws.{typed-as-written}
 use borrow.Author.Needs.{needs}
 use Rattle.typing.proofs.typer.work_out.Statement.{statement}

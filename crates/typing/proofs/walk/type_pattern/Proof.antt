@@ -1,31 +1,26 @@
--- `walk::type_pattern` meets its contract: four names, one after the other. Assumes nothing.
+-- `typing::walk::type_pattern` meets its contract: four names, one after the other. Assumes nothing.
 use native.Mathlib.Omega.{arith}
 use mathlib.Core.Path.{refl}
 use borrow.Author.Needs.{needs}
-use Rattle.laws.proofs.Walking.{first-loads}
-use Rattle.laws.proofs.Walked.{four-first, four-second, four-two, four-walked, second-walks}
-use Rattle.typing.proofs.TableLaws.{merged-joined}
-use Rattle.typing.proofs.WalkLaws.{pattern-noted, placed-in}
+use Rattle.laws.proofs.Productions.{four-at}
+use Rattle.facts.proofs.TableLaws.{merged-joined}
+use Rattle.facts.proofs.WalkLaws.{pattern-noted, placed-in}
 use Rattle.typing.proofs.walk.type_pattern.Statement.{statement}
 use Rattle.typing.proofs.walk.type_pattern.Tie as tie
 
 name-at-requires : tie.Need-name-at-requires
-name-at-requires c κs = (four-first _ _ _ refl (c .before .before .before .pre .0), c .before .before .before .pre .1 .0)
+name-at-requires c κs = let p = c .before .before .before .pre in (four-at (p .0) refl .first, p .1 .0)
 
 name-at-requires-2 : tie.Need-name-at-requires-2
-name-at-requires-2 c κs = (four-second _ _ _ refl (c .name-at .ensures) (c .before .before .before .before .pre .0), c .before .before .before .before .pre .1 .0)
+name-at-requires-2 c κs = let p = c .before .before .before .before .pre in (four-at (p .0) refl .second (c .name-at .ensures), p .1 .0)
 
 name-at-requires-3 : tie.Need-name-at-requires-3
-name-at-requires-3 c κs = (first-loads _ _ _ _ (four-two _ _ _ refl (c .before .name-at .ensures) (c .name-at2 .ensures)) (c .before .before .before .before .before .pre .0), c .before .before .before .before .before .pre .1 .0)
+name-at-requires-3 c κs = let p = c .before .before .before .before .before .pre in (four-at (p .0) refl .third (c .before .name-at .ensures) (c .name-at2 .ensures), p .1 .0)
 
 name-at-requires-4 : tie.Need-name-at-requires-4
-name-at-requires-4 c κs = (second-walks _ _ _ _ (four-two _ _ _ refl (c .before .before .name-at .ensures) (c .before .name-at2 .ensures)) (c .name-at3 .ensures) (c .before .before .before .before .before .before .pre .0), c .before .before .before .before .before .before .pre .1 .0)
-
-node-of-requires : tie.Need-node-of-requires
-node-of-requires c κs = search needs
-
-node-of-requires-2 : tie.Need-node-of-requires-2
-node-of-requires-2 c κs = search needs
+name-at-requires-4 c κs =
+    let p = c .before .before .before .before .before .before .pre in
+    (four-at (p .0) refl .fourth (c .before .before .name-at .ensures) (c .before .name-at2 .ensures) (c .name-at3 .ensures), p .1 .0)
 
 merged-requires : tie.Need-merged-requires
 merged-requires c κs = (c .before .before .before .before .before .before .before .before .before .pre .1 .1, c .before .node-of .ensures .1, omega arith)
@@ -37,19 +32,15 @@ related-requires : tie.Need-related-requires
 related-requires c κs = (merged-joined _ _ _ (merged-joined _ _ _ (c .before .before .before .before .before .before .before .before .before .before .before .pre .1 .1) (c .before .before .before .node-of .ensures .1) (omega arith) (c .before .merged .ensures)) (c .before .before .node-of2 .ensures .1) (omega arith) (c .merged2 .ensures), placed-in _ _ (c .before .before .before .before .before .name-at3 .ensures), placed-in _ _ (c .before .before .before .before .name-at4 .ensures))
 
 returns : tie.Need-returns
-returns c = four-walked _ _ _ refl (c .before .before .before .before .before .before .before .before .name-at .ensures) (c .before .before .before .before .before .before .before .name-at2 .ensures) (c .before .before .before .before .before .before .name-at3 .ensures) (c .before .before .before .before .before .name-at4 .ensures) (λ g s p o hg hs hp ho. pattern-noted _ _ g s p o (c .before .before .before .before .before .before .before .before .before .before .before .before .pre .1 .1) hg (c .before .before .before .before .node-of .ensures) (c .before .before .merged .ensures) hs (c .before .before .before .node-of2 .ensures) (c .before .merged2 .ensures) hp ho (c .related .ensures))
+returns c =
+    let d = c .before .before .before .before .before in
+    let p = d .before .before .before .before .before .before .before .pre in
+    four-at (p .0) refl .node (d .before .before .before .name-at .ensures) (d .before .before .name-at2 .ensures) (d .before .name-at3 .ensures) (d .name-at4 .ensures)
+    (λ g s q o hg hs hq ho. pattern-noted _ _ g s q o (p .1 .1) hg (c .before .before .before .before .node-of .ensures) (c .before .before .merged .ensures) hs
+    (c .before .before .before .node-of2 .ensures) (c .before .merged2 .ensures) hq ho (c .related .ensures))
 
 pub type-pattern-spec : {M : Type 1} → statement M
 type-pattern-spec =
     tie.close
-    (tie.spec
-    name-at-requires
-    name-at-requires-2
-    name-at-requires-3
-    name-at-requires-4
-    node-of-requires
-    node-of-requires-2
-    merged-requires
-    merged-requires-2
-    related-requires
-    returns)
+    (tie.spec name-at-requires name-at-requires-2 name-at-requires-3 name-at-requires-4 (λ c κs. search needs) (λ c κs. search needs) merged-requires
+    merged-requires-2 related-requires returns)

@@ -1,10 +1,10 @@
--- `values::calendar::in_year` meets its contract, by the laws of Calendars.
+-- `values::calendar::in_year` meets its contract, by the laws of CalendarLaws.
 use Prim.Native.Nat.{suc, _-_, _≤_}
 use mathlib.Core.Path.{_≡_, refl, sym, ap}
 use native.Mathlib.Omega.{arith}
 use lib.ListN.{length, drop}
 use Rattle.definitions.specs.Calendar.{monthFrom, monthLengths}
-use Rattle.values.proofs.Calendars.{monthsWith, lengths-are, date-found, month-passed, date-after}
+use Rattle.values.proofs.CalendarLaws.{monthsWith, lengths-are, date-found, month-passed, date-after}
 use Rattle.values.proofs.calendar.in_year.Statement.{statement}
 use Rattle.values.proofs.calendar.in_year.Tie as tie
 

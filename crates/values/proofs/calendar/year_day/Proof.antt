@@ -1,7 +1,7 @@
--- `values::calendar::year_day` meets its contract, by the laws of Calendars.
+-- `values::calendar::year_day` meets its contract, by the laws of CalendarLaws.
 use native.Mathlib.Omega.{arith}
 use mathlib.Core.Path.{refl}
-use Rattle.values.proofs.Calendars.{by-cycles, year-small}
+use Rattle.values.proofs.CalendarLaws.{by-cycles, year-small}
 use borrow.Author.Needs.{needs}
 use Rattle.values.proofs.calendar.year_day.Statement.{statement}
 use Rattle.values.proofs.calendar.year_day.Tie as tie

@@ -1,5 +1,5 @@
--- `values::line::push` meets its contract, by the laws of Writing.
-use Rattle.values.proofs.Writing.{puts-byte}
+-- `values::line::push` meets its contract, by the laws of LineLaws.
+use Rattle.values.proofs.LineLaws.{puts-byte}
 use borrow.Author.Needs.{needs}
 use Rattle.values.proofs.line.push.Statement.{statement}
 use Rattle.values.proofs.line.push.Tie as tie

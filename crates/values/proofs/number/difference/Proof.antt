@@ -1,6 +1,6 @@
--- `values::number::difference` meets its contract, by the laws of Signed.
+-- `values::number::difference` meets its contract, by the laws of SignedLaws.
 use lib.IntN.{_-ℤ_}
-use Rattle.values.proofs.Signed.{op-fits, op-is, difference-small}
+use Rattle.values.proofs.SignedLaws.{op-fits, op-is, difference-small}
 use Rattle.values.proofs.number.difference.Statement.{statement}
 use Rattle.values.proofs.number.difference.Tie as tie
 

@@ -1,7 +1,7 @@
--- `values::number::distance` meets its contract, by the laws of Signed.
+-- `values::number::distance` meets its contract, by the laws of SignedLaws.
 use native.Mathlib.Omega.{arith}
 use lib.IntN.{pos, _-ℤ_}
-use Rattle.values.proofs.Signed.{op-fits, negated-small, negated-is, kept-is}
+use Rattle.values.proofs.SignedLaws.{op-fits, negated-small, negated-is, kept-is}
 use Rattle.values.proofs.number.distance.Statement.{statement}
 use Rattle.values.proofs.number.distance.Tie as tie
 

@@ -1,5 +1,5 @@
--- `values::number::is_same` meets its contract, by the laws of Signed.
-use Rattle.values.proofs.Signed.{same-is}
+-- `values::number::is_same` meets its contract, by the laws of SignedLaws.
+use Rattle.values.proofs.SignedLaws.{same-is}
 use Rattle.values.proofs.number.is_same.Statement.{statement}
 use Rattle.values.proofs.number.is_same.Tie as tie
 

@@ -1,7 +1,7 @@
--- `values::number::scaled` meets its contract, by the laws of Signed.
+-- `values::number::scaled` meets its contract, by the laws of SignedLaws.
 use native.Mathlib.Omega.{arith}
 use lib.IntN.{pos, _*ℤ_}
-use Rattle.values.proofs.Signed.{op-fits, op-is, scaled-small}
+use Rattle.values.proofs.SignedLaws.{op-fits, op-is, scaled-small}
 use Rattle.values.proofs.number.scaled.Statement.{statement}
 use Rattle.values.proofs.number.scaled.Tie as tie
 

@@ -1,6 +1,6 @@
--- `values::number::sum` meets its contract, by the laws of Signed.
+-- `values::number::sum` meets its contract, by the laws of SignedLaws.
 use lib.IntN.{_+ℤ_}
-use Rattle.values.proofs.Signed.{op-fits, op-is, sum-small}
+use Rattle.values.proofs.SignedLaws.{op-fits, op-is, sum-small}
 use Rattle.values.proofs.number.sum.Statement.{statement}
 use Rattle.values.proofs.number.sum.Tie as tie
 

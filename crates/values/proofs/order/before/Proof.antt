@@ -1,12 +1,12 @@
--- `values::order::before` meets its contract, by the laws of Fields and Orders.
+-- `values::order::before` meets its contract, by the laws of FieldLaws and OrderLaws.
 use native.Mathlib.Omega.{arith}
 use Rattle.definitions.specs.Terms.{textByte}
-use Rattle.values.proofs.Fields.{byte-passes}
-use Rattle.values.proofs.Orders.{order-start, order-end, order-first, order-other, order-more, order-out}
+use Rattle.matching.proofs.FieldLaws.{byte-passes}
+use Rattle.values.proofs.OrderLaws.{order-start, order-end, order-first, order-other, order-more, order-out}
 use Prim.Native.Nat.{_-_}
 use lib.ListN.{length}
 use Rattle.definitions.specs.Values.{rankIn}
-use Rattle.values.proofs.Orders.{Ordered}
+use Rattle.values.proofs.OrderLaws.{Ordered}
 use Rattle.values.proofs.order.before.Statement.{statement}
 use Rattle.values.proofs.order.before.Tie as tie
 

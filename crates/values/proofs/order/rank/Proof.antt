@@ -1,7 +1,7 @@
--- `values::order::rank` meets its contract, by the laws of Orders.
+-- `values::order::rank` meets its contract, by the laws of OrderLaws.
 use mathlib.Core.Path.{refl}
 use Rattle.definitions.specs.Values.{rankIn}
-use Rattle.values.proofs.Orders.{place}
+use Rattle.values.proofs.OrderLaws.{place}
 use borrow.Author.Needs.{needs}
 use Rattle.values.proofs.order.rank.Statement.{statement}
 use Rattle.values.proofs.order.rank.Tie as tie

@@ -1,12 +1,12 @@
--- `values::order::same` meets its contract, by the laws of Fields and Orders.
+-- `values::order::same` meets its contract, by the laws of FieldLaws and OrderLaws.
 use native.Mathlib.Omega.{arith}
 use mathlib.Core.Path.{refl}
-use Rattle.values.proofs.Orders.{same-out, same-end, same-more, same-other}
+use Rattle.values.proofs.OrderLaws.{same-out, same-end, same-more, same-other}
 use Prim.Native.Nat.{_-_, _≤_}
 use mathlib.Core.Path.{_≡_}
 use lib.ListN.{length}
 use Rattle.definitions.specs.Bytes.{sameBytes, unfilled}
-use Rattle.values.proofs.Fields.{rest}
+use Rattle.matching.proofs.FieldLaws.{rest}
 use Rattle.values.proofs.order.same.Statement.{statement}
 use Rattle.values.proofs.order.same.Tie as tie
 

@@ -1,5 +1,5 @@
--- `values::slot::in_slot` meets its contract, by the laws of SlotValues.
-use Rattle.values.proofs.SlotValues.{uri-holds, string-holds, integer-holds, decimal-holds, dateTime-holds}
+-- `values::slot::in_slot` meets its contract, by the laws of SlotLaws.
+use Rattle.values.proofs.SlotLaws.{uri-holds, string-holds, integer-holds, decimal-holds, dateTime-holds}
 use borrow.Author.Needs.{needs}
 use Rattle.values.proofs.slot.in_slot.Statement.{statement}
 use Rattle.values.proofs.slot.in_slot.Tie as tie

@@ -1,5 +1,5 @@
--- `values::slot::number_of` meets its contract, by the laws of SlotValues.
-use Rattle.values.proofs.SlotValues.{number-held}
+-- `values::slot::number_of` meets its contract, by the laws of SlotLaws.
+use Rattle.values.proofs.SlotLaws.{number-held}
 use borrow.Author.Needs.{needs}
 use Rattle.values.proofs.slot.number_of.Statement.{statement}
 use Rattle.values.proofs.slot.number_of.Tie as tie

@@ -1,8 +1,9 @@
--- `values::slot::tag_at` meets its contract, by the laws of SlotValues.
+-- `values::slot::tag_at` meets its contract, by the laws of SlotLaws.
 use mathlib.Core.Path.{refl}
 use lib.ListN.{replicate}
-use Rattle.values.proofs.SlotValues.{copied}
+use Rattle.values.proofs.SlotLaws.{copied}
 use borrow.Author.Needs.{needs}
+use Rattle.definitions.specs.Limits.{tagWidth}
 use Rattle.values.proofs.slot.tag_at.Statement.{statement}
 use Rattle.values.proofs.slot.tag_at.Tie as tie
 
@@ -25,7 +26,7 @@ copy-requires : tie.Need-copy-requires
 copy-requires c κs = search needs
 
 returns : tie.Need-returns
-returns c = copied (c .before .before .before .before .before .args .slot .now) (replicate 8 0) (c .before .before .before .before .before .args .at) 8 (c .before .before .before .before .before .pre) refl (c .before .copy .last .1 .0) (c .before .copy .ensures .1)
+returns c = copied (c .before .before .before .before .before .args .slot .now) (replicate tagWidth 0) (c .before .before .before .before .before .args .at) tagWidth (c .before .before .before .before .before .pre) refl (c .before .copy .last .1 .0) (c .before .copy .ensures .1)
 
 pub tag-at-spec : {M : Type 1} → statement M
 tag-at-spec =

@@ -1,8 +1,9 @@
--- `values::slot::text_at` meets its contract, by the laws of SlotValues.
+-- `values::slot::text_at` meets its contract, by the laws of SlotLaws.
 use mathlib.Core.Path.{refl}
 use lib.ListN.{replicate}
-use Rattle.values.proofs.SlotValues.{copied}
+use Rattle.values.proofs.SlotLaws.{copied}
 use borrow.Author.Needs.{needs}
+use Rattle.definitions.specs.Limits.{textWidth}
 use Rattle.values.proofs.slot.text_at.Statement.{statement}
 use Rattle.values.proofs.slot.text_at.Tie as tie
 
@@ -25,7 +26,7 @@ copy-requires : tie.Need-copy-requires
 copy-requires c κs = search needs
 
 returns : tie.Need-returns
-returns c = copied (c .before .before .before .before .before .args .slot .now) (replicate 40 0) (c .before .before .before .before .before .args .at) 40 (c .before .before .before .before .before .pre) refl (c .before .copy .last .1 .0) (c .before .copy .ensures .1)
+returns c = copied (c .before .before .before .before .before .args .slot .now) (replicate textWidth 0) (c .before .before .before .before .before .args .at) textWidth (c .before .before .before .before .before .pre) refl (c .before .copy .last .1 .0) (c .before .copy .ensures .1)
 
 pub text-at-spec : {M : Type 1} → statement M
 text-at-spec =

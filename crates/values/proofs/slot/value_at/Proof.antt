@@ -1,8 +1,9 @@
--- `values::slot::value_at` meets its contract, by the laws of TextTests.
+-- `values::slot::value_at` meets its contract, by the laws of TestLaws.
 use mathlib.Core.Path.{ap, _∙_}
 use Rattle.definitions.specs.Saved.{slotTerm}
-use Rattle.values.proofs.TextTests.{part-is, part-length}
+use Rattle.fields.proofs.PartLaws.{some-part, part-long}
 use borrow.Author.Needs.{needs}
+use Rattle.definitions.specs.Limits.{slotWidth}
 use Rattle.values.proofs.slot.value_at.Statement.{statement}
 use Rattle.values.proofs.slot.value_at.Tie as tie
 
@@ -19,10 +20,10 @@ part-in-slot-end : tie.Need-part-in-slot-end
 part-in-slot-end c = search needs
 
 in-slot-requires : tie.Need-in-slot-requires
-in-slot-requires c κs = part-length (c .before .before .args .table .now) (c .before .before .args .at) 49 (c .before .before .pre)
+in-slot-requires c κs = part-long (c .before .before .args .table .now) (c .before .before .args .at) slotWidth (c .before .before .pre)
 
 returns : tie.Need-returns
-returns c = λ t e. c .in-slot .ensures t (ap slotTerm (part-is (c .before .before .before .args .table .now) (c .before .before .before .args .at) 49) ∙ e)
+returns c = λ t e. c .in-slot .ensures t (ap slotTerm (some-part (c .before .before .before .args .table .now) (c .before .before .before .args .at) slotWidth) ∙ e)
 
 pub value-at-spec : {M : Type 1} → statement M
 value-at-spec =

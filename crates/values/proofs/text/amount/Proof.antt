@@ -1,5 +1,5 @@
--- `values::text::amount` meets its contract, by the laws of Strings.
-use Rattle.values.proofs.Strings.{cast-fits, amount-is}
+-- `values::text::amount` meets its contract, by the laws of TextLaws.
+use Rattle.values.proofs.TextLaws.{cast-fits, amount-is}
 use borrow.Author.Needs.{needs}
 use Rattle.values.proofs.text.amount.Statement.{statement}
 use Rattle.values.proofs.text.amount.Tie as tie

@@ -1,10 +1,10 @@
--- `values::text::date_time` meets its contract, by the laws of Calendars and Strings.
+-- `values::text::date_time` meets its contract, by the laws of CalendarLaws and TextLaws.
 use native.Mathlib.Omega.{arith}
-use Prim.Native.Nat.{_/_, _%_}
+use Prim.Native.Nat.{_%_}
 use Rattle.definitions.specs.Bytes.{filled}
 use Rattle.values.specs.Dates.{meantDate}
-use Rattle.values.proofs.Calendars.{date-is}
-use Rattle.values.proofs.Strings.{dateTime-written, date-length, time-length}
+use Rattle.values.proofs.CalendarLaws.{date-is}
+use Rattle.values.proofs.TextLaws.{dateTime-written, date-length, time-length}
 use borrow.Author.Needs.{needs}
 use Rattle.values.proofs.text.date_time.Statement.{statement}
 use Rattle.values.proofs.text.date_time.Tie as tie

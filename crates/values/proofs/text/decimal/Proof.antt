@@ -1,8 +1,8 @@
--- `values::text::decimal` meets its contract, by the laws of Strings and Writing.
+-- `values::text::decimal` meets its contract, by the laws of TextLaws and LineLaws.
 use native.Mathlib.Omega.{arith}
 use Prim.Native.Nat.{_/_}
-use Rattle.values.proofs.Writing.{short-length}
-use Rattle.values.proofs.Strings.{decimal-written}
+use Rattle.values.proofs.LineLaws.{short-length}
+use Rattle.values.proofs.TextLaws.{decimal-written}
 use borrow.Author.Needs.{needs}
 use Rattle.values.proofs.text.decimal.Statement.{statement}
 use Rattle.values.proofs.text.decimal.Tie as tie

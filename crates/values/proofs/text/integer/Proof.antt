@@ -1,5 +1,5 @@
--- `values::text::integer` meets its contract, by the laws of Strings.
-use Rattle.values.proofs.Strings.{integer-written}
+-- `values::text::integer` meets its contract, by the laws of TextLaws.
+use Rattle.values.proofs.TextLaws.{integer-written}
 use borrow.Author.Needs.{needs}
 use Rattle.values.proofs.text.integer.Statement.{statement}
 use Rattle.values.proofs.text.integer.Tie as tie

@@ -1,8 +1,7 @@
--- `values::text::put_date` meets its contract, by the laws of Strings and Writing.
+-- `values::text::put_date` meets its contract, by the laws of TextLaws and LineLaws.
 use native.Mathlib.Omega.{arith}
-use Prim.Native.Nat.{_/_, _%_}
-use Rattle.values.proofs.Writing.{digits-length}
-use Rattle.values.proofs.Strings.{date-puts}
+use Rattle.values.proofs.LineLaws.{digits-length}
+use Rattle.values.proofs.TextLaws.{date-puts}
 use Rattle.values.specs.Dates.{meantDate}
 use borrow.Author.Needs.{needs}
 use Rattle.values.proofs.text.put_date.Statement.{statement}

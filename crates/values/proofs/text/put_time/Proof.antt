@@ -1,8 +1,8 @@
--- `values::text::put_time` meets its contract, by the laws of Strings and Writing.
+-- `values::text::put_time` meets its contract, by the laws of TextLaws and LineLaws.
 use native.Mathlib.Omega.{arith}
 use Prim.Native.Nat.{_/_, _%_}
-use Rattle.values.proofs.Writing.{digits-length}
-use Rattle.values.proofs.Strings.{time-puts}
+use Rattle.values.proofs.LineLaws.{digits-length}
+use Rattle.values.proofs.TextLaws.{time-puts}
 use borrow.Author.Needs.{needs}
 use Rattle.values.proofs.text.put_time.Statement.{statement}
 use Rattle.values.proofs.text.put_time.Tie as tie

@@ -1,5 +1,5 @@
--- `values::text::sign` meets its contract, by the laws of Strings.
-use Rattle.values.proofs.Strings.{sign-minus, sign-none}
+-- `values::text::sign` meets its contract, by the laws of TextLaws.
+use Rattle.values.proofs.TextLaws.{sign-minus, sign-none}
 use Rattle.definitions.specs.Bytes.{filled}
 use borrow.Author.Needs.{needs}
 use Rattle.values.proofs.text.sign.Statement.{statement}

@@ -1,6 +1,6 @@
--- `values::text::since_start` meets its contract, by the laws of Arithmetic and Strings.
-use Rattle.values.proofs.Strings.{since-fits, since-is}
-use Rattle.values.proofs.Arithmetic.{plain, dateTime-decimal}
+-- `values::text::since_start` meets its contract, by the laws of ArithmeticLaws and TextLaws.
+use Rattle.values.proofs.TextLaws.{since-fits, since-is}
+use Rattle.values.proofs.ArithmeticLaws.{plain, dateTime-decimal}
 use Rattle.definitions.specs.Terms.{withinLimits}
 use Rattle.values.proofs.text.since_start.Statement.{statement}
 use Rattle.values.proofs.text.since_start.Tie as tie

@@ -1,0 +1,6 @@
+pub mod RefusalNumbers
+pub mod CardLaws
+pub mod ScriptLaws
+pub mod LeastLaws
+pub mod ReadyLaws
+pub mod CheckLaws

@@ -1,0 +1,33 @@
+-- `card::refusals::script_refusal` meets its contract.
+use mathlib.Core.Path.{sym, _∙_}
+use borrow.Author.Tests.{not-false}
+use Rattle.card.proofs.ScriptLaws.{many-entries, long-script, malformed, out-of-scope, script-passes}
+use borrow.Author.Needs.{needs}
+use Rattle.card.proofs.refusals.script_refusal.Statement.{statement}
+use Rattle.card.proofs.refusals.script_refusal.Tie as tie
+
+returns : tie.Need-returns
+returns c = many-entries _ _ _ (c .if1 .taken)
+
+returns-2 : tie.Need-returns-2
+returns-2 c = long-script _ _ _ (c .before .if1 .left) (c .if2 .taken)
+
+script-ok-requires : tie.Need-script-ok-requires
+script-ok-requires c κs = search needs
+
+returns-3 : tie.Need-returns-3
+returns-3 c = malformed _ _ _ (c .before .before .before .if1 .left) (c .before .before .if2 .left) (c .before .script-ok .ensures) (c .if3 .taken)
+
+in-scope-requires : tie.Need-in-scope-requires
+in-scope-requires c κs = sym (c .before .script-ok .ensures) ∙ not-false _ (c .if3 .left)
+
+returns-4 : tie.Need-returns-4
+returns-4 c = out-of-scope _ _ _ (c .before .before .before .before .before .if1 .left) (c .before .before .before .before .if2 .left) (c .before .before .before .script-ok .ensures) (c .before .before .if3 .left) (c .before .in-scope .ensures) (c .if4 .taken)
+
+returns-5 : tie.Need-returns-5
+returns-5 c = script-passes _ _ _ (c .before .before .before .before .before .if1 .left) (c .before .before .before .before .if2 .left) (c .before .before .before .script-ok .ensures) (c .before .before .if3 .left) (c .before .in-scope .ensures) (c .if4 .left)
+
+pub script-refusal-spec : {M : Type 1} → statement M
+script-refusal-spec =
+    tie.close
+    (tie.spec returns returns-2 script-ok-requires returns-3 in-scope-requires returns-4 returns-5)

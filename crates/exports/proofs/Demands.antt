@@ -1,0 +1,68 @@
+-- The three demands, held together with the code. The definitions of the calls say what each call gives: answer, saved run and both tables, on refusals too,
+-- and at the C interface the number returned and every lent buffer. The first six fields say that the code gives exactly that: they are the contracts of the
+-- calls and of the exports, met. The others say what follows from the definitions.
+use mathlib.Core.Path.{_≡_}
+use mathlib.Core.List.{List}
+use lib.ListN.{length}
+use Prim.Native.Nat.{ℕ}
+use Rattle.definitions.specs.Calls.{Lent, load}
+use Rattle.definitions.specs.Limits.{savedWidth}
+use Rattle.definitions.specs.declared.LoadAnswer.the-variants as LoadAnswers
+use Rattle.engine.proofs.load.load.Statement as load-call
+use Rattle.engine.proofs.load.load.Met as load-met
+use Rattle.engine.proofs.run.run.Statement as run-call
+use Rattle.engine.proofs.run.run.Met as run-met
+use Rattle.engine.proofs.page.page.Statement as page-call
+use Rattle.engine.proofs.page.page.Met as page-met
+use Rattle.exports.proofs.willetcoffer_load.Statement as load-export
+use Rattle.exports.proofs.willetcoffer_load.Met as load-export-met
+use Rattle.exports.proofs.willetcoffer_run.Statement as run-export
+use Rattle.exports.proofs.willetcoffer_run.Met as run-export-met
+use Rattle.exports.proofs.willetcoffer_page.Statement as page-export
+use Rattle.exports.proofs.willetcoffer_page.Met as page-export-met
+use Rattle.theorems.specs.Hosts.{HostCall}
+use Rattle.theorems.specs.Demand1.{Demand1}
+use Rattle.theorems.specs.Demand2.{Demand2}
+use Rattle.theorems.specs.Demand3.{Demand3}
+use Rattle.theorems.specs.ExportRefusals.{ExportRefusals}
+use Rattle.theorems.specs.OnBytes.{ExportCall, OnBytes}
+use Rattle.theorems.proofs.Demand1.{demand-1}
+use Rattle.theorems.proofs.Demand2.{demand-2}
+use Rattle.theorems.proofs.Demand3.{demand-3}
+use Rattle.theorems.proofs.ExportRefusals.{export-refusals}
+use Rattle.theorems.proofs.OnBytes.{on-bytes}
+
+pub record Demands (M : Type 1) : Type 2 where
+  -- the code of each call does what the call's definition says
+  pub loads : load-call.statement M
+  pub runs : run-call.statement M
+  pub pages : page-call.statement M
+  -- and that of each export what the definition on bytes says
+  pub loadExports : load-export.statement M
+  pub runExports : run-export.statement M
+  pub pageExports : page-export.statement M
+  -- refusals, of the calls and at the C interface
+  pub first : Demand1
+  pub firstOnBytes : ExportRefusals
+  -- typing, runs and pages
+  pub second : Demand2
+  -- the whole list of calls after the load of an accepted script
+  pub third : (l : Lent) → load l .returned .answer ≡ LoadAnswers.Accepted → (calls : List HostCall) → Demand3 l calls
+  pub thirdOnBytes : (l : Lent) → load l .returned .answer ≡ LoadAnswers.Accepted → (saved : List ℕ) → length saved ≡ savedWidth
+      → (calls : List ExportCall) → OnBytes l saved calls
+
+pub demands : {M : Type 1} → Demands M
+demands =
+    record {
+      loads = load-met.met;
+      runs = run-met.met;
+      pages = page-met.met;
+      loadExports = load-export-met.met;
+      runExports = run-export-met.met;
+      pageExports = page-export-met.met;
+      first = demand-1;
+      firstOnBytes = export-refusals;
+      second = demand-2;
+      third = demand-3;
+      thirdOnBytes = on-bytes;
+    }

@@ -1,0 +1,32 @@
+// The facts that a script's rules ask for: a union-find of type families, the tables of facts, and the types read off them.
+pub mod families;
+pub mod noting;
+pub mod readoff;
+
+use definitions::VARIABLES;
+
+// What a term of the script stands for: an open variable, or what has a least type that is known, by its code.
+pub enum Place {
+    Variable(usize),
+    Known(u8),
+}
+
+// The families: of URIs, strings, numbers and dateTimes.
+pub const FAMILIES: usize = 4;
+
+// The nodes of the union-find: the families, then one for each variable's datatype, then one for each variable's range.
+pub const RANGE_NODES: usize = FAMILIES + VARIABLES;
+
+pub const NODES: usize = RANGE_NODES + VARIABLES;
+
+// A flag for each pair of variables.
+pub const EDGES: usize = VARIABLES * VARIABLES;
+
+// The byte of a variable that no pair binds, among the written types.
+pub const UNBOUND: u8 = 255;
+
+// What the typer answers: a refusal's number and zeros, or 0 and the reported type of each variable, 0 where no pair binds it.
+pub struct Answer {
+    pub refusal: u8,
+    pub types: [u8; VARIABLES],
+}

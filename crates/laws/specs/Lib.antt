@@ -1,0 +1,13 @@
+pub mod Lists
+pub mod Sorts
+pub mod Outcomes
+pub mod Bindings
+pub mod Quads
+pub mod Valid
+pub mod Typings
+pub mod Walks
+pub mod ReadAnswers
+pub mod Records
+pub mod ScriptReads
+pub mod Sound
+pub mod Pairs

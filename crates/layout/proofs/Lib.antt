@@ -1,0 +1,5 @@
+pub mod Words
+pub mod Items
+pub mod SavedTests
+pub mod NumberBytes
+pub mod JoinedBytes

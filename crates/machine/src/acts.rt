@@ -1,0 +1,183 @@
+// One step of the machine: what its top item does.
+use crate::Stepped;
+use definitions::Read;
+use definitions::RunState;
+use definitions::SavedItem;
+use definitions::SavedRun;
+use fields::numbers::number_at;
+use reader::script::read_name;
+use reader::script::read_query;
+use reader::script::read_script;
+use store::canonical::first_numbers;
+use store::stack::bind_tuple;
+use store::stack::fresh_item;
+use store::stack::index;
+use store::stack::is_fetched;
+use store::stack::pop;
+use store::stack::push;
+use store::stack::replace;
+ghost use mathlib.Core.Path.{_≡_};
+ghost use Prim.Native.Nat.{_+_};
+ghost use Rattle.definitions.specs.Bytes.{byte};
+ghost use Rattle.machine.specs.Steps.{movedTo, standsAt, OnTop, Acts, NameReads, NumberOf, BlockReads, BodyAt, answerOf, EntersOnce, EntersEach};
+use definitions::DEPTH_LIMIT;
+use definitions::PAIR_LIMIT;
+use definitions::QUERY_OFFSET;
+
+fn moved(saved: SavedRun) -> Stepped
+    ensures { λ r. ⌜ r ≡ movedTo saved ⌝ }
+{
+    Stepped {
+        moved: true,
+        ending: RunState::Spent,
+        saved,
+    }
+}
+
+// No step: the saved run as it was, and why it stands.
+// Ruled out: a stand that says it moved; one that changes the saved run.
+pub fn stands(saved: SavedRun, ending: RunState) -> Stepped
+    ensures { λ r. ⌜ r ≡ standsAt saved ending ⌝ }
+{
+    Stepped {
+        moved: false,
+        ending,
+        saved,
+    }
+}
+
+// Success is dropped.
+// Ruled out: success that stays on top; two items dropped.
+pub fn drop_success(run: SavedRun, script: &[u8], known: usize, at: usize) -> Stepped
+    requires { ⌜ OnTop (now script) known run at ⌝ }
+    requires { ⌜ byte (now script) at ≡ 0x71 ⌝ }
+    ensures { λ r. ⌜ ((x : OnTop (now (script .entry)) known run at) → Acts x r) ⌝ }
+{
+    moved(pop(run))
+}
+
+// A sequence becomes its first script on top of its second.
+// Ruled out: the second script on top; the sequence left below its scripts.
+pub fn enter_sequence(run: SavedRun, script: &[u8], known: usize, at: usize) -> Stepped
+    requires { ⌜ OnTop (now script) known run at ⌝ }
+    requires { ⌜ byte (now script) at ≡ 0x74 ⌝ }
+    ensures { λ r. ⌜ ((x : OnTop (now (script .entry)) known run at) → Acts x r) ⌝ }
+{
+    let first = at + 1;
+    let Read::Next(second) = read_script(script, known, first, DEPTH_LIMIT) else {
+        return stands(run, RunState::Ended);
+    };
+    let below = fresh_item(second as u16);
+    let above = fresh_item(first as u16);
+    let rest = replace(run, below);
+    moved(push(rest, above))
+}
+
+// The term number that a name stands for: a variable's, or a constant's own.
+fn number_of(run: SavedRun, script: &[u8], at: usize) -> u16
+    requires { ⌜ NameReads (now script) at ⌝ }
+    ensures { λ r. ⌜ NumberOf run (now (script .entry)) at r ⌝ }
+{
+    let first = at + 1;
+    let kind = script[at];
+    if kind == 0x31 {
+        let v = index(script[first]);
+        return run.bindings[v];
+    }
+    number_at(script, first)
+}
+
+// From named a fetched graph becomes its script; another graph is wanted.
+// Ruled out: a graph wanted that is fetched; a script entered whose graph is not.
+pub fn enter_named(run: SavedRun, script: &[u8], known: usize, at: usize) -> Stepped
+    requires { ⌜ OnTop (now script) known run at ⌝ }
+    requires { ⌜ byte (now script) at ≡ 0x72 ⌝ }
+    ensures { λ r. ⌜ ((x : OnTop (now (script .entry)) known run at) → Acts x r) ⌝ }
+{
+    let name = at + 1;
+    let Read::Next(body) = read_name(script, known, name, DEPTH_LIMIT) else {
+        return stands(run, RunState::Ended);
+    };
+    let graph = number_of(run, script, name);
+    if is_fetched(run, graph) {
+        let item = fresh_item(body as u16);
+        return moved(replace(run, item));
+    }
+    stands(run, RunState::Wanted(graph))
+}
+
+// The offset of a block's script, after its query.
+// Ruled out: the query's own offset; the end of the block.
+pub fn block_body(script: &[u8], known: usize, at: usize) -> usize
+    requires { ⌜ BlockReads (now script) known at ⌝ }
+    ensures { λ r. ⌜ BodyAt (now (script .entry)) known at r ⌝ }
+{
+    let query = at + QUERY_OFFSET;
+    let Read::Next(body) = read_query(script, known, query, DEPTH_LIMIT) else {
+        return at;
+    };
+    body
+}
+
+// A once block binds its answer and becomes its script; with none it waits.
+// Ruled out: a once block that stays below its script; one that is dropped where it has no answer.
+pub fn enter_once(
+    run: SavedRun,
+    script: &[u8],
+    known: usize,
+    at: usize,
+    body: usize,
+    found: bool,
+    tuple: [u16; PAIR_LIMIT],
+) -> Stepped
+    requires { ⌜ OnTop (now script) known run at ⌝ }
+    requires { ⌜ byte (now script) at ≡ 0x73 ⌝ }
+    requires { ⌜ BodyAt (now script) known at body ⌝ }
+    ensures { λ r. ⌜ ((x : OnTop (now (script .entry)) known run at) → EntersOnce x (answerOf found (byte (now (script .entry)) (at + 2)) tuple) r) ⌝ }
+{
+    if !found {
+        return stands(run, RunState::Waiting);
+    }
+    let second = at + 2;
+    let pairs = at + 3;
+    let count = index(script[second]);
+    let bound = bind_tuple(run, script, pairs, count, tuple);
+    let item = fresh_item(body as u16);
+    moved(replace(bound, item))
+}
+
+// An each block binds its answer and puts its script on top of itself; with none it is dropped.
+// Ruled out: an each block that forgets the tuple it used; one that waits where it has no answer.
+pub fn enter_each(
+    run: SavedRun,
+    script: &[u8],
+    known: usize,
+    at: usize,
+    body: usize,
+    found: bool,
+    tuple: [u16; PAIR_LIMIT],
+) -> Stepped
+    requires { ⌜ OnTop (now script) known run at ⌝ }
+    requires { ⌜ byte (now script) at ≡ 0x73 ⌝ }
+    requires { ⌜ BodyAt (now script) known at body ⌝ }
+    ensures { λ r. ⌜ ((x : OnTop (now (script .entry)) known run at) → EntersEach x (answerOf found (byte (now (script .entry)) (at + 2)) tuple) r) ⌝ }
+{
+    if !found {
+        return moved(pop(run));
+    }
+    let second = at + 2;
+    let pairs = at + 3;
+    let variables = script[second];
+    let count = index(variables);
+    let bound = bind_tuple(run, script, pairs, count, tuple);
+    let last = first_numbers(variables, tuple);
+    let place = at as u16;
+    let used = SavedItem {
+        at: place,
+        started: true,
+        last,
+    };
+    let below = replace(bound, used);
+    let item = fresh_item(body as u16);
+    moved(push(below, item))
+}

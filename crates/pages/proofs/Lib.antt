@@ -1,0 +1,4 @@
+pub mod TermLaws
+pub mod TakeLaws
+pub mod PageLaws
+pub mod DoneLaws

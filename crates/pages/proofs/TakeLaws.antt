@@ -1,0 +1,422 @@
+-- Laws of a page record: its bodies, the numbers of its terms, whether it is well typed.
+use Prim.Native.Nat.{ℕ, _+_, _-_, _*_, _≤_, _<_}
+use native.Mathlib.Omega.{arith}
+use native.Mathlib.Numerals.{add-one}
+use mathlib.Core.Path.{_≡_, refl, ap, ap₂, sym, subst, _∙_}
+use mathlib.Core.Logic.{_⊎_, ⊎-elim}
+use mathlib.Core.List.{List, [], _∷_, _++_}
+use mathlib.Core.Bool.{Bool, true, false, cond, _&&_, _||_, Bool·beq}
+use mathlib.Core.Option.{Option, none, some}
+use lib.Dec.{T, eqb, leb}
+use lib.ListN.{length, take, drop, length-append}
+use Rattle.definitions.specs.Limits.{textWidth, termLimit, quadLimit, quadWidth, quadTableWidth}
+use Rattle.definitions.specs.Bytes.{byte, part, allZero, inFront}
+use Rattle.definitions.specs.Types.{Datatype, datatypeCode, plain, leqDatatype}
+use Rattle.definitions.specs.Terms.{Term, Schema, Triple, datatype, bodyWidth, termOfBody, uriText, ofTermKind, ofPageKind, kindRows, datatypeIn, Sort, has, sortOf, hasType, readSchema, readTriple, readPage, isInteger, isDecimal, isDateTime}
+use Rattle.definitions.specs.Evaluate.{Quad, stored}
+use Rattle.definitions.specs.Machine.{Taken, skip, store, takeOne, takeAll, numbered, objectFits, wellTyped, withQuad}
+use Rattle.definitions.specs.Saved.{quadTable, quadsFrom, quadsIn}
+use Rattle.laws.proofs.Options.{some-is, pair-is, some-not-none, onward-some, onward-inv, provided-inv}
+use Rattle.laws.proofs.All.{all-append}
+use Rattle.laws.proofs.Order.{byDatatype, byDatatype2}
+use Rattle.laws.proofs.Reading.{row-keys}
+use Rattle.laws.specs.Records.{TripleAt, recordsAt}
+use Rattle.laws.proofs.RecordsAt.{triple-inv, triple-forward, at-end, at-bad, at-one, page-at}
+use Rattle.laws.proofs.Taking.{take-all}
+use Rattle.laws.proofs.Valid.{string-inv, number-inv}
+use Rattle.laws.specs.Quads.{Small}
+use Rattle.laws.proofs.Tables.{quads-of, quad-table-length}
+use Rattle.definitions.specs.declared.Read.the-variants as Read
+use Rattle.laws.specs.ReadAnswers.{isSome, nextOf}
+use Rattle.fields.specs.Answers.{codeOf, schemaCode, widthOf}
+use Rattle.laws.proofs.ReadAnswers.{next-got}
+use Rattle.fields.proofs.PartLaws.{part-length}
+use Rattle.pages.specs.declared.Counts.{Counts}
+use Rattle.pages.specs.declared.Joined.{Joined}
+use Rattle.pages.specs.declared.Numbers.{Numbers}
+use Rattle.store.specs.Quads.{quad, quadSet}
+use Rattle.pages.specs.Page.{BodyIs, Joins, subjectIn, propertyIn, objectIn, Numbering, HeldQuads, Stores, HeldTaken, Took}
+use Rattle.pages.proofs.TermLaws.{number-cases, held-width}
+use Rattle.store.proofs.QuadLaws.{quad-added}
+
+-- ── the bodies of a record ──────────────────────────────────────────────────────────────────
+
+uri-body : (body : List ℕ) (u : List ℕ) → length body ≡ textWidth → uriText body ≡ some u → BodyIs 0x11 body (Term.uri u)
+unfolding termOfBody
+uri-body body u l e = record { datatype = Datatype.anyURI; kind = refl; width = l; says = onward-some (λ u. some (Term.uri u)) e }
+
+-- the kind of a page record is an object's kind and 0x70
+page-kind : (k : ℕ) (d : Datatype) → ofPageKind k ≡ some d → (0x81 ≤ k) × (ofTermKind (k - 0x70) ≡ some d)
+page-kind k d =
+    row-keys (λ k o. o ≡ some d → (0x81 ≤ k) × (ofTermKind (k - 0x70) ≡ some d)) k (kindRows 0x80) none
+    ((λ e. (omega arith, e)), ((λ e. (omega arith, e)), ((λ e. (omega arith, e)), ((λ e. (omega arith, e)), ((λ e. (omega arith, e)), tt)))))
+    (λ e. absurd (some-not-none e refl))
+
+module _ (page : List ℕ) (at next : ℕ) (x : Triple) (r : TripleAt page at x next) where
+  pub record-ends : at + 81 ≤ length page
+  record-ends = omega (arith, r .ends, r .fits)
+
+  pub kind-high : 0x81 ≤ byte page at
+  kind-high = page-kind (byte page at) (r .datatype) (r .kind) .0
+
+  -- as the code hands them on
+  pub subject-body : BodyIs 0x11 (take (at + 41 - (at + 1)) (drop (at + 1) page)) (Term.uri (x .subject))
+  subject-body =
+      let n : at + 41 - (at + 1) ≡ textWidth = omega arith in
+      rw n (uri-body (part page (at + 1) textWidth) (x .subject) (part-length page (at + 1) textWidth (omega (arith, record-ends))) (r .subject))
+
+  pub property-body : BodyIs 0x11 (take (at + 81 - (at + 41)) (drop (at + 41) page)) (Term.uri (x .property))
+  property-body =
+      let n : at + 81 - (at + 41) ≡ textWidth = omega arith in
+      rw n (uri-body (part page (at + 41) textWidth) (x .property) (part-length page (at + 41) textWidth (omega (arith, record-ends))) (r .property))
+
+  pub property-uri : isSome (uriText (take (at + 81 - (at + 41)) (drop (at + 41) page))) ≡ true
+  property-uri =
+      let n : at + 81 - (at + 41) ≡ textWidth = omega arith in
+      rw n (ap isSome (r .property))
+
+  pub end-is : (w : ℕ) → w ≡ widthOf (ofTermKind (byte page at - 0x70)) → at + 81 + w ≡ next
+  unfolding widthOf
+  end-is w e =
+      let d : w ≡ bodyWidth (r .datatype) = e ∙ ap widthOf (page-kind (byte page at) (r .datatype) (r .kind) .1) in
+      omega (arith, r .ends)
+
+  pub object-body : BodyIs (byte page at - 0x70) (take (next - (at + 81)) (drop (at + 81) page)) (x .object)
+  object-body =
+      let w = bodyWidth (r .datatype) in
+      let n : next - (at + 81) ≡ w = omega (arith, r .ends) in
+      rw n
+      (record {
+        datatype = r .datatype;
+        kind = page-kind (byte page at) (r .datatype) (r .kind) .1;
+        width = part-length page (at + 81) w (omega (arith, r .ends, r .fits));
+        says = r .object;
+      })
+
+-- ── the numbers of its terms ────────────────────────────────────────────────────────────────
+
+-- no term goes
+numbered-more : (t : Term) (ts : List Term) → length ts ≤ length (numbered t ts .terms)
+numbered-more t ts =
+    ⊎-elim (λ h. omega (arith, ap length (h .1))) (λ h. omega (arith, ap length (h .1), length-append ts (t ∷ []))) (number-cases t ts)
+
+module _ (ts : List Term) (x : Triple) where
+  -- the subject has no room
+  pub first-over : (s : Joined) (table : List ℕ) → Joins ts (Term.uri (x .subject)) s table → termLimit < s .terms
+      → Numbering ts x (record { subject = 0; property = 0; object = 0; terms = s .terms }) table
+  first-over s table j over =
+      record {
+        atMost = omega (arith, j .count, numbered-more (Term.uri (x .property)) (subjectIn ts x .terms), numbered-more (x .object) (propertyIn ts x .terms));
+        width = j .width;
+        held = λ few. absurd (omega arith);
+      }
+
+  pub second-over : (p : Joined) (table : List ℕ) → Joins (subjectIn ts x .terms) (Term.uri (x .property)) p table → termLimit < p .terms
+      → Numbering ts x (record { subject = 0; property = 0; object = 0; terms = p .terms }) table
+  second-over p table j over =
+      record {
+        atMost = omega (arith, j .count, numbered-more (x .object) (propertyIn ts x .terms));
+        width = j .width;
+        held = λ few. absurd (omega arith);
+      }
+
+  pub all-numbered : (s p o : Joined) (t₁ t₂ table : List ℕ) → Joins ts (Term.uri (x .subject)) s t₁ → Joins (subjectIn ts x .terms) (Term.uri (x .property)) p t₂
+      → Joins (propertyIn ts x .terms) (x .object) o table
+      → Numbering ts x (record { subject = s .number; property = p .number; object = o .number; terms = o .terms }) table
+  all-numbered s p o t₁ t₂ table js jp jo =
+      record {
+        atMost = omega (arith, jo .count);
+        width = jo .width;
+        held = λ few. record { subject = js .is; property = jp .is; object = jo .is; terms = jo .held few };
+      }
+
+-- ── well typed ──────────────────────────────────────────────────────────────────────────────
+
+same : (a b : Bool) → T (Bool·beq a b) → a ≡ b
+same true true h = refl
+same true false h = absurd h
+same false true h = absurd h
+same false false h = refl
+
+-- an object's kind alone says which datatypes it has
+has-plain : (S : Schema) (t : Term) (d : Datatype) → leqDatatype (datatype t) d ≡ hasType S t (plain d)
+unfolding sortOf
+has-plain S (Term.uri u) d = go (datatypeIn S u)
+  where
+    go : (o : Option Datatype) → leqDatatype Datatype.anyURI d ≡ has (Sort.uri o) (plain d)
+    go none = same (leqDatatype Datatype.anyURI d) (has (Sort.uri none) (plain d))
+        (byDatatype (λ d. Bool·beq (leqDatatype Datatype.anyURI d) (has (Sort.uri none) (plain d))) tt d)
+    go (some e) = same (leqDatatype Datatype.anyURI d) (has (Sort.uri (some e)) (plain d))
+        (byDatatype2 (λ e d. Bool·beq (leqDatatype Datatype.anyURI d) (has (Sort.uri (some e)) (plain d))) tt e d)
+has-plain S (Term.string g t) d = refl
+has-plain S (Term.integer n) d = refl
+has-plain S (Term.decimal n) d = refl
+has-plain S (Term.dateTime n) d = refl
+
+abbrev codesFit : (given wanted : ℕ) → Bool
+codesFit given wanted = eqb given wanted || (eqb given 5 && eqb wanted 3)
+
+codes-fit : (S : Schema) (o : Option Datatype) (t : Term) → codesFit (datatypeCode (datatype t)) (codeOf o) ≡ objectFits S o t
+unfolding codeOf
+codes-fit S none t = same (codesFit (datatypeCode (datatype t)) 0) false (byDatatype (λ d. Bool·beq (codesFit (datatypeCode d) 0) false) tt (datatype t))
+codes-fit S (some d) t = has-plain S t d
+
+-- a body of a datatype is a term of it
+says-datatype : (d : Datatype) (b : List ℕ) (t : Term) → termOfBody d b ≡ some t → datatype t ≡ d
+unfolding termOfBody
+says-datatype Datatype.anyURI b t e = let u = onward-inv (uriText b) (λ u. some (Term.uri u)) e in ap datatype (sym (some-is (u .2)))
+says-datatype Datatype.string b t e = ap datatype (string-inv b t e .2)
+says-datatype Datatype.decimal b t e = ap datatype (number-inv isDecimal Term.decimal b t e .0)
+says-datatype Datatype.dateTime b t e = ap datatype (number-inv isDateTime Term.dateTime b t e .0)
+says-datatype Datatype.integer b t e = ap datatype (number-inv isInteger Term.integer b t e .0)
+
+module _ (schema page : List ℕ) (S : Schema) (at next : ℕ) (x : Triple) (e : readSchema schema ≡ some S) (r : TripleAt page at x next) where
+  pub typed-is : (wanted given : ℕ) → wanted ≡ schemaCode (readSchema schema) (uriText (take (at + 81 - (at + 41)) (drop (at + 41) page)))
+      → given ≡ datatypeCode (r .datatype) → codesFit given wanted ≡ wellTyped S x
+  unfolding schemaCode wellTyped
+  typed-is wanted given f g =
+      let n : at + 81 - (at + 41) ≡ textWidth = omega arith in
+      let u : uriText (take (at + 81 - (at + 41)) (drop (at + 41) page)) ≡ some (x .property) = rw n (r .property) in
+      let w : wanted ≡ codeOf (datatypeIn S (x .property)) = f ∙ ap₂ schemaCode e u in
+      let d = says-datatype (r .datatype) (part page (at + 81) (bodyWidth (r .datatype))) (x .object) (r .object) in
+      ap₂ codesFit (g ∙ ap datatypeCode (sym d)) w ∙ codes-fit S (datatypeIn S (x .property)) (x .object)
+
+-- the codes of the five kinds
+pub code-is : (k : ℕ) (key : ℕ) (d : Datatype) → k ≡ key → ofPageKind key ≡ some d → (e : Datatype) → ofPageKind k ≡ some e → datatypeCode d ≡ datatypeCode e
+code-is k key d q h e f = ap datatypeCode (some-is (sym h ∙ (ap ofPageKind (sym q) ∙ f)))
+
+pub code-last : (k : ℕ) → (k ≡ 0x81 → ⊥) → (k ≡ 0x82 → ⊥) → (k ≡ 0x83 → ⊥) → (k ≡ 0x84 → ⊥) → (e : Datatype) → ofPageKind k ≡ some e → 4 ≡ datatypeCode e
+code-last k a b c d e =
+    row-keys (λ j o. k ≡ j → o ≡ some e → 4 ≡ datatypeCode e) k (kindRows 0x80) none
+    ((λ q f. absurd (a q)), ((λ q f. absurd (b q)), ((λ q f. absurd (c q)), ((λ q f. absurd (d q)), ((λ q f. ap datatypeCode (some-is f)), tt)))))
+    (λ q f. absurd (some-not-none f refl)) refl
+
+-- ── quads ───────────────────────────────────────────────────────────────────────────────────
+
+module _ (table : List ℕ) (n : ℕ) (qs : List Quad) (h : HeldQuads table n qs) where
+  pub quads-width : length table ≡ quadTableWidth
+  quads-width = ap length (h .is) ∙ quad-table-length qs (omega (arith, h .count, h .few))
+
+  pub quads-are : quadsFrom n table 0 ≡ qs
+  unfolding quadsIn
+  quads-are =
+      let fits = leb (length qs) quadLimit in
+      let z = allZero (drop (quadWidth * length qs) (quadTable qs)) in
+      let p = provided-inv (fits && z) (some (quadsFrom (length qs) (quadTable qs) 0)) (quads-of qs (h .small) (omega (arith, h .count, h .few))) in
+      (λ i. quadsFrom (sym (h .count) i) (h .is i) 0) ∙ some-is (p .1)
+
+  module _ (q : Quad) {r : Bool} (e : r ≡ stored q (quadsFrom n table 0)) where
+    there : stored q qs ≡ r
+    there = ap (stored q) (sym quads-are) ∙ sym e
+
+    pub stores-there : r ≡ true → Stores qs q n table
+    stores-there t =
+        let w : withQuad q qs ≡ qs = ap (λ (b : Bool). cond b qs (qs ++ (q ∷ []))) (there ∙ t) in
+        record {
+          count = sym (h .count) ∙ ap length (sym w);
+          width = quads-width;
+          held = λ few. subst (HeldQuads table n) (sym w) h;
+        }
+
+    module _ (t : r ≡ false) where
+      new : withQuad q qs ≡ qs ++ (q ∷ [])
+      new = ap (λ (b : Bool). cond b qs (qs ++ (q ∷ []))) (there ∙ t)
+
+      more : n + 1 ≡ length (withQuad q qs)
+      more = omega (arith, ap length new, length-append qs (q ∷ []), h .count)
+
+      pub stores-full : quadLimit ≤ n → Stores qs q (n + 1) table
+      stores-full l = record { count = more; width = quads-width; held = λ few. absurd (omega arith) }
+
+      pub stores-written : n < quadLimit → Small q → (after : List ℕ) → after ≡ quadSet table n q → Stores qs q (n + 1) after
+      stores-written l small after f =
+          let is : after ≡ quadTable (qs ++ (q ∷ [])) = f ∙ (ap (λ (s : List ℕ). quadSet s n q) (h .is) ∙ quad-added qs q n (sym (h .count)) l) in
+          let held : HeldQuads after (n + 1) (qs ++ (q ∷ [])) =
+          record { is = is; small = all-append Small qs (q ∷ []) (h .small) (small, tt); count = omega (arith, length-append qs (q ∷ []), h .count); few = omega arith } in
+          record {
+            count = more;
+            width = ap length is ∙ quad-table-length (qs ++ (q ∷ [])) (omega (arith, held .count));
+            held = λ few. subst (HeldQuads after (n + 1)) (sym new) held;
+          }
+
+-- ── one record ──────────────────────────────────────────────────────────────────────────────
+
+-- no term and no quad goes
+with-more : (q : Quad) (qs : List Quad) → length qs ≤ length (withQuad q qs)
+with-more q qs = go (stored q qs)
+  where
+    go : (b : Bool) → length qs ≤ length (cond b qs (qs ++ (q ∷ [])))
+    go true = omega arith
+    go false = omega (arith, length-append qs (q ∷ []))
+
+store-more : (g : ℕ) (x : Triple) (k : Taken) → (length (k .terms) ≤ length (store g x k .terms)) × (length (k .quads) ≤ length (store g x k .quads))
+unfolding store
+store-more g x k =
+    let ts = k .terms in (
+      omega (arith, numbered-more (Term.uri (x .subject)) ts, numbered-more (Term.uri (x .property)) (subjectIn ts x .terms), numbered-more (x .object) (propertyIn ts x .terms)),
+      with-more (quad g (subjectIn ts x .number) (propertyIn ts x .number) (objectIn ts x .number)) (k .quads),
+    )
+
+module _ (S : Schema) (g : ℕ) where
+  pub take-more : (rs : List Triple) (k : Taken) → (length (k .terms) ≤ length (takeAll S g rs k .terms)) × (length (k .quads) ≤ length (takeAll S g rs k .quads))
+  take-more rs k =
+      take-all S g (λ j. (length (k .terms) ≤ length (j .terms)) × (length (k .quads) ≤ length (j .quads))) rs
+      (λ x j m t h. let s = store-more g x j in (omega (arith, h .0, s .0), omega (arith, h .1, s .1))) (λ j h. h) k (omega arith, omega arith)
+
+  module _ (x : Triple) (k : Taken) (c : Counts) (t q : List ℕ) (h : HeldTaken t q c k) where
+    terms-there : length (k .terms) ≡ c .terms
+    terms-there = h .terms .count
+
+    pub take-skipped : wellTyped S x ≡ false → Took t q (record { terms = c .terms; quads = c .quads; skipped = c .skipped + 1 }) (takeOne S g x k)
+    unfolding takeOne
+    take-skipped e =
+        subst (Took t q (record { terms = c .terms; quads = c .quads; skipped = c .skipped + 1 }))
+        (sym (ap (λ (b : Bool). elim b as (λ c. Taken) [ true ↦ store g x k | false ↦ skip k ]) e))
+        (record {
+          termsAtMost = omega (arith, h .terms .count);
+          quadsAtMost = omega (arith, h .quads .count);
+          termWidth = held-width t (c .terms) (k .terms) (h .terms);
+          quadWidth = quads-width q (c .quads) (k .quads) (h .quads);
+          held = λ few room. record { terms = h .terms; quads = h .quads; skipped = ap (λ (n : ℕ). n + 1) (h .skipped) ∙ add-one (k .skipped) };
+        })
+
+    module _ (e : wellTyped S x ≡ true) (r : Numbers) (t′ : List ℕ) (n : Numbering (k .terms) x r t′) where
+      taken-is : takeOne S g x k ≡ store g x k
+      unfolding takeOne
+      taken-is = ap (λ (b : Bool). elim b as (λ c. Taken) [ true ↦ store g x k | false ↦ skip k ]) e
+
+      pub take-over : termLimit < r .terms → Took t′ q (record { terms = r .terms; quads = c .quads; skipped = c .skipped }) (takeOne S g x k)
+      unfolding store
+      take-over over =
+          subst (Took t′ q (record { terms = r .terms; quads = c .quads; skipped = c .skipped })) (sym taken-is)
+          (record {
+            termsAtMost = n .atMost;
+            quadsAtMost = omega (arith, h .quads .count, store-more g x k .1);
+            termWidth = n .width;
+            quadWidth = quads-width q (c .quads) (k .quads) (h .quads);
+            held = λ few room. absurd (omega arith);
+          })
+
+      pub take-stored : r .terms ≤ termLimit → (m : ℕ) (q′ : List ℕ) → Stores (k .quads) (quad g (r .subject) (r .property) (r .object)) m q′
+          → Took t′ q′ (record { terms = r .terms; quads = m; skipped = c .skipped }) (takeOne S g x k)
+      unfolding store
+      take-stored few m q′ s =
+          let a = n .held few in
+          let same : quad g (r .subject) (r .property) (r .object) ≡ quad g (subjectIn (k .terms) x .number) (propertyIn (k .terms) x .number) (objectIn (k .terms) x .number) =
+          λ i. quad g (a .subject i) (a .property i) (a .object i) in
+          let z = subst (λ (p : Quad). Stores (k .quads) p m q′) same s in
+          subst (Took t′ q′ (record { terms = r .terms; quads = m; skipped = c .skipped })) (sym taken-is)
+          (record {
+            termsAtMost = n .atMost;
+            quadsAtMost = omega (arith, z .count);
+            termWidth = n .width;
+            quadWidth = z .width;
+            held = λ little room. record { terms = a .terms; quads = z .held room; skipped = h .skipped };
+          })
+
+-- ── record after record ─────────────────────────────────────────────────────────────────────
+
+-- what is left to take in, from an offset on
+pub record Left (page : List ℕ) (S : Schema) (g at : ℕ) (t q : List ℕ) (c : Counts) (final : Taken) : Type 0 where
+  pub rest : List Triple
+  pub so-far : Taken
+  pub reads : recordsAt readTriple page at ≡ some rest
+  pub holds : HeldTaken t q c so-far
+  pub leads : final ≡ takeAll S g rest so-far
+
+-- whatever the page and the tables held at first
+abbrev pub Going : (page schema : List ℕ) → (g : ℕ) → (t₀ q₀ : List ℕ) → Counts → (t q : List ℕ) → Counts → (at : ℕ) → Type 0
+Going page schema g t₀ q₀ c₀ t q c at =
+    (S : Schema) (rs : List Triple) (k : Taken) → readSchema schema ≡ some S → readPage page ≡ some rs → HeldTaken t₀ q₀ c₀ k → Left page S g at t q c (takeAll S g rs k)
+
+pub going-first : (page schema : List ℕ) (g : ℕ) (t q : List ℕ) (c : Counts) → Going page schema g t q c t q c 0
+going-first page schema g t q c S rs k e r h = record { rest = rs; so-far = k; reads = sym (page-at page) ∙ r; holds = h; leads = refl }
+
+module _ (page : List ℕ) (S : Schema) (g at : ℕ) (t q : List ℕ) (c : Counts) (final : Taken) (l : Left page S g at t q c final) where
+  -- none is left
+  pub left-none : length page ≤ at → Took t q c final
+  unfolding takeAll
+  left-none h =
+      let n : [] ≡ l .rest = some-is (sym (at-end readTriple triple-forward page at h) ∙ l .reads) in
+      subst (Took t q c) (sym (l .leads ∙ ap (λ (rs : List Triple). takeAll S g rs (l .so-far)) (sym n)))
+      (record {
+        termsAtMost = omega (arith, l .holds .terms .count);
+        quadsAtMost = omega (arith, l .holds .quads .count);
+        termWidth = held-width t (c .terms) (l .so-far .terms) (l .holds .terms);
+        quadWidth = quads-width q (c .quads) (l .so-far .quads) (l .holds .quads);
+        held = λ few room. l .holds;
+      })
+
+  -- one and the others
+  module _ (h : at < length page) where
+    pub record Next : Type 0 where
+      pub triple : Triple
+      pub next : ℕ
+      pub others : List Triple
+      pub read : readTriple page at ≡ some (triple, next)
+      pub here : TripleAt page at triple next
+      pub after : recordsAt readTriple page next ≡ some others
+      pub all : l .rest ≡ triple ∷ others
+      pub farther : at < next
+
+    next-of : (o : Option (Triple × ℕ)) → readTriple page at ≡ o → Next
+    unfolding inFront
+    next-of none e = absurd (some-not-none (l .reads) (at-bad readTriple triple-forward page at h e))
+    next-of (some (x, n)) e = go (recordsAt readTriple page n) refl
+      where
+        go : (o : Option (List Triple)) → recordsAt readTriple page n ≡ o → Next
+        go none f = absurd (some-not-none (l .reads) (at-one readTriple triple-forward page at h e ∙ ap (inFront readTriple x) f))
+        go (some others) f =
+            record {
+              triple = x;
+              next = n;
+              others = others;
+              read = e;
+              here = triple-inv page at x n e;
+              after = f;
+              all = some-is (sym (l .reads) ∙ (at-one readTriple triple-forward page at h e ∙ ap (inFront readTriple x) f));
+              farther = triple-forward page at x n e .0;
+            }
+
+    pub left-one : Next
+    left-one = next-of (readTriple page at) refl
+
+    pub left-reads : isSome (readTriple page at) ≡ true
+    left-reads = ap isSome (left-one .read)
+
+    -- its end, as the code finds it
+    module _ (n : ℕ) (end : Read.Next n ≡ nextOf (readTriple page at)) where
+      pub end-next : n ≡ left-one .next
+      end-next = let r = next-got (readTriple page at) (sym end) in pair-is (sym (r .1) ∙ left-one .read) .1
+
+      pub here-at : TripleAt page at (left-one .triple) n
+      here-at = subst (λ (m : ℕ). TripleAt page at (left-one .triple) m) (sym end-next) (left-one .here)
+
+  module _ (h : at < length page) (t′ q′ : List ℕ) (c′ : Counts) (took : Took t′ q′ c′ (takeOne S g (left-one h .triple) (l .so-far))) where
+    leads-on : final ≡ takeAll S g (left-one h .others) (takeOne S g (left-one h .triple) (l .so-far))
+    unfolding takeAll
+    leads-on = l .leads ∙ ap (λ (rs : List Triple). takeAll S g rs (l .so-far)) (left-one h .all)
+
+    -- there was room
+    pub left-next : (n : ℕ) → Read.Next n ≡ nextOf (readTriple page at) → c′ .terms ≤ termLimit → c′ .quads ≤ quadLimit
+        → Left page S g n t′ q′ c′ final
+    left-next n end few room =
+        subst (λ (m : ℕ). Left page S g m t′ q′ c′ final) (sym (end-next h n end)) (record { rest = left-one h .others; so-far = takeOne S g (left-one h .triple) (l .so-far); reads = left-one h .after; holds = took .held few room; leads = leads-on })
+
+    -- a limit is passed, and stays passed
+    left-over : (c′ .terms ≤ termLimit → c′ .quads ≤ quadLimit → ⊥) → Took t′ q′ c′ final
+    left-over over =
+        let m = take-more S g (left-one h .others) (takeOne S g (left-one h .triple) (l .so-far)) in
+        record {
+          termsAtMost = omega (arith, took .termsAtMost, m .0, ap (λ (k : Taken). length (k .terms)) leads-on);
+          quadsAtMost = omega (arith, took .quadsAtMost, m .1, ap (λ (k : Taken). length (k .quads)) leads-on);
+          termWidth = took .termWidth;
+          quadWidth = took .quadWidth;
+          held = λ few room. absurd (over few room);
+        }
+
+    pub left-terms : termLimit < c′ .terms → Took t′ q′ c′ final
+    left-terms o = left-over (λ few room. omega arith)
+
+    pub left-quads : quadLimit < c′ .quads → Took t′ q′ c′ final
+    left-quads o = left-over (λ few room. omega arith)

@@ -1,0 +1,117 @@
+-- `pages::triples::number_triple` meets its contract.
+use native.Mathlib.Omega.{arith}
+use Rattle.definitions.specs.Terms.{Term}
+use Rattle.pages.specs.Page.{subjectIn, propertyIn}
+use Rattle.pages.proofs.TakeLaws.{kind-high, subject-body, property-body, object-body, first-over, second-over, all-numbered}
+use borrow.Author.Needs.{needs}
+use Rattle.pages.proofs.triples.number_triple.Statement.{statement}
+use Rattle.pages.proofs.triples.number_triple.Tie as tie
+
+add-from : tie.Need-add-from
+add-from c = search needs
+
+add-middle : tie.Need-add-middle
+add-middle c = search needs
+
+add-last : tie.Need-add-last
+add-last c = search needs
+
+shared-slice-read-kind : tie.Need-shared-slice-read-kind
+shared-slice-read-kind c = search needs
+
+sub-kind : tie.Need-sub-kind
+sub-kind c = omega (arith, kind-high (c .before .before .before .before .args .page .now) (c .before .before .before .before .args .at) (c .before .before .before .before .args .next) (c .before .before .before .before .pre .0 .0) (c .before .before .before .before .pre .0 .1))
+
+sub-number-body : tie.Need-sub-number-body
+sub-number-body c = search needs
+
+part-number-body-start : tie.Need-part-number-body-start
+part-number-body-start c = search needs
+
+part-number-body-end : tie.Need-part-number-body-end
+part-number-body-end c = search needs
+
+number-body-requires : tie.Need-number-body-requires
+number-body-requires c κs = (c .before .before .before .before .before .before .before .pre .1 .0, (c .before .before .before .before .before .before .before .pre .1 .1, (Term.uri (c .before .before .before .before .before .before .before .pre .0 .0 .subject), subject-body (c .before .before .before .before .before .before .before .args .page .now) (c .before .before .before .before .before .before .before .args .at) (c .before .before .before .before .before .before .before .args .next) (c .before .before .before .before .before .before .before .pre .0 .0) (c .before .before .before .before .before .before .before .pre .0 .1))))
+
+same-length : tie.Need-same-length
+same-length c = search needs
+
+same-length-2 : tie.Need-same-length-2
+same-length-2 c = search needs
+
+returns : tie.Need-returns
+returns c = ((λ ts x h r. first-over ts x _ _ (c .before .before .before .before .before .number-body .ensures .0 ts (Term.uri (x .subject)) h (subject-body (c .before .before .before .before .before .before .before .before .before .before .before .before .before .args .page .now) (c .before .before .before .before .before .before .before .before .before .before .before .before .before .args .at) (c .before .before .before .before .before .before .before .before .before .before .before .before .before .args .next) x r)) (c .if1 .taken)), c .before .before .before .before .before .number-body .ensures .1)
+
+sub-number-body-2 : tie.Need-sub-number-body-2
+sub-number-body-2 c = search needs
+
+part-number-body-start-2 : tie.Need-part-number-body-start-2
+part-number-body-start-2 c = search needs
+
+part-number-body-end-2 : tie.Need-part-number-body-end-2
+part-number-body-end-2 c = search needs
+
+number-body-requires-2 : tie.Need-number-body-requires-2
+number-body-requires-2 c κs = let x = c .before .before .before .before .before .before .before .before .before .before .before .before .before .before .before .before .pre .0 .0 in let r = c .before .before .before .before .before .before .before .before .before .before .before .before .before .before .before .before .pre .0 .1 in let j = c .before .before .before .before .before .before .before .before .number-body .ensures .0 (c .before .before .before .before .before .before .before .before .before .before .before .before .before .before .before .before .pre .1 .0 .0) (Term.uri (x .subject)) (c .before .before .before .before .before .before .before .before .before .before .before .before .before .before .before .before .pre .1 .0 .1) (subject-body (c .before .before .before .before .before .before .before .before .before .before .before .before .before .before .before .before .args .page .now) (c .before .before .before .before .before .before .before .before .before .before .before .before .before .before .before .before .args .at) (c .before .before .before .before .before .before .before .before .before .before .before .before .before .before .before .before .args .next) x r) in ((_, j .held (omega arith)), (c .before .before .before .before .before .before .before .before .number-body .ensures .1, (Term.uri (x .property), property-body (c .before .before .before .before .before .before .before .before .before .before .before .before .before .before .before .before .args .page .now) (c .before .before .before .before .before .before .before .before .before .before .before .before .before .before .before .before .args .at) (c .before .before .before .before .before .before .before .before .before .before .before .before .before .before .before .before .args .next) x r)))
+
+same-length-3 : tie.Need-same-length-3
+same-length-3 c = search needs
+
+same-length-4 : tie.Need-same-length-4
+same-length-4 c = search needs
+
+returns-2 : tie.Need-returns-2
+returns-2 c = ((λ ts x h r. let j = c .before .before .before .before .before .before .before .before .before .before .before .before .before .before .number-body .ensures .0 ts (Term.uri (x .subject)) h (subject-body (c .before .before .before .before .before .before .before .before .before .before .before .before .before .before .before .before .before .before .before .before .before .before .args .page .now) (c .before .before .before .before .before .before .before .before .before .before .before .before .before .before .before .before .before .before .before .before .before .before .args .at) (c .before .before .before .before .before .before .before .before .before .before .before .before .before .before .before .before .before .before .before .before .before .before .args .next) x r) in second-over ts x _ _ (c .before .before .before .before .before .number-body2 .ensures .0 (subjectIn ts x .terms) (Term.uri (x .property)) (j .held (omega (arith, c .before .before .before .before .before .before .before .before .before .if1 .left))) (property-body (c .before .before .before .before .before .before .before .before .before .before .before .before .before .before .before .before .before .before .before .before .before .before .args .page .now) (c .before .before .before .before .before .before .before .before .before .before .before .before .before .before .before .before .before .before .before .before .before .before .args .at) (c .before .before .before .before .before .before .before .before .before .before .before .before .before .before .before .before .before .before .before .before .before .before .args .next) x r)) (c .if2 .taken)), c .before .before .before .before .before .number-body2 .ensures .1)
+
+sub-number-body-3 : tie.Need-sub-number-body-3
+sub-number-body-3 c = search needs
+
+part-number-body-start-3 : tie.Need-part-number-body-start-3
+part-number-body-start-3 c = search needs
+
+part-number-body-end-3 : tie.Need-part-number-body-end-3
+part-number-body-end-3 c = search needs
+
+number-body-requires-3 : tie.Need-number-body-requires-3
+number-body-requires-3 c κs = let x = c .before .before .before .before .before .before .before .before .before .before .before .before .before .before .before .before .before .before .before .before .before .before .before .before .before .pre .0 .0 in let r = c .before .before .before .before .before .before .before .before .before .before .before .before .before .before .before .before .before .before .before .before .before .before .before .before .before .pre .0 .1 in let j = c .before .before .before .before .before .before .before .before .before .before .before .before .before .before .before .before .before .number-body .ensures .0 (c .before .before .before .before .before .before .before .before .before .before .before .before .before .before .before .before .before .before .before .before .before .before .before .before .before .pre .1 .0 .0) (Term.uri (x .subject)) (c .before .before .before .before .before .before .before .before .before .before .before .before .before .before .before .before .before .before .before .before .before .before .before .before .before .pre .1 .0 .1) (subject-body (c .before .before .before .before .before .before .before .before .before .before .before .before .before .before .before .before .before .before .before .before .before .before .before .before .before .args .page .now) (c .before .before .before .before .before .before .before .before .before .before .before .before .before .before .before .before .before .before .before .before .before .before .before .before .before .args .at) (c .before .before .before .before .before .before .before .before .before .before .before .before .before .before .before .before .before .before .before .before .before .before .before .before .before .args .next) x r) in let k = c .before .before .before .before .before .before .before .before .number-body2 .ensures .0 (subjectIn (c .before .before .before .before .before .before .before .before .before .before .before .before .before .before .before .before .before .before .before .before .before .before .before .before .before .pre .1 .0 .0) x .terms) (Term.uri (x .property)) (j .held (omega (arith, c .before .before .before .before .before .before .before .before .before .before .before .before .if1 .left))) (property-body (c .before .before .before .before .before .before .before .before .before .before .before .before .before .before .before .before .before .before .before .before .before .before .before .before .before .args .page .now) (c .before .before .before .before .before .before .before .before .before .before .before .before .before .before .before .before .before .before .before .before .before .before .before .before .before .args .at) (c .before .before .before .before .before .before .before .before .before .before .before .before .before .before .before .before .before .before .before .before .before .before .before .before .before .args .next) x r) in ((_, k .held (omega (arith, c .before .before .before .if2 .left))), (c .before .before .before .before .before .before .before .before .number-body2 .ensures .1, (x .object, object-body (c .before .before .before .before .before .before .before .before .before .before .before .before .before .before .before .before .before .before .before .before .before .before .before .before .before .args .page .now) (c .before .before .before .before .before .before .before .before .before .before .before .before .before .before .before .before .before .before .before .before .before .before .before .before .before .args .at) (c .before .before .before .before .before .before .before .before .before .before .before .before .before .before .before .before .before .before .before .before .before .before .before .before .before .args .next) x r)))
+
+same-length-5 : tie.Need-same-length-5
+same-length-5 c = search needs
+
+same-length-6 : tie.Need-same-length-6
+same-length-6 c = search needs
+
+returns-3 : tie.Need-returns-3
+returns-3 c = ((λ ts x h r. let j = c .before .before .before .before .before .before .before .before .before .before .before .before .before .before .before .before .before .before .before .before .before .before .number-body .ensures .0 ts (Term.uri (x .subject)) h (subject-body (c .before .before .before .before .before .before .before .before .before .before .before .before .before .before .before .before .before .before .before .before .before .before .before .before .before .before .before .before .before .before .args .page .now) (c .before .before .before .before .before .before .before .before .before .before .before .before .before .before .before .before .before .before .before .before .before .before .before .before .before .before .before .before .before .before .args .at) (c .before .before .before .before .before .before .before .before .before .before .before .before .before .before .before .before .before .before .before .before .before .before .before .before .before .before .before .before .before .before .args .next) x r) in let k = c .before .before .before .before .before .before .before .before .before .before .before .before .before .number-body2 .ensures .0 (subjectIn ts x .terms) (Term.uri (x .property)) (j .held (omega (arith, c .before .before .before .before .before .before .before .before .before .before .before .before .before .before .before .before .before .if1 .left))) (property-body (c .before .before .before .before .before .before .before .before .before .before .before .before .before .before .before .before .before .before .before .before .before .before .before .before .before .before .before .before .before .before .args .page .now) (c .before .before .before .before .before .before .before .before .before .before .before .before .before .before .before .before .before .before .before .before .before .before .before .before .before .before .before .before .before .before .args .at) (c .before .before .before .before .before .before .before .before .before .before .before .before .before .before .before .before .before .before .before .before .before .before .before .before .before .before .before .before .before .before .args .next) x r) in all-numbered ts x _ _ _ _ _ _ j k (c .before .before .before .before .number-body3 .ensures .0 (propertyIn ts x .terms) (x .object) (k .held (omega (arith, c .before .before .before .before .before .before .before .before .if2 .left))) (object-body (c .before .before .before .before .before .before .before .before .before .before .before .before .before .before .before .before .before .before .before .before .before .before .before .before .before .before .before .before .before .before .args .page .now) (c .before .before .before .before .before .before .before .before .before .before .before .before .before .before .before .before .before .before .before .before .before .before .before .before .before .before .before .before .before .before .args .at) (c .before .before .before .before .before .before .before .before .before .before .before .before .before .before .before .before .before .before .before .before .before .before .before .before .before .before .before .before .before .before .args .next) x r))), c .before .before .before .before .number-body3 .ensures .1)
+
+pub number-triple-spec : {M : Type 1} → statement M
+number-triple-spec =
+    tie.close
+    (tie.spec
+    add-from
+    add-middle
+    add-last
+    shared-slice-read-kind
+    sub-kind
+    sub-number-body
+    part-number-body-start
+    part-number-body-end
+    number-body-requires
+    same-length
+    same-length-2
+    returns
+    sub-number-body-2
+    part-number-body-start-2
+    part-number-body-end-2
+    number-body-requires-2
+    same-length-3
+    same-length-4
+    returns-2
+    sub-number-body-3
+    part-number-body-start-3
+    part-number-body-end-3
+    number-body-requires-3
+    same-length-5
+    same-length-6
+    returns-3)

@@ -1,0 +1,131 @@
+-- What the tables hold while a page is taken in.
+use Prim.Native.Nat.{ℕ, _*_, _≤_}
+use mathlib.Core.List.{List}
+use mathlib.Core.Option.{some}
+use mathlib.Core.Path.{_≡_}
+use lib.ListN.{length}
+use Rattle.definitions.specs.Limits.{termLimit, termTableWidth, quadLimit, quadTableWidth, entryLimit}
+use Rattle.definitions.specs.Types.{Datatype}
+use Rattle.definitions.specs.Terms.{Term, Schema, Triple, bodyWidth, termOfBody, ofTermKind, ofPageKind, readSchema, readPage}
+use Rattle.definitions.specs.Evaluate.{Quad}
+use Rattle.definitions.specs.Machine.{Numbered, numbered, Taken, withQuad}
+use Rattle.definitions.specs.Saved.{termTable, quadTable}
+use Rattle.laws.specs.Lists.{All}
+use Rattle.laws.specs.Valid.{Valid}
+use Rattle.laws.specs.Quads.{Small}
+use Rattle.laws.specs.Records.{TripleAt}
+use Rattle.table.specs.Hashes.{Hashed}
+use Rattle.definitions.specs.Limits.{entryWidth}
+use Rattle.pages.specs.declared.Joined.{Joined}
+use Rattle.pages.specs.declared.Numbers.{Numbers}
+use Rattle.pages.specs.declared.Counts.{Counts}
+
+-- ── terms ───────────────────────────────────────────────────────────────────────────────────
+
+-- a table of n terms
+pub record HeldTerms (table : List ℕ) (n : ℕ) (ts : List Term) : Type 0 where
+  pub is : table ≡ termTable ts
+  pub valid : All Valid ts
+  pub count : length ts ≡ n
+  pub few : n ≤ termLimit
+
+abbrev pub Held : (table : List ℕ) → ℕ → Type 0
+Held table n = (ts : List Term) × HeldTerms table n ts
+
+-- the hashes of a table's n slots, where there is room for so many
+pub record HeldHashes (table : List ℕ) (n : ℕ) (hashes : List ℕ) : Type 0 where
+  pub room : length hashes ≡ termLimit
+  pub each : n ≤ termLimit → Hashed table n hashes
+
+-- a body of a kind says a term
+pub record BodyIs (k : ℕ) (body : List ℕ) (t : Term) : Type 0 where
+  pub datatype : Datatype
+  pub kind : ofTermKind k ≡ some datatype
+  pub width : length body ≡ bodyWidth datatype
+  pub says : termOfBody datatype body ≡ some t
+
+abbrev pub Says : ℕ → List ℕ → Type 0
+Says k body = (t : Term) × BodyIs k body t
+
+-- a term has its number; the table holds it too, where there is room
+pub record Joins (ts : List Term) (t : Term) (r : Joined) (table : List ℕ) : Type 0 where
+  pub is : r .number ≡ numbered t ts .number
+  pub count : r .terms ≡ length (numbered t ts .terms)
+  pub width : length table ≡ termTableWidth
+  pub held : r .terms ≤ termLimit → HeldTerms table (r .terms) (numbered t ts .terms)
+
+-- ── a record's terms ────────────────────────────────────────────────────────────────────────
+
+-- subject before object
+abbrev pub subjectIn : List Term → Triple → Numbered
+subjectIn ts x = numbered (Term.uri (x .subject)) ts
+
+abbrev pub propertyIn : List Term → Triple → Numbered
+propertyIn ts x = numbered (Term.uri (x .property)) (subjectIn ts x .terms)
+
+abbrev pub objectIn : List Term → Triple → Numbered
+objectIn ts x = numbered (x .object) (propertyIn ts x .terms)
+
+-- where there was room for all
+pub record Numbered3 (ts : List Term) (x : Triple) (r : Numbers) (table : List ℕ) : Type 0 where
+  pub subject : r .subject ≡ subjectIn ts x .number
+  pub property : r .property ≡ propertyIn ts x .number
+  pub object : r .object ≡ objectIn ts x .number
+  pub terms : HeldTerms table (r .terms) (objectIn ts x .terms)
+
+pub record Numbering (ts : List Term) (x : Triple) (r : Numbers) (table : List ℕ) : Type 0 where
+  pub atMost : r .terms ≤ length (objectIn ts x .terms)
+  pub width : length table ≡ termTableWidth
+  pub held : r .terms ≤ termLimit → Numbered3 ts x r table
+
+-- ── what is read ────────────────────────────────────────────────────────────────────────────
+
+abbrev pub PageKind : ℕ → Type 0
+PageKind k = (d : Datatype) × (ofPageKind k ≡ some d)
+
+abbrev pub RecordAt : List ℕ → (at next : ℕ) → Type 0
+RecordAt page at next = (x : Triple) × TripleAt page at x next
+
+abbrev pub PageReads : List ℕ → Type 0
+PageReads page = (rs : List Triple) × (readPage page ≡ some rs)
+
+-- a schema of no more entries than there may be
+abbrev pub Reads : List ℕ → Type 0
+Reads schema = (S : Schema) × (readSchema schema ≡ some S) × (length schema ≤ entryLimit * entryWidth)
+
+-- ── quads ───────────────────────────────────────────────────────────────────────────────────
+
+-- a table of n quads
+pub record HeldQuads (table : List ℕ) (n : ℕ) (qs : List Quad) : Type 0 where
+  pub is : table ≡ quadTable qs
+  pub small : All Small qs
+  pub count : length qs ≡ n
+  pub few : n ≤ quadLimit
+
+abbrev pub HeldSome : (table : List ℕ) → ℕ → Type 0
+HeldSome table n = (qs : List Quad) × HeldQuads table n qs
+
+-- a quad is there; the table holds it too, where there is room
+pub record Stores (qs : List Quad) (q : Quad) (n : ℕ) (table : List ℕ) : Type 0 where
+  pub count : n ≡ length (withQuad q qs)
+  pub width : length table ≡ quadTableWidth
+  pub held : n ≤ quadLimit → HeldQuads table n (withQuad q qs)
+
+-- ── the page so far ─────────────────────────────────────────────────────────────────────────
+
+-- both tables and the skipped count
+pub record HeldTaken (termBytes quadBytes : List ℕ) (c : Counts) (k : Taken) : Type 0 where
+  pub terms : HeldTerms termBytes (c .terms) (k .terms)
+  pub quads : HeldQuads quadBytes (c .quads) (k .quads)
+  pub skipped : c .skipped ≡ k .skipped
+
+abbrev pub HeldBoth : (termBytes quadBytes : List ℕ) → Counts → Type 0
+HeldBoth termBytes quadBytes c = (k : Taken) × HeldTaken termBytes quadBytes c k
+
+-- held where there was room for all; else a limit is passed
+pub record Took (termBytes quadBytes : List ℕ) (c : Counts) (k : Taken) : Type 0 where
+  pub termsAtMost : c .terms ≤ length (k .terms)
+  pub quadsAtMost : c .quads ≤ length (k .quads)
+  pub termWidth : length termBytes ≡ termTableWidth
+  pub quadWidth : length quadBytes ≡ quadTableWidth
+  pub held : c .terms ≤ termLimit → c .quads ≤ quadLimit → HeldTaken termBytes quadBytes c k

@@ -1,0 +1,11 @@
+-- `reader::patterns::no_literal` meets its contract.
+use mathlib.Core.Path.{refl}
+use Rattle.reader.proofs.FieldLaws.{no-literal}
+use Rattle.reader.proofs.patterns.no_literal.Statement.{statement}
+use Rattle.reader.proofs.patterns.no_literal.Tie as tie
+
+returns : tie.Need-returns
+returns c = no-literal _ refl
+
+pub no-literal-spec : {M : Type 1} → statement M
+no-literal-spec = tie.close (tie.spec returns)

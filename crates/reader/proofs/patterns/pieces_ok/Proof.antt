@@ -1,0 +1,76 @@
+-- `reader::patterns::pieces_ok` meets its contract.
+use native.Mathlib.Omega.{arith}
+use Prim.Native.Nat.{_-_}
+use borrow.Author.Needs.{needs}
+use borrow.Author.Tests.{not-true, not-false}
+use mathlib.Core.Path.{_≡_, sym, _∙_}
+use Rattle.definitions.specs.Bytes.{part}
+use Rattle.reader.specs.Fields.{arePieces}
+use Rattle.reader.proofs.FieldLaws.{goodFrom, pieces-from, pieces-zero, pieces-end, pieces-bad, pieces-turn, pieces-done}
+use Rattle.reader.proofs.patterns.pieces_ok.Statement.{statement}
+use Rattle.reader.proofs.patterns.pieces_ok.Tie as tie
+
+abbrev Inv-loop : tie.InvT-loop
+Inv-loop s from end i₀ atom₀ i atom = arePieces (part s from (end - from)) ≡ goodFrom atom (part s i (end - i))
+
+abbrev μ-loop : tie.MeasureT-loop
+μ-loop s from end i₀ atom₀ i atom = end - i
+
+loop-holds : tie.Need-loop-holds Inv-loop μ-loop
+loop-holds c = pieces-from (part (c .before .args .s .now) (c .before .args .from) (c .before .args .end - c .before .args .from))
+
+shared-slice-read-b : tie.Need-shared-slice-read-b Inv-loop μ-loop
+shared-slice-read-b c = omega arith
+
+zeros-requires : tie.Need-zeros-requires Inv-loop μ-loop
+zeros-requires c κs = omega arith
+
+returns : tie.Need-returns Inv-loop μ-loop
+returns c = c .zeros .ensures ∙ sym (c .before .before .before .before .loop .inv ∙ pieces-zero (c .before .before .before .before .before .before .args .s .now) (c .before .before .before .before .loop .i) (c .before .before .before .before .before .before .args .end) (c .before .before .before .before .loop .atom) (omega arith) (omega arith) (c .before .if1 .taken))
+
+add-zeros : tie.Need-add-zeros Inv-loop μ-loop
+add-zeros c = omega arith
+
+zeros-requires-2 : tie.Need-zeros-requires-2 Inv-loop μ-loop
+zeros-requires-2 c κs = omega arith
+
+returns-2 : tie.Need-returns-2 Inv-loop μ-loop
+returns-2 c = c .zeros2 .ensures ∙ sym (c .before .before .before .before .before .loop .inv ∙ pieces-end (c .before .before .before .before .before .before .before .args .s .now) (c .before .before .before .before .before .loop .i) (c .before .before .before .before .before .before .before .args .end) (c .before .before .before .before .before .loop .atom) (omega arith) (omega arith) (c .before .if2 .taken))
+
+may-follow-requires : tie.Need-may-follow-requires Inv-loop μ-loop
+may-follow-requires c κs = search needs
+
+returns-3 : tie.Need-returns-3 Inv-loop μ-loop
+returns-3 c = sym (c .before .before .before .before .before .before .loop .inv ∙ pieces-bad (c .before .before .before .before .before .before .before .before .args .s .now) (c .before .before .before .before .before .before .loop .i) (c .before .before .before .before .before .before .before .before .args .end) (c .before .before .before .before .before .before .loop .atom) (omega arith) (omega arith) (c .before .before .before .if1 .left) (c .before .before .if2 .left) (sym (c .before .may-follow .ensures) ∙ not-true (c .before .may-follow .result) (c .if3 .taken)))
+
+add-i : tie.Need-add-i Inv-loop μ-loop
+add-i c = omega arith
+
+loop-less : tie.Need-loop-less Inv-loop μ-loop
+loop-less c = omega arith
+
+loop-again : tie.Need-loop-again Inv-loop μ-loop
+loop-again c = c .before .before .before .before .before .before .loop .inv ∙ pieces-turn (c .before .before .before .before .before .before .before .before .args .s .now) (c .before .before .before .before .before .before .loop .i) (c .before .before .before .before .before .before .before .before .args .end) (c .before .before .before .before .before .before .loop .atom) (omega arith) (omega arith) (c .before .before .before .if1 .left) (c .before .before .if2 .left) (sym (c .before .may-follow .ensures) ∙ not-false (c .before .may-follow .result) (c .if3 .left))
+
+returns-4 : tie.Need-returns-4 Inv-loop μ-loop
+returns-4 c = sym (c .before .loop .inv ∙ pieces-done (c .before .before .before .args .s .now) (c .before .loop .i) (c .before .before .before .args .end) (c .before .loop .atom) (omega arith))
+
+pub pieces-ok-spec : {M : Type 1} → statement M
+pieces-ok-spec =
+    tie.close
+    (tie.spec
+    Inv-loop
+    μ-loop
+    loop-holds
+    shared-slice-read-b
+    zeros-requires
+    returns
+    add-zeros
+    zeros-requires-2
+    returns-2
+    may-follow-requires
+    returns-3
+    add-i
+    loop-less
+    loop-again
+    returns-4)

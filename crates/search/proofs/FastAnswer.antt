@@ -1,0 +1,265 @@
+-- The fast search gives the machine's answer, under what soundness gives.
+use Prim.Native.Nat.{ℕ, zero, suc, _-_, _≤_, _<_, min}
+use native.Mathlib.Omega.{arith}
+use mathlib.Core.Path.{_≡_, refl, sym, _∙_, ap, subst, subst⁻¹, fun-ext}
+use mathlib.Core.List.{List, [], _∷_}
+use mathlib.Core.Logic.{⊎-elim}
+use mathlib.Core.Bool.{Bool, true, false, cond, not, _&&_, _||_}
+use mathlib.Core.Option.{Option, none, some}
+use lib.Dec.{T, eqb, ltb, eqb→eq, eqb-refl, lt→ltb, T-not}
+use lib.ListN.{length, getElem?}
+use lib.IntN.{ℤ}
+use Rattle.definitions.specs.Lists.{isIn, every, distinct}
+use Rattle.definitions.specs.Terms.{Term, Schema}
+use Rattle.definitions.specs.Tree.{Query}
+use Rattle.definitions.specs.Outcome.{ok}
+use Rattle.definitions.specs.Values.{before}
+use Rattle.definitions.specs.Evaluate.{Bindings, Quad, query}
+use Rattle.definitions.specs.Search.{Typing, Tuple, earlier, bind, answer}
+use Rattle.laws.proofs.Tests.{andLeft, andRight, andMake, orLeft, orRight, orCases, by-test, isTrue, isFalse}
+use Rattle.laws.proofs.Options.{some-not-none}
+use Rattle.laws.specs.Bindings.{Holds, Fits}
+use Rattle.laws.proofs.Bindings.{test-holds, holds-test, is-below}
+use Rattle.query.specs.Seek.{passes, seek, skip, set, clear, startAt, restOf, tries, ahead, next, hopeful, find, fastAnswer}
+use Rattle.search.specs.Ready.{Ready}
+use Rattle.search.proofs.TupleOrder.{isAfter}
+use Rattle.search.proofs.FirstTuple.{First, first-map, Good as GoodAnswer, answer-first}
+use Rattle.search.proofs.Filters.{Under}
+use Rattle.search.proofs.Reaches.{seek-floor, seek-reaches}
+use Rattle.search.proofs.TryLaws.{skip-floor, skip-reaches, skip-typed, after-start, after-rest, after-both, tries-first}
+
+-- ── bindings ────────────────────────────────────────────────────────────────────────────────
+
+-- no variable stands twice
+abbrev pub Once : List ℕ → Type 0
+Once [] = Unit {0}
+Once (v ∷ vs) = (T (isIn v vs) → ⊥) × Once vs
+
+-- the variables still to choose are not known
+abbrev pub Cleared : List ℕ → Bindings → Type 0
+Cleared vs γ = (x : ℕ) → T (isIn x vs) → γ x ≡ none
+
+cleared-set : (v i : ℕ) (vs : List ℕ) (γ : Bindings) → (T (isIn v vs) → ⊥) → Cleared (v ∷ vs) γ → Cleared vs (set v i γ)
+cleared-set v i vs γ d c x m = go (eqb x v) (eqb→eq x v)
+  where
+    go : (b : Bool) → (T b → x ≡ v) → cond b (some i) (γ x) ≡ none
+    go true e = absurd (d (subst (λ y. T (isIn y vs)) (e tt) m))
+    go false e = c x (orRight (eqb x v) (isIn x vs) m)
+
+under-bind : (vs : List ℕ) (t : Tuple) (γ : Bindings) → Cleared vs γ → Under γ (bind vs t γ)
+unfolding bind
+under-bind [] t γ c x i e = e
+under-bind (v ∷ vs) [] γ c x i e = e
+under-bind (v ∷ vs) (j ∷ t) γ c x i e = go (eqb x v) (λ b. c x b) (under-bind vs t γ (λ y m. c y (orRight (eqb y v) (isIn y vs) m)) x i e)
+  where
+    go : (b : Bool) → (T (b || isIn x vs) → γ x ≡ none) → bind vs t γ x ≡ some i → cond b (some j) (bind vs t γ x) ≡ some i
+    go true n k = absurd (some-not-none e (n tt))
+    go false n k = k
+
+-- a variable set now or bound with the others, where it is none of them
+set-bind-at : (v i : ℕ) (vs : List ℕ) (t : Tuple) (γ : Bindings) → (T (isIn v vs) → ⊥)
+    → (x : ℕ) → cond (eqb x v) (some i) (bind vs t γ x) ≡ bind vs t (set v i γ) x
+unfolding bind
+set-bind-at v i [] t γ d x = refl
+set-bind-at v i (w ∷ vs) [] γ d x = refl
+set-bind-at v i (w ∷ vs) (j ∷ t) γ d x =
+    go (eqb x v) (eqb→eq x v) (eqb x w) (eqb→eq x w) (set-bind-at v i vs t γ (λ m. d (orRight (eqb v w) (isIn v vs) m)) x)
+  where
+    apart : v ≡ w → ⊥
+    apart e = d (orLeft (eqb v w) (isIn v vs) (subst (λ y. T (eqb v y)) e (eqb-refl v)))
+
+    go : (a : Bool) → (T a → x ≡ v) → (b : Bool) → (T b → x ≡ w) → cond a (some i) (bind vs t γ x) ≡ bind vs t (set v i γ) x
+        → cond a (some i) (cond b (some j) (bind vs t γ x)) ≡ cond b (some j) (bind vs t (set v i γ) x)
+    go true e true f h = absurd (apart (sym (e tt) ∙ f tt))
+    go false e true f h = refl
+    go true e false f h = h
+    go false e false f h = h
+
+module _ (S : Schema) (Γ : Typing) (terms : List Term) where
+  -- what the tuple covers does not matter
+  covered-bind : (vs : List ℕ) (t : Tuple) → Fits S Γ terms vs t → (β γ : Bindings) (x : ℕ) → (T (not (isIn x vs)) → β x ≡ γ x) → bind vs t β x ≡ bind vs t γ x
+  unfolding bind
+  covered-bind [] [] h β γ x k = k tt
+  covered-bind [] (i ∷ t) h β γ x k = absurd h
+  covered-bind (v ∷ vs) [] h β γ x k = absurd h
+  covered-bind (v ∷ vs) (i ∷ t) h β γ x k = go (eqb x v) k (covered-bind vs t (h .1) β γ x)
+    where
+      go : (b : Bool) → (T (not (b || isIn x vs)) → β x ≡ γ x) → ((T (not (isIn x vs)) → β x ≡ γ x) → bind vs t β x ≡ bind vs t γ x)
+          → cond b (some i) (bind vs t β x) ≡ cond b (some i) (bind vs t γ x)
+      go true k r = refl
+      go false k r = r k
+
+  -- a variable of the tuple has a number of the table
+  record Has (δ : Bindings) (w : ℕ) : Type 0 where
+    number : ℕ
+    is : δ w ≡ some number
+    small : number < length terms
+
+  tuple-has : (vs : List ℕ) (t : Tuple) (γ : Bindings) → Fits S Γ terms vs t → (w : ℕ) → T (isIn w vs) → Has (bind vs t γ) w
+  unfolding bind
+  tuple-has [] t γ h w m = absurd m
+  tuple-has (v ∷ vs) [] γ h w m = absurd h
+  tuple-has (v ∷ vs) (i ∷ t) γ h w m = go (eqb w v) m (tuple-has vs t γ (h .1) w) refl
+    where
+      go : (b : Bool) → T (b || isIn w vs) → (T (isIn w vs) → Has (bind vs t γ) w) → eqb w v ≡ b → Has (bind (v ∷ vs) (i ∷ t) γ) w
+      go true m k e =
+          record { number = i; is = ap (λ c. cond c (some i) (bind vs t γ w)) e; small = is-below terms i (h .0 .term) (h .0 .there) }
+      go false m k e = let r = k m in record { number = r .number; is = ap (λ c. cond c (some i) (bind vs t γ w)) e ∙ r .is; small = r .small }
+
+-- ── one level ───────────────────────────────────────────────────────────────────────────────
+
+module _ (S : Schema) (Γ : Typing) (clock : ℤ) (terms : List Term) (quads : List Quad) (q : Query) where
+  abbrev holds : Bindings → Bool
+  holds δ = passes (query S clock terms quads δ q)
+
+  abbrev least : Bindings → ℕ → ℕ → ℕ
+  least γ v lo = seek S clock terms quads γ v q lo
+
+  abbrev Good : List ℕ → Bindings → Option Tuple → Tuple → Type 0
+  Good vs γ last t = Fits S Γ terms vs t × T (isAfter last t) × T (holds (bind vs t γ))
+
+  -- where a variable has a number that passes, two passes of the seek stay below the end
+  module _ (γ δ : Bindings) (u : Under γ δ) (p : T (holds δ)) where
+    seek-has : (w : ℕ) → Has S Γ terms δ w → T (ltb (least γ w (least γ w zero)) (length terms))
+    seek-has w h =
+        let j = h .number in
+        let a : least γ w zero ≤ j = seek-reaches S clock terms quads γ w δ u j (h .is) q zero (omega arith) p in
+        let b : least γ w (least γ w zero) ≤ j = seek-reaches S clock terms quads γ w δ u j (h .is) q (least γ w zero) a p in
+        let l = h .small in
+        lt→ltb (least γ w (least γ w zero)) (length terms) (omega arith)
+
+    hopeful-true : (ws : List ℕ) → ((w : ℕ) → T (isIn w ws) → Has S Γ terms δ w) → T (hopeful S Γ clock terms quads q γ ws)
+    unfolding hopeful
+    hopeful-true [] h = tt
+    hopeful-true (w ∷ ws) h =
+        andMake (ltb (least γ w (least γ w zero)) (length terms)) (hopeful S Γ clock terms quads q γ ws)
+        (seek-has w (h w (orLeft (eqb w w) (isIn w ws) (eqb-refl w)))) (hopeful-true ws (λ x m. h x (orRight (eqb x w) (isIn x ws) m)))
+
+  ahead-in : (w : ℕ) (last : Option Tuple) (vs : List ℕ) → T (isIn w (ahead last vs)) → T (isIn w vs)
+  ahead-in w none [] m = m
+  ahead-in w none (v ∷ vs) m = orRight (eqb w v) (isIn w vs) m
+  ahead-in w (some l) vs m = absurd m
+
+  module _ (γ : Bindings) (v : ℕ) where
+    abbrev step : ℕ → ℕ
+    step lo = next S Γ clock terms quads q γ v lo
+
+    pub next-floor : (lo : ℕ) → step lo < length terms → lo ≤ step lo
+    unfolding next
+    next-floor lo h =
+        let i = least γ v lo in
+        let a = seek-floor S clock terms quads γ v (min lo (length terms)) (omega arith) q lo (omega arith) in
+        let b = skip-floor S (Γ v) terms (length terms - i) i in
+        omega arith
+
+    pub next-holds : (lo : ℕ) → step lo < length terms → Holds S terms (step lo) (Γ v)
+    unfolding next
+    next-holds lo h = test-holds S terms (Γ v) _ (skip-typed S (Γ v) terms (length terms - least γ v lo) (least γ v lo) (omega arith) h)
+
+  module _ (v : ℕ) (vs : List ℕ) (d : T (isIn v vs) → ⊥) (γ : Bindings) (c : Cleared (v ∷ vs) γ) (last : Option Tuple) where
+    bound-here : (j : ℕ) (t : Tuple) → bind (v ∷ vs) (j ∷ t) γ v ≡ some j
+    unfolding bind
+    bound-here j t = rw (isTrue (eqb v v) (eqb-refl v)) refl
+
+    later : (i : ℕ) (t : Tuple) → bind (v ∷ vs) (i ∷ t) γ ≡ bind vs t (set v i γ)
+    unfolding bind
+    later i t = fun-ext (set-bind-at v i vs t γ d)
+
+    narrow : (i : ℕ) (t : Tuple) → Good (v ∷ vs) γ last (i ∷ t) → Good vs (set v i γ) (restOf last i) t
+    narrow i t g = (g .0 .1, after-rest last i t (g .1), subst (λ δ. T (holds δ)) (later i t) (g .2))
+
+    widen : (i : ℕ) → Holds S terms i (Γ v) → startAt last ≤ i → (t : Tuple) → Good vs (set v i γ) (restOf last i) t → Good (v ∷ vs) γ last (i ∷ t)
+    widen i h l t g = ((h, g .0), after-both last i t l (g .1), subst⁻¹ (λ δ. T (holds δ)) (later i t) (g .2))
+
+    next-reaches : (lo j : ℕ) (t : Tuple) → lo ≤ j → Good (v ∷ vs) γ last (j ∷ t) → step γ v lo ≤ j
+    unfolding next
+    next-reaches lo j t l g =
+        skip-reaches S (Γ v) terms _ (least γ v lo) j
+        (seek-reaches S clock terms quads γ v (bind (v ∷ vs) (j ∷ t) γ) (under-bind (v ∷ vs) (j ∷ t) γ c) j (bound-here j t) q lo l (g .2))
+        (holds-test S terms (Γ v) j (g .0 .0))
+
+    abbrev asked : ℕ → List ℕ
+    asked i = ahead (restOf last i) vs
+
+    no-hope : (i : ℕ) → T (not (hopeful S Γ clock terms quads q (set v i γ) (asked i))) → (t : Tuple) → Good (v ∷ vs) γ last (i ∷ t) → ⊥
+    no-hope i n t g =
+        let k = narrow i t g in
+        T-not (hopeful S Γ clock terms quads q (set v i γ) (asked i)) n
+        (hopeful-true (set v i γ) (bind vs t (set v i γ)) (under-bind vs t (set v i γ) (cleared-set v i vs γ d c)) (k .2) (asked i)
+        (λ w m. tuple-has S Γ terms vs t (set v i γ) (k .0) w (ahead-in w (restOf last i) vs m)))
+
+  -- ── the levels ────────────────────────────────────────────────────────────────────────────
+
+  pub find-first : (vs : List ℕ) → Once vs → (γ : Bindings) → Cleared vs γ → (last : Option Tuple)
+      → First (Good vs γ last) (find S Γ clock terms quads q vs γ last)
+  unfolding find bind before
+  find-first [] o γ c none = by-test (First (Good [] γ none)) (holds γ) (some []) none (λ p. ((tt, tt, p), least-one)) out
+    where
+      least-one : (u : Tuple) → Good [] γ none u → T (earlier u []) → ⊥
+      least-one [] g e = e
+      least-one (i ∷ t) g e = g .0
+
+      out : T (not (holds γ)) → (u : Tuple) → Good [] γ none u → ⊥
+      out n [] g = T-not (holds γ) n (g .2)
+      out n (i ∷ t) g = g .0
+  find-first [] o γ c (some l) = λ u g. out l u g
+    where
+      out : (l u : Tuple) → Good [] γ (some l) u → ⊥
+      out [] [] g = g .1
+      out (a ∷ s) [] g = g .1
+      out l (i ∷ t) g = g .0
+  find-first (v ∷ vs) o γ c last =
+      tries-first (Good (v ∷ vs) γ last) body (step γ v) (length terms) (startAt last)
+      (λ g. g .0)
+      (λ j t g. is-below terms j (g .0 .0 .term) (g .0 .0 .there))
+      (next-floor γ v)
+      (next-reaches v vs (o .0) γ c last)
+      (λ lo l b.
+      let i = step γ v lo in
+      by-test (First (λ t. Good (v ∷ vs) γ last (i ∷ t))) (hope i) (rest i) none
+      (λ k.
+      first-map (Good vs (set v i γ) (restOf last i)) (λ t. Good (v ∷ vs) γ last (i ∷ t))
+      (widen v vs (o .0) γ c last i (next-holds γ v lo b) l) (narrow v vs (o .0) γ c last i)
+      (rest i) (find-first vs (o .1) (set v i γ) (cleared-set v i vs γ (o .0) c) (restOf last i)))
+      (no-hope v vs (o .0) γ c last i))
+      (length terms) (omega arith) (λ j t g. after-start last j t (g .1))
+    where
+      hope : ℕ → Bool
+      hope i = hopeful S Γ clock terms quads q (set v i γ) (ahead (restOf last i) vs)
+
+      rest : ℕ → Option Tuple
+      rest i = find S Γ clock terms quads q vs (set v i γ) (restOf last i)
+
+      body : ℕ → Option Tuple
+      body i = cond (hope i) (rest i) none
+
+-- ── the theorem ─────────────────────────────────────────────────────────────────────────────
+
+pub distinct-once : (vs : List ℕ) → T (distinct eqb vs) → Once vs
+distinct-once [] h = tt
+distinct-once (v ∷ vs) h =
+    let others = every (λ y. not (eqb v y)) vs in
+    (apart vs (andLeft others (distinct eqb vs) h), distinct-once vs (andRight others (distinct eqb vs) h))
+  where
+    apart : (ws : List ℕ) → T (every (λ y. not (eqb v y)) ws) → T (isIn v ws) → ⊥
+    apart [] h m = m
+    apart (w ∷ ws) h m =
+        let e = andLeft (not (eqb v w)) (every (λ y. not (eqb v y)) ws) h in
+        ⊎-elim (T-not (eqb v w) e) (apart ws (andRight (not (eqb v w)) (every (λ y. not (eqb v y)) ws) h)) (orCases (eqb v w) (isIn v ws) m)
+
+module _ (S : Schema) (Γ : Typing) (clock : ℤ) (terms : List Term) (quads : List Quad) (β : Bindings) (vs : List ℕ) (once : Once vs) (q : Query)
+    (ready : Ready S Γ terms β vs q) where
+  clear-cleared : Cleared vs (clear vs β)
+  clear-cleared x m = rw (isTrue (isIn x vs) m) refl
+
+  clear-bind : (t : Tuple) → Fits S Γ terms vs t → bind vs t (clear vs β) ≡ bind vs t β
+  clear-bind t h = fun-ext λ x. covered-bind S Γ terms vs t h (clear vs β) β x (λ k. rw (isFalse (isIn x vs) k) refl)
+
+  pub fast-answer : (last : Option Tuple) → answer S Γ clock terms quads β vs q last ≡ ok (fastAnswer S Γ clock terms quads q β vs last)
+  unfolding fastAnswer
+  fast-answer last =
+      answer-first S Γ clock terms quads β vs q ready last (find S Γ clock terms quads q vs (clear vs β) last)
+      (first-map (Good S Γ clock terms quads q vs (clear vs β) last) (GoodAnswer S Γ clock terms quads β vs q ready last)
+      (λ u g. (g .0, g .1, subst (λ δ. T (passes (query S clock terms quads δ q))) (clear-bind u (g .0)) (g .2)))
+      (λ u g. (g .0, g .1, subst⁻¹ (λ δ. T (passes (query S clock terms quads δ q))) (clear-bind u (g .0)) (g .2)))
+      (find S Γ clock terms quads q vs (clear vs β) last) (find-first S Γ clock terms quads q vs once (clear vs β) clear-cleared last))

@@ -1,0 +1,97 @@
+-- What is skipped cannot hold: where the query holds with number j for the variable, and j is not below the floor, the seek stops at j or before.
+use Prim.Native.Nat.{ℕ, _≤_, min}
+use native.Mathlib.Omega.{arith}
+use mathlib.Core.Path.{_≡_, refl, subst⁻¹}
+use mathlib.Core.List.{List}
+use mathlib.Core.Bool.{Bool, true, false, cond, not, _&&_, _||_}
+use mathlib.Core.Option.{Option, none, some}
+use lib.Dec.{T, eqb, eqb→eq, T-not}
+use lib.ListN.{length}
+use lib.IntN.{ℤ}
+use Rattle.definitions.specs.Terms.{Term, Schema}
+use Rattle.definitions.specs.Tree.{Name, var, const, Query}
+use Rattle.definitions.specs.Scope.{inCond}
+use Rattle.definitions.specs.Outcome.{Outcome, ok, fault, _>>=_}
+use Rattle.definitions.specs.Evaluate.{Bindings, Quad, stored, numberOf, condition, query}
+use Rattle.laws.proofs.Tests.{andLeft, andRight, by-test, trueIs}
+use Rattle.query.specs.Seek.{passes, Place, sought, known, placeOf, placesOf, condKnown, seek}
+use Rattle.search.proofs.OnlyNamed.{condition-agrees}
+use Rattle.query.proofs.Outcomes.{passes-ok}
+use Rattle.query.proofs.Patterns.{pattern-ok}
+use Rattle.query.proofs.ScanLaws.{Meets, Matches, row-top, row-fits, scan-floor, scan-here}
+use Rattle.search.proofs.Filters.{Under, bound-agrees, cond-bound}
+
+-- ── a name's place ──────────────────────────────────────────────────────────────────────────
+
+module _ (γ δ : Bindings) (u : Under γ δ) (v j : ℕ) (is : δ v ≡ some j) where
+  place-meets : (n : Name) (x : ℕ) → numberOf δ n ≡ some x → Meets j (placeOf γ v n) x
+  place-meets (const c) x f = cc
+  place-meets (var w) x f = go (eqb w v) (eqb→eq w v) (γ w) (u w)
+    where
+      go : (b : Bool) → (T b → w ≡ v) → (o : Option ℕ) → ((i : ℕ) → o ≡ some i → δ w ≡ some i) → Meets j (cond b sought (known o)) x
+      go true s o k = let r = s tt in cc
+      go false s none k = tt
+      go false s (some i) k = let r = k i refl in cc
+
+-- ── both and union, where a fault is no pass ────────────────────────────────────────────────
+
+both-pass : (m n : Outcome Bool) → T (passes (m >>= λ a. n >>= λ b. ok (a && b))) → T (passes m) × T (passes n)
+unfolding _>>=_
+both-pass (fault x) n h = absurd h
+both-pass (ok a) (fault x) h = absurd h
+both-pass (ok a) (ok b) h = (andLeft a b h, andRight a b h)
+
+union-pass : (m n : Outcome Bool) (P : Type 0) → (T (passes m) → P) → (T (passes n) → P) → T (passes (m >>= λ a. n >>= λ b. ok (a || b))) → P
+unfolding _>>=_
+union-pass (fault x) n P f g h = absurd h
+union-pass (ok a) (fault x) P f g h = absurd h
+union-pass (ok true) (ok b) P f g h = f tt
+union-pass (ok false) (ok b) P f g h = g h
+
+-- ── the seek ────────────────────────────────────────────────────────────────────────────────
+
+module _ (S : Schema) (clock : ℤ) (terms : List Term) (quads : List Quad) (γ : Bindings) (v : ℕ) where
+  abbrev test : Bindings → Query → Bool
+  test δ q = passes (query S clock terms quads δ q)
+
+  pub seek-floor : (m : ℕ) → m ≤ length terms → (q : Query) (lo : ℕ) → m ≤ lo → m ≤ seek S clock terms quads γ v q lo
+  unfolding seek
+  seek-floor m h (Query.pattern g s p o) lo l = scan-floor (placesOf γ v g s p o) lo m (length terms) quads l h
+  seek-floor m h (Query.both q r) lo l = seek-floor m h r (seek S clock terms quads γ v q lo) (seek-floor m h q lo l)
+  seek-floor m h (Query.union q r) lo l = omega (arith, seek-floor m h q lo l, seek-floor m h r lo l)
+  seek-floor m h (Query.filter c) lo l =
+      by-test (λ x. m ≤ x) (condKnown γ c) _ lo
+      (λ k. by-test (λ x. m ≤ x) (passes (condition S clock terms quads γ c)) lo (length terms) (λ k. l) (λ k. h)) (λ k. l)
+  seek-floor m h Query.empty lo l = l
+
+  module _ (δ : Bindings) (u : Under γ δ) (j : ℕ) (is : δ v ≡ some j) where
+    pub seek-reaches : (q : Query) (lo : ℕ) → lo ≤ j → T (test δ q) → seek S clock terms quads γ v q lo ≤ j
+    unfolding seek query
+    seek-reaches (Query.pattern g s p o) lo l h =
+        let m = pattern-ok S clock terms quads δ g s p o true (passes-ok (query S clock terms quads δ (Query.pattern g s p o)) h) in
+        let r = m .quad in
+        let places = placesOf γ v g s p o in
+        let fit : Matches places j r = record {
+          graph = place-meets γ δ u v j is g (r .graph) (m .graph);
+          subject = place-meets γ δ u v j is s (r .subject) (m .subject);
+          property = place-meets γ δ u v j is p (r .property) (m .property);
+          object = place-meets γ δ u v j is o (r .object) (m .object);
+        } in
+        omega (arith, scan-here places lo (length terms) r quads (trueIs (stored r quads) (m .isStored)) (row-fits places lo j l r fit), row-top places lo j l r fit)
+    seek-reaches (Query.both q r) lo l h =
+        let k = both-pass (query S clock terms quads δ q) (query S clock terms quads δ r) h in
+        seek-reaches r (seek S clock terms quads γ v q lo) (seek-reaches q lo l (k .0)) (k .1)
+    seek-reaches (Query.union q r) lo l h =
+        let a = seek S clock terms quads γ v q lo in
+        let b = seek S clock terms quads γ v r lo in
+        union-pass (query S clock terms quads δ q) (query S clock terms quads δ r) (min a b ≤ j)
+        (λ k. omega (arith, seek-reaches q lo l k)) (λ k. omega (arith, seek-reaches r lo l k)) h
+    seek-reaches (Query.filter c) lo l h =
+        by-test (λ x. x ≤ j) (condKnown γ c) _ lo
+        (λ k.
+        let same = condition-agrees S clock terms quads γ δ c (bound-agrees γ δ u (λ x. inCond x c) (cond-bound γ c k)) in
+        let p : T (passes (condition S clock terms quads γ c)) = subst⁻¹ (λ m. T (passes m)) same h in
+        by-test (λ x. x ≤ j) (passes (condition S clock terms quads γ c)) lo (length terms) (λ t. l)
+        (λ t. absurd (T-not (passes (condition S clock terms quads γ c)) t p)))
+        (λ k. l)
+    seek-reaches Query.empty lo l h = l

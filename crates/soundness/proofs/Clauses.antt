@@ -1,0 +1,158 @@
+-- The tests together are the clauses of the definition.
+use Prim.Native.Nat.{ℕ, zero, suc, _+_, _*_, _≤_, _<_}
+use native.Mathlib.Omega.{arith}
+use mathlib.Core.Path.{_≡_, refl, sym, ap, _∙_}
+use mathlib.Core.List.{List}
+use mathlib.Core.Bool.{Bool, true, false, not, _&&_, and-assoc, and-comm}
+use mathlib.Core.Option.{some}
+use lib.Dec.{T, eqb, leb, leb→le}
+use lib.ListN.{length, take, drop, length-take}
+use borrow.Author.Tests.{not-true, not-false, le-leb, lt-leb}
+use Rattle.definitions.specs.Limits.{quadWidth, termLimit, quadLimit, graphLimit}
+use Rattle.definitions.specs.Lists.{every, distinct}
+use Rattle.definitions.specs.Bytes.{allZero, provided, onward}
+use Rattle.definitions.specs.Terms.{Term, Schema, sameTerm}
+use Rattle.definitions.specs.Evaluate.{Quad, sameQuad}
+use Rattle.definitions.specs.Machine.{Store, inLimits}
+use Rattle.definitions.specs.Saved.{termsIn, quadsFrom, quadsIn}
+use Rattle.definitions.specs.Sound.{beginsWith, quadSound, isURINumber}
+use Rattle.definitions.specs.declared.SavedRun.{SavedRun}
+use Rattle.laws.proofs.Tests.{andLeft, trueIs}
+use Rattle.laws.proofs.Options.{some-is}
+use Rattle.laws.proofs.SlotAt.{terms-few}
+use Rattle.laws.specs.ReadAnswers.{isSome}
+use Rattle.fields.specs.Answers.{distinctIn}
+use Rattle.table.specs.Table.{HoldsTerms}
+use Rattle.laws.proofs.ReadAnswers.{provided-is}
+use Rattle.table.proofs.TableLaws.{terms, terms-length}
+use Rattle.laws.specs.Quads.{rowsFrom}
+use Rattle.soundness.specs.Store.{storeIn, storeSound, passes, LeastOf, beginsIn, termsSound, uriNumber, quadNumbers, quadsTest, SoundStore}
+use Rattle.soundness.proofs.TermTests.{uri-number, quad-numbers, every-same}
+
+-- no test is both
+pub never : false ≡ true → ⊥
+never e = trueIs false e
+
+-- ── quads and graphs, one test after another ────────────────────────────────────────────────
+
+module _ (table : List ℕ) (n : ℕ) (fetched leasts : List ℕ) (count : ℕ) {a : Bool} (ea : a ≡ isSome (quadsIn n table)) where
+  pub not-held : not a ≡ true → false ≡ quadsTest table n fetched leasts count
+  unfolding quadsTest
+  not-held t = rw (sym ea ∙ not-true a t)
+
+  module _ (ta : not a ≡ false) where
+    module _ {b : Bool} (eb : b ≡ distinct eqb fetched && every (uriNumber leasts count) fetched) where
+      pub bad-graphs : not b ≡ true → false ≡ quadsTest table n fetched leasts count
+      unfolding quadsTest
+      bad-graphs t = rw (sym ea ∙ not-false a ta, sym eb ∙ not-true b t)
+
+      module _ (tb : not b ≡ false) (rows : List ℕ) (er : rowsFrom n rows 0 ≡ quadsFrom n table 0) {c : Bool} (ec : c ≡ distinct sameQuad (rowsFrom n rows 0)) where
+        pub quads-twice : not c ≡ true → false ≡ quadsTest table n fetched leasts count
+        unfolding quadsTest
+        quads-twice t = rw (sym ea ∙ not-false a ta, sym eb ∙ not-false b tb, ← er, sym ec ∙ not-true c t)
+
+        pub quads-all : not c ≡ false → {r : Bool} → r ≡ every (quadNumbers leasts count fetched) (rowsFrom n rows 0) → r ≡ quadsTest table n fetched leasts count
+        unfolding quadsTest
+        quads-all t e = e ∙ rw (sym ea ∙ not-false a ta, sym eb ∙ not-false b tb, ← er, sym ec ∙ not-false c t)
+
+-- ── all clauses ─────────────────────────────────────────────────────────────────────────────
+
+and-false : (x : Bool) → x && false ≡ false
+and-false true = refl
+and-false false = refl
+
+and-true : (x : Bool) → x ≡ x && true
+and-true true = refl
+and-true false = refl
+
+-- begin and different terms; graphs; URIs; quads
+in-order : (b d f u q s : Bool) → (b && d) && ((f && u) && (q && s)) ≡ d && (b && (q && (s && (f && (u && true)))))
+in-order b d f u q s =
+    ap (λ (x : Bool). x && ((f && u) && (q && s))) (and-comm b d)
+    ∙ and-assoc d b ((f && u) && (q && s))
+    ∙ ap (λ (x : Bool). d && (b && x))
+    (and-comm (f && u) (q && s) ∙ and-assoc q s (f && u) ∙ ap (λ (x : Bool). q && (s && (f && x))) (and-true u))
+
+-- with the limits, which hold where there are quads and few graphs
+in-all : (h g b d f u q s l : Bool) → (T h → T g → l ≡ true)
+    → (b && d) && (g && (h && ((f && u) && (q && s)))) ≡ h && (g && (d && (b && (q && (s && (f && (u && l)))))))
+in-all true true b d f u q s l e = in-order b d f u q s ∙ ap (λ (x : Bool). d && (b && (q && (s && (f && (u && x)))))) (sym (e tt tt))
+in-all true false b d f u q s l e = and-false (b && d)
+in-all false true b d f u q s l e = and-false (b && d)
+in-all false false b d f u q s l e = and-false (b && d)
+
+quads-count : (n : ℕ) (table : List ℕ) (at : ℕ) → length (quadsFrom n table at) ≡ n
+unfolding quadsFrom
+quads-count zero table at = refl
+quads-count (suc n) table at = ap suc (quads-count n table (at + quadWidth))
+
+passes-provided : {A : Type 0} (p : A → Bool) (b : Bool) (a : A) → passes p (provided b (some a)) ≡ b && p a
+unfolding passes provided
+passes-provided p true a = refl
+passes-provided p false a = refl
+
+passes-both : {A B : Type 0} (p : B → Bool) (b c : Bool) (a : A) (f : A → B)
+    → passes p (onward (provided b (some a)) (λ a. provided c (some (f a)))) ≡ b && (c && p (f a))
+unfolding provided onward passes
+passes-both p true c a f = passes-provided p c (f a)
+passes-both p false c a f = refl
+
+module _ (loading tt qt : List ℕ) (known count : ℕ) (hl : HoldsTerms loading known) (ht : HoldsTerms tt count) (saved : SavedRun) (leasts : List ℕ) where
+  -- the tests in the code's order
+  abbrev tests : Bool
+  tests =
+      termsSound (termsIn loading) (termsIn tt)
+      && (leb (saved .graphs) graphLimit && quadsTest qt (saved .quads) (take (saved .graphs) (saved .fetched)) leasts count)
+
+  module _ (S : Schema) (ks ts : List Term) (ek : termsIn loading ≡ some ks) (et : termsIn tt ≡ some ts) (each : LeastOf S ts leasts) where
+    abbrev fetched : List ℕ
+    fetched = take (saved .graphs) (saved .fetched)
+
+    abbrev quads : List Quad
+    quads = quadsFrom (saved .quads) qt 0
+
+    abbrev store : Store
+    store = record { terms = ts; quads = quads; fetched = fetched }
+
+    abbrev held? : Bool
+    held? = leb (saved .quads) quadLimit && allZero (drop (quadWidth * saved .quads) qt)
+
+    abbrev few? : Bool
+    few? = leb (saved .graphs) graphLimit
+
+    size : length ts ≡ count
+    size = omega (arith, terms-length tt count ht, ap length (some-is (sym et ∙ terms tt count ht .1)))
+
+    store-is : passes (storeSound S ks) (storeIn tt qt saved) ≡ held? && (few? && storeSound S ks store)
+    unfolding storeIn onward quadsIn
+    store-is =
+        rw et (passes-both (storeSound S ks) held? few? quads (λ quads. record { terms = ts; quads = quads; fetched = fetched }))
+
+    limits : T held? → T few? → inLimits store ≡ true
+    unfolding inLimits
+    limits h g =
+        let n : length quads ≤ quadLimit =
+        omega (arith, quads-count (saved .quads) qt 0, leb→le (saved .quads) quadLimit (andLeft (leb (saved .quads) quadLimit) (allZero (drop (quadWidth * saved .quads) qt)) h)) in
+        let m : length fetched ≤ graphLimit = omega (arith, length-take (saved .graphs) (saved .fetched), leb→le (saved .graphs) graphLimit g) in
+        rw (le-leb (length ts) termLimit (terms-few tt ts et), le-leb (length quads) quadLimit n, le-leb (length fetched) graphLimit m)
+
+    tests-are : tests ≡ passes (storeSound S ks) (storeIn tt qt saved)
+    unfolding termsSound beginsIn distinctIn quadsTest storeSound quadsIn
+    tests-are =
+        rw (ek, et, provided-is held? quads, every-same (uri-number S ts leasts count size each) fetched, every-same (quad-numbers S ts leasts count size each fetched) quads)
+        (in-all held? few? (beginsWith ks ts) (distinct sameTerm ts) (distinct eqb fetched) (every (isURINumber S ts) fetched) (distinct sameQuad quads)
+        (every (quadSound S ts fetched) quads) (inLimits store) limits)
+        ∙ sym store-is
+
+  -- one test after another
+  module _ {a : Bool} (ea : a ≡ termsSound (termsIn loading) (termsIn tt)) where
+    pub bad-terms : not a ≡ true → SoundStore loading tt qt saved leasts false
+    bad-terms t S ks ts ek et each = rw (sym ea ∙ not-true a t) at (tests-are S ks ts ek et each)
+
+    module _ (ta : not a ≡ false) where
+      pub many-graphs : graphLimit < saved .graphs → SoundStore loading tt qt saved leasts false
+      many-graphs h S ks ts ek et each = rw (sym ea ∙ not-false a ta, lt-leb (saved .graphs) graphLimit h) at (tests-are S ks ts ek et each)
+
+      pub store-sound : saved .graphs ≤ graphLimit → {r : Bool} → r ≡ quadsTest qt (saved .quads) (take (saved .graphs) (saved .fetched)) leasts count
+          → SoundStore loading tt qt saved leasts r
+      store-sound h e S ks ts ek et each = e ∙ rw (sym ea ∙ not-false a ta, le-leb (saved .graphs) graphLimit h) at (tests-are S ks ts ek et each)

@@ -1,0 +1,6 @@
+pub mod RunStates
+pub mod BindLaws
+pub mod FillLaws
+pub mod CanonicalLaws
+pub mod QuadLaws
+pub mod Fetched

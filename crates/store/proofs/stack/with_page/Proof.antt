@@ -1,0 +1,42 @@
+use Rattle.store.proofs.Fetched.{fetched-stays, fetched-joins, room-left}
+use borrow.Author.Needs.{needs}
+use Rattle.store.proofs.stack.with_page.Statement.{statement}
+use Rattle.store.proofs.stack.with_page.Tie as tie
+use Rattle.store.proofs.stack.with_page.Reads as reads
+use Rattle.store.proofs.stack.with_page.Lts as lts
+use Rattle.store.proofs.stack.is_fetched.Reads as is-fetched-reads
+
+is-fetched-requires : tie.Need-is-fetched-requires
+is-fetched-requires c κs = search needs
+
+returns : tie.Need-returns
+returns c = fetched-stays (c .before .before .args .run) (c .before .before .args .graph) (c .before .before .args .quads) _ (c .before .is-fetched .ensures) (c .if1 .taken)
+
+cast-place : tie.Need-cast-place
+cast-place c = search needs
+
+mul-next : tie.Need-mul-next
+mul-next c = search needs
+
+element-write-next : tie.Need-element-write-next
+element-write-next c =
+    let a = c .before .before .args in
+    room-left (a .run) (a .graph) (a .quads) _ (c .before .is-fetched .ensures) (c .if1 .left) (c .before .before .pre .1)
+
+add-next : tie.Need-add-next
+add-next c = search needs
+
+returns-2 : tie.Need-returns-2
+returns-2 c = fetched-joins (c .before .before .args .run) (c .before .before .args .graph) (c .before .before .args .quads) _ (c .before .is-fetched .ensures) (c .if1 .left)
+
+pub with-page-spec : {M : Type 1} → statement M
+with-page-spec =
+    tie.close
+    (tie.spec
+    is-fetched-requires
+    returns
+    cast-place
+    mul-next
+    element-write-next
+    add-next
+    returns-2)

@@ -1,0 +1,4 @@
+// The saved run and the quad table: operations on stack, bindings and quads, and the form without what means nothing.
+pub mod quads; // quads.rt: the quad table
+pub mod stack; // stack.rt: stack and bindings
+pub mod canonical; // canonical.rt: the saved run without what means nothing

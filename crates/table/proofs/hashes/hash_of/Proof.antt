@@ -1,0 +1,61 @@
+-- `table::hashes::hash_of` meets its contract. The loop keeps the sum so far and that of what is left equal to the whole.
+use Prim.Native.Nat.{_*_, _-_}
+use native.Mathlib.Omega.{arith}
+use borrow.Author.Needs.{needs}
+use Rattle.table.specs.Hashes.{slotWords}
+use Rattle.table.proofs.HashLaws.{Hashing, hash-start, times-low, hash-next, hash-end}
+use Rattle.table.proofs.hashes.hash_of.Statement.{statement}
+use Rattle.table.proofs.hashes.hash_of.Tie as tie
+
+abbrev Inv-loop : tie.InvT-loop
+Inv-loop slot sum₀ at₀ sum at = Hashing slot at sum
+
+abbrev μ-loop : tie.MeasureT-loop
+μ-loop slot sum₀ at₀ sum at = 2 * slotWords - at
+
+loop-holds : tie.Need-loop-holds Inv-loop μ-loop
+loop-holds c = hash-start _
+
+word-at-requires : tie.Need-word-at-requires Inv-loop μ-loop
+word-at-requires c κs = search needs
+
+add-sum : tie.Need-add-sum Inv-loop μ-loop
+add-sum c = search needs
+
+mul-sum : tie.Need-mul-sum Inv-loop μ-loop
+mul-sum c = omega (arith, times-low (c .word-at .result) (c .before .before .loop .at) (c .word-at .ensures .1) (c .before .loop-test .taken))
+
+add-sum-2 : tie.Need-add-sum-2 Inv-loop μ-loop
+add-sum-2 c = omega (arith, times-low (c .word-at .result) (c .before .before .loop .at) (c .word-at .ensures .1) (c .before .loop-test .taken), c .before .before .loop .inv .low, c .before .loop-test .taken)
+
+add-at : tie.Need-add-at Inv-loop μ-loop
+add-at c = search needs
+
+loop-less : tie.Need-loop-less Inv-loop μ-loop
+loop-less c = search needs
+
+loop-again : tie.Need-loop-again Inv-loop μ-loop
+loop-again c = hash-next _ _ _ (c .before .before .loop .inv) (c .before .loop-test .taken) _ (c .word-at .ensures .1) (c .word-at .ensures .0)
+
+cast-result : tie.Need-cast-result Inv-loop μ-loop
+cast-result c = search needs
+
+returns : tie.Need-returns Inv-loop μ-loop
+returns c = hash-end _ _ _ (c .before .loop .inv) (c .loop-test .left)
+
+pub hash-of-spec : {M : Type 1} → statement M
+hash-of-spec =
+    tie.close
+    (tie.spec
+    Inv-loop
+    μ-loop
+    loop-holds
+    word-at-requires
+    add-sum
+    mul-sum
+    add-sum-2
+    add-at
+    loop-less
+    loop-again
+    cast-result
+    returns)

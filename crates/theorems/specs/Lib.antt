@@ -1,0 +1,10 @@
+pub mod Verdict
+pub mod PageLeaves
+pub mod StepCounts
+pub mod Hosts
+pub mod WellTyped
+pub mod Demand1
+pub mod Demand2
+pub mod Demand3
+pub mod ExportRefusals
+pub mod OnBytes

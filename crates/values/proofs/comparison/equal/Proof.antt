@@ -1,0 +1,51 @@
+-- `values::comparison::equal` meets its contract, by the laws of ComparisonLaws.
+use Rattle.values.proofs.ComparisonLaws.{equal-strings, equal-numbers, equal-dateTimes, equal-uris}
+use mathlib.Core.Logic.{inl, inr}
+use borrow.Author.Needs.{needs}
+use Rattle.values.proofs.comparison.equal.Statement.{statement}
+use Rattle.values.proofs.comparison.equal.Tie as tie
+
+same-strings-requires : tie.Need-same-strings-requires
+same-strings-requires c κs = search needs
+
+counted-requires : tie.Need-counted-requires
+counted-requires c κs = search needs
+
+counted-requires-2 : tie.Need-counted-requires-2
+counted-requires-2 c κs = search needs
+
+is-same-requires : tie.Need-is-same-requires
+is-same-requires c κs = search needs
+
+is-same-requires-2 : tie.Need-is-same-requires-2
+is-same-requires-2 c κs = search needs
+
+same-texts-requires : tie.Need-same-texts-requires
+same-texts-requires c κs = search needs
+
+returns : tie.Need-returns
+returns c = equal-strings (c .before .before .before .before .args .a) (c .before .before .before .before .args .b) _ (c .before .match .keys1) (c .same-strings .ensures)
+
+returns-2 : tie.Need-returns-2
+returns-2 c = equal-numbers (c .before .before .before .before .before .before .args .a) (c .before .before .before .before .before .before .args .b) _ (c .before .before .before .match .keys2) _ _ (c .before .before .counted .ensures) (c .before .counted2 .ensures) (c .is-same .ensures)
+
+returns-3 : tie.Need-returns-3
+returns-3 c = equal-dateTimes (c .before .before .before .before .before .before .args .a) (c .before .before .before .before .before .before .args .b) _ (c .before .before .before .before .before .before .pre .0) (c .before .before .before .before .before .before .pre .1) (c .before .before .before .match .keys3) (c .is-same2 .ensures)
+
+returns-4 : tie.Need-returns-4
+returns-4 c = equal-uris (c .before .before .before .before .args .a) (c .before .before .before .before .args .b) _ (λ k. c .before .match .rest .0 .1 (inr k)) (λ k. c .before .match .rest .0 .1 (inl k)) (c .before .match .rest .1) (c .before .match .rest .0 .0 .1) (c .same-texts .ensures)
+
+pub equal-spec : {M : Type 1} → statement M
+equal-spec =
+    tie.close
+    (tie.spec
+    same-strings-requires
+    counted-requires
+    counted-requires-2
+    is-same-requires
+    is-same-requires-2
+    same-texts-requires
+    returns
+    returns-2
+    returns-3
+    returns-4)

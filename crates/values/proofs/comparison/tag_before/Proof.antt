@@ -1,0 +1,22 @@
+-- `values::comparison::tag_before` meets its contract, by the laws of FieldLaws.
+use mathlib.Core.Path.{sym, _∙_}
+use Rattle.values.proofs.OrderLaws.{tag-texts}
+use borrow.Author.Needs.{needs}
+use Rattle.values.proofs.comparison.tag_before.Statement.{statement}
+use Rattle.values.proofs.comparison.tag_before.Tie as tie
+
+slice-aggregate-before : tie.Need-slice-aggregate-before
+slice-aggregate-before c = search needs
+
+slice-aggregate-before-2 : tie.Need-slice-aggregate-before-2
+slice-aggregate-before-2 c = search needs
+
+before-requires : tie.Need-before-requires
+before-requires c κs = (c .before .before .before .before .before .pre .0 .tag .size ∙ sym (c .before .before .before .before .before .pre .1 .tag .size), (tag-texts (c .before .before .before .before .before .pre .0 .tag), tag-texts (c .before .before .before .before .before .pre .1 .tag)))
+
+returns : tie.Need-returns
+returns c = search needs
+
+pub tag-before-spec : {M : Type 1} → statement M
+tag-before-spec =
+    tie.close (tie.spec slice-aggregate-before slice-aggregate-before-2 before-requires returns)
