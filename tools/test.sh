@@ -1,5 +1,5 @@
 #!/usr/bin/env bash
-# The gate: every crate proved from nothing, must-fail edits refused, programs compared; then the Rust side.
+# The gate: every crate proved from nothing, must-fail edits refused, programs compared; then the Rust side and the C library.
 # Prints the sum as its last line, 'N passed, M failed', and fails where anything did.
 set -uo pipefail
 cd "$(dirname "$0")/.."
@@ -27,7 +27,7 @@ part() {
   counts "$name" "$log/part" "${PIPESTATUS[0]}"
 }
 
-part 'rt ci' rt ci
+part 'rt ci' env RT_JOBS=4 rt ci
 # check NAME COMMAND: a part that has no count of its own counts as one
 check() {
   local name=$1
@@ -42,7 +42,14 @@ host() { (cd host && "$@"); }
 check 'the archive' rt staticlib exports
 check 'cargo fmt' host cargo fmt --check
 check 'cargo clippy' host cargo clippy --offline --quiet --all-targets -- -D warnings
-part 'cargo test' host cargo test --offline --quiet
+part 'cargo test, with the doc examples' host cargo test --offline --quiet
+check 'cargo doc' host env RUSTDOCFLAGS=-Dwarnings cargo doc --offline --quiet --no-deps
+check 'the C example' bash tools/c_example.sh gcc -std=c99
+if command -v g++ >/dev/null; then
+  check 'the C example as C++' bash tools/c_example.sh g++ -std=c++11 -x c++
+else
+  echo "== the C example as C++: left out, there is no g++ here"
+fi
 check 'the comparison' host cargo run --offline --quiet --release -p compare -- --cases 50000 --seed 1 --printer ../target/bin/print_types --printer-every 50
 
 echo "== the whole gate took $SECONDS s"

@@ -1,97 +1,111 @@
 //! The workloads of single calls: a load, a run call and a page, all at the limits.
 
-use compare::engine::Engine;
-use compare::station::{Call, Station, LENGTHS};
-use second::limits::PAGE;
-use second::term::{fill, Term};
-use second::types::Datatype;
-use second::write::*;
+use compare::call::{Call, Engine, Station};
+use willetcoffer::limits::{BLOCK_WIDTH, ENTRY_LIMIT, PAGE_LIMIT, TERM_LIMIT};
+use willetcoffer::page::triple;
+use willetcoffer::script::*;
+use willetcoffer::{BadTerm, Card, Datatype, Term};
 
 /// Patterns and filters joined as a balanced tree.
-fn joined(mut parts: Vec<Bytes>) -> Bytes {
+fn joined(mut parts: Vec<Query>) -> Query {
     while parts.len() > 1 {
-        parts = parts
-            .chunks(2)
-            .map(|pair| match pair {
-                [a, b] => both(a.clone(), b.clone()),
-                other => other.concat(),
-            })
-            .collect();
+        let pairs = parts.chunks(2).map(|pair| match pair {
+            [a, b] => both(a.clone(), b.clone()),
+            other => other[0].clone(),
+        });
+        parts = pairs.collect();
     }
-    parts.concat()
+    parts.pop().unwrap_or_else(empty)
 }
 
-/// Term numbers: graph 0, then numbers; the schema's 128 URIs are listed last.
-const LISTED: usize = 512;
-const ENTRIES: usize = 128;
+fn length(part: &impl AsRef<[u8]>) -> usize {
+    part.as_ref().len()
+}
+
+/// Bytes of a block's head with its kind.
+const HEAD: usize = 1 + BLOCK_WIDTH;
+
+/// The property at this place of the n-th five: of each five entries the third ranges over decimals, the fifth over
+/// integers; the schema's URIs are the last terms.
+fn property(n: usize, place: usize) -> Name {
+    con((TERM_LIMIT - ENTRY_LIMIT + (5 * n + place) % (ENTRY_LIMIT - 3)) as u16)
+}
+
+/// The parts of a block's query in so much room: over its graph, subject, number and property variables.
+fn parts(block: u8, room: usize) -> Vec<Query> {
+    let [g, s, v, p] = [0, 1, 2, 3].map(|i| var(4 * block + i));
+    // A property variable over integers, and its object an integer.
+    let mut parts = vec![
+        pattern([g.clone(), s.clone(), p, con(1)]),
+        pattern([g.clone(), s.clone(), property(usize::from(block), 4), v.clone()]),
+    ];
+    let mut used = 24;
+    for n in 0.. {
+        let part = match n % 3 {
+            0 => pattern([g.clone(), s.clone(), property(n, 2), v.clone()]),
+            1 => filter(less(v.clone(), con(2 + n as u16))),
+            _ => filter(equal(plus(v.clone(), con(1)), v.clone())),
+        };
+        used += length(&part) + 1;
+        if used > room {
+            break;
+        }
+        parts.push(part);
+    }
+    parts
+}
 
 /// A script of so many bytes in which four blocks bind sixteen open variables: graph, subject, a number and a
 /// property each, tied together by patterns and comparisons.
-fn script(bytes: usize) -> Bytes {
-    let first_property = LISTED - ENTRIES;
-    // Of each five entries the third ranges over decimals, the fifth over integers.
-    let property = |n: usize, place: usize| con(first_property + (5 * n + place) % (ENTRIES - 3));
+fn script(bytes: usize) -> Script {
     let mut script = success();
-    // Each block has a head of 11 bytes, the innermost script one more.
-    let room = (bytes - 1) / 4 - 11;
+    let room = (bytes - 1) / 4 - HEAD;
     for block in (0..4u8).rev() {
-        let [g, s, v, p] = [0, 1, 2, 3].map(|i| var(4 * block + i));
-        // A property variable over integers, and its object an integer.
-        let mut parts = vec![
-            pattern(g.clone(), s.clone(), p, con(1)),
-            pattern(g.clone(), s.clone(), property(usize::from(block), 4), v.clone()),
-        ];
-        let mut used = 24;
-        for n in 0.. {
-            let part = match n % 3 {
-                0 => pattern(g.clone(), s.clone(), property(n, 2), v.clone()),
-                1 => filter(less(v.clone(), con(2 + n))),
-                _ => filter(equal(plus(v.clone(), con(1)), v.clone())),
-            };
-            used += part.len() + 1;
-            if used > room {
-                break;
-            }
-            parts.push(part);
-        }
+        let mut parts = parts(block, room);
         if block == 0 {
             // The outermost block makes the script as long as it is to be: 2 bytes for an empty query, 3 for a filter.
-            let so_far = 11 + parts.concat().len() + parts.len() - 1 + script.len();
+            let so_far = HEAD + parts.iter().map(length).sum::<usize>() + parts.len() - 1 + length(&script);
             let left = bytes - so_far;
             parts.extend((0..left / 2 - left % 2).map(|_| empty()));
-            parts.extend((0..left % 2).map(|_| filter(vec![0x51])));
+            parts.extend((0..left % 2).map(|_| filter(boolean(true))));
         }
-        let pairs = [0, 1, 2, 3].map(|i| (4 * block + i, 0));
+        let pairs = [0, 1, 2, 3].map(|i| (4 * block + i, None));
         script = each(&pairs, joined(parts), script);
     }
     script
 }
 
-/// A station before its load: a script of so many bytes over 512 terms and 128 entries.
-pub fn before_load(bytes: usize) -> Station {
-    let mut listed = vec![uri("http://club.example/yard/0")];
-    listed.extend((1..LISTED - ENTRIES).map(|n| Term::Int(n as i64)));
-    let names: Vec<String> = (0..ENTRIES).map(|n| format!("http://club.example/property/{n}")).collect();
-    listed.extend(names.iter().map(|name| uri(name)));
-    let entries: Vec<(&str, Datatype)> =
-        names.iter().enumerate().map(|(n, name)| (name.as_str(), Datatype::ALL[n % 5])).collect();
-    Station { inputs: [terms(&listed), schema(&entries), script(bytes)], tables: LENGTHS.map(|n| vec![0; n]) }
+/// A station before its load: a script of so many bytes over 512 terms and 128 entries. Term 0 is the graph, then come
+/// numbers, last the schema's URIs.
+pub fn before_load(bytes: usize) -> Result<Station, BadTerm> {
+    let property = |n| Term::uri(&format!("http://club.example/property/{n}"));
+    let properties = (0..ENTRY_LIMIT).map(property).collect::<Result<Vec<Term>, BadTerm>>()?;
+    let mut listed = vec![Term::uri("http://club.example/yard/0")?];
+    for n in 1..TERM_LIMIT - ENTRY_LIMIT {
+        listed.push(Term::integer(n as i64)?);
+    }
+    listed.extend(&properties);
+    let entries: Vec<(Term, Datatype)> =
+        properties.iter().enumerate().map(|(n, property)| (*property, Datatype::ALL[n % 5])).collect();
+    Ok(Station::new(Card::new(&listed, &entries, script(bytes)), 0))
 }
 
 /// A station and a page of 65,536 bytes for its graph 0: 448 names and 64 friends, all of them new, 512 quads.
-pub fn full_page(engine: &dyn Engine) -> (Station, Call) {
-    let schema = schema(&[("p:name", Datatype::String), ("p:friend", Datatype::AnyUri)]);
-    let inputs = [terms(&[uri("http://club.example/yard/0")]), schema, success()];
-    let mut station = Station { inputs, tables: LENGTHS.map(|n| vec![0; n]) };
+pub fn full_page(engine: &dyn Engine) -> Result<(Station, Call), BadTerm> {
+    let [name, friend] = [Term::uri("p:name")?, Term::uri("p:friend")?];
+    let schema = [(name, Datatype::String), (friend, Datatype::AnyUri)];
+    let card = Card::new(&[Term::uri("http://club.example/yard/0")?], &schema, success());
+    let mut station = Station::new(card, 0);
     assert_eq!(station.call(engine, &Call::Load).code, 0);
-    let subject = |n: usize| fill(format!("http://club.example/loco/{n}").as_bytes());
+    let loco = |n: usize| Term::uri(&format!("http://club.example/loco/{n}"));
     let mut page = Vec::new();
     for n in 0..448 {
-        page.extend(triple(&subject(n % 28), &fill(b"p:name"), &tagged("en", &format!("Locomotive {n}"))));
+        let called = Term::tagged("en", &format!("Locomotive {n}"))?;
+        page.extend(triple(&loco(n % 28)?, &name, &called).into_iter().flatten());
     }
     for n in 0..64 {
-        page.extend(triple(&subject(n % 8), &fill(b"p:friend"), &Term::Uri(subject(8 + n / 8))));
+        page.extend(triple(&loco(n % 8)?, &friend, &loco(8 + n / 8)?).into_iter().flatten());
     }
-    assert_eq!(page.len(), PAGE);
-    (station, Call::page(0, page))
+    assert_eq!(page.len(), PAGE_LIMIT);
+    Ok((station, Call::page(0, page)))
 }

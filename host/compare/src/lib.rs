@@ -3,20 +3,24 @@
 //! A case is one station: terms, schema and script, a load, and a list of run and page calls with damaged bytes in
 //! between. What comes next may depend on what the calls answered, so a case is fixed by its seed and index as long as
 //! the engines agree, which is what is tested.
+//!
+//! | module | what it does |
+//! |---|---|
+//! | [`draw`] | draws words, scripts, pages, calls and damage |
+//! | [`call`] | stations, calls and engines: the proved one, the second, and the second by the definitions |
+//! | [`judge`] | what two engines owe each other on one call |
+//! | [`count`] | what was met, and whether it was met often enough |
+//! | [`case`] | one case, from drawing to judging |
+//! | [`replay`], [`shrink`] | a case as a list of moves without chance, and made smaller while it still shows its difference |
+//! | [`run`] | case after case |
+#![forbid(unsafe_code)]
 #![warn(missing_docs)]
 
-pub mod archive;
+pub mod call;
 pub mod case;
-pub mod coverage;
-pub mod damage;
+pub mod count;
 pub mod draw;
-pub mod engine;
-pub mod kinds;
-pub mod pages;
-pub mod pool;
-pub mod printer;
-pub mod rng;
-pub mod scripts;
-pub mod station;
-pub mod tamper;
-pub mod wild;
+pub mod judge;
+pub mod replay;
+pub mod run;
+pub mod shrink;

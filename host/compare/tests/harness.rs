@@ -1,8 +1,9 @@
 //! The comparison itself: engines that agree pass, and engines with something wrong are found.
 
+use compare::call::engine::{fast, plain, with, Counts};
+use compare::call::{Call, Engine, Station};
 use compare::case::Case;
-use compare::coverage::Coverage;
-use compare::engine::{fast, plain, with, Counts, Engine};
+use compare::count::Coverage;
 use second::arcs;
 use second::eval::Fault;
 use second::refusal::{refuse, Refusal};
@@ -12,12 +13,15 @@ use second::search::{Search, Task, Tuple};
 use second::seek::Seek;
 use second::terms::Terms;
 use second::types::{Datatype, Type};
+use willetcoffer::limits::{FETCHED_OFFSET, ITEMS_OFFSET, ITEM_WIDTH, SAVED_WIDTH};
+use willetcoffer::page::records;
+use willetcoffer::saved::{ITEM_MARK, ITEM_TUPLE};
 
 /// The first difference in so many cases.
 fn difference(other: &dyn Engine, cases: u64) -> Option<String> {
     let first = fast();
     let mut coverage = Coverage::default();
-    let mut run = |index| Case::new(11, index, [&first, other], &mut coverage, false).run().err();
+    let mut run = |index| Case::new(11, index, [&first, other], &mut coverage).run().err();
     (0..cases).find_map(|index| run(index).map(|difference| difference.what))
 }
 
@@ -32,7 +36,7 @@ fn the_same_seed_gives_the_same_cases() {
     let table = || {
         let mut coverage = Coverage::default();
         for index in 0..50 {
-            Case::new(3, index, [&engine, &engine], &mut coverage, false).run().unwrap();
+            Case::new(3, index, [&engine, &engine], &mut coverage).run().unwrap();
         }
         coverage.table()
     };
@@ -131,57 +135,63 @@ impl Engine for Wrong {
         "wrong"
     }
 
-    fn load(&self, inputs: [&[u8]; 3], [terms, quads, saved]: [&mut [u8]; 3]) -> u32 {
-        let code = fast().load(inputs, [terms, &mut *quads, saved]);
+    fn call(&self, station: &mut Station, call: &Call, report: &mut [u8]) -> u32 {
+        match call {
+            Call::Load => self.load(station),
+            Call::Run { .. } => self.run(station, call, report),
+            Call::Page { graph, page, report: length } => {
+                let page = match records(page).next() {
+                    Some(first) if self.0 == Fraud::FirstOnly => first.to_vec(),
+                    _ => page.clone(),
+                };
+                self.page(station, &Call::Page { graph: *graph, page, report: *length }, report)
+            }
+        }
+    }
+}
+
+impl Wrong {
+    fn load(&self, station: &mut Station) -> u32 {
+        let code = fast().call(station, &Call::Load, &mut []);
         if code != 0 && self.0 == Fraud::Clears {
-            quads.fill(0);
+            station.quad_table.fill(0);
         }
         code
     }
 
-    fn run(&self, inputs: [&[u8]; 3], tables: [&[u8]; 2], saved: &mut [u8], at: (u64, i64), report: &mut [u8]) -> u32 {
-        let before = saved.to_vec();
-        if self.0 == Fraud::Trusts && saved.len() == 486 {
+    fn run(&self, station: &mut Station, call: &Call, report: &mut [u8]) -> u32 {
+        let before = station.saved.clone();
+        if self.0 == Fraud::Trusts && station.saved.len() == SAVED_WIDTH {
             // Last tuples past the table are made good before anybody looks.
-            let used = tables[0].chunks(49).take_while(|slot| slot[0] != 0).count();
-            for item in saved[198..].chunks_mut(12).filter(|item| item[2] == 1) {
-                for number in item[4..].chunks_mut(2) {
+            let used = station.used();
+            let items = station.saved[ITEMS_OFFSET..].chunks_mut(ITEM_WIDTH);
+            for item in items.filter(|item| item[ITEM_MARK] == 1) {
+                for number in item[ITEM_TUPLE..].chunks_mut(2) {
                     if usize::from(u16::from_le_bytes([number[0], number[1]])) >= used {
                         number.fill(0);
                     }
                 }
             }
         }
-        let code = fast().run(inputs, tables, saved, at, report);
+        let code = fast().call(station, call, report);
+        let saved = &mut station.saved;
+        let fetched = FETCHED_OFFSET..ITEMS_OFFSET;
         match (self.0, code) {
             (Fraud::Spends, 0) => report[..5].copy_from_slice(&[0, 0, 0, 0, 3]),
             (Fraud::Rests, 0) => saved.copy_from_slice(&before),
             (Fraud::Invents, 0) => report[0] = report[0].wrapping_add(1),
-            (Fraud::HandsOn, 0) => saved[70..198].copy_from_slice(&before[70..198]),
+            (Fraud::HandsOn, 0) => saved[fetched.clone()].copy_from_slice(&before[fetched]),
             (Fraud::Trusts, 1..) => saved.copy_from_slice(&before),
             _ => {}
         }
         code
     }
 
-    fn page(
-        &self,
-        inputs: [&[u8]; 3],
-        [terms, quads, saved]: [&mut [u8]; 3],
-        graph: u64,
-        page: &[u8],
-        report: &mut [u8],
-    ) -> u32 {
-        let before = quads.to_vec();
-        let lengths = [121, 129, 89, 89, 89];
-        let first = page.first().and_then(|kind| lengths.get(usize::from(kind.wrapping_sub(0x81))));
-        let page = match first {
-            Some(first) if self.0 == Fraud::FirstOnly => &page[..*first.min(&page.len())],
-            _ => page,
-        };
-        let code = fast().page(inputs, [terms, &mut *quads, saved], graph, page, report);
+    fn page(&self, station: &mut Station, call: &Call, report: &mut [u8]) -> u32 {
+        let before = station.quad_table.clone();
+        let code = fast().call(station, call, report);
         match (self.0, code) {
-            (Fraud::Keeps, 0) => quads.copy_from_slice(&before),
+            (Fraud::Keeps, 0) => station.quad_table.copy_from_slice(&before),
             (Fraud::Reports, 12..) => report.fill(0),
             _ => {}
         }

@@ -1,8 +1,8 @@
 //! The three ways to work out types, on scripts with four open variables: all ten thousand assignments are listed.
 
-use compare::pool::Pool;
-use compare::rng::Rng;
-use compare::scripts::Writer;
+use compare::draw::pool::Pool;
+use compare::draw::rng::Rng;
+use compare::draw::scripts::Writer;
 use second::assignments::{by_atoms, by_listing, open};
 use second::reader::read_script;
 use second::schema::Schema;

@@ -1,58 +1,29 @@
 //! What the panel prints.
 
 use crate::card::{CALLED, FAST, NAMES};
-use compare::station::{Answer, Station};
-use second::limits::SLOT;
-use second::term::{trim, Term};
-use second::types::Type;
+use willetcoffer::{PageReport, SavedRun, State, Tables, Term};
 
-/// Places of the saved run.
-const TYPES: usize = 6;
-const BOUND: usize = 22;
-const NUMBERS: usize = 38;
-
-/// The screen: how many locomotives are on the roster, and the last one.
+/// The screen: the locomotives on the roster.
 pub struct Screen {
     roster: Vec<String>,
 }
 
-fn bound(station: &Station, variable: u8) -> Option<Term> {
-    let variable = usize::from(variable);
-    let number = (station.tables[2][BOUND + variable] == 1).then(|| station.number(NUMBERS + 2 * variable))?;
-    Term::from_slot(&station.tables[0][number * SLOT..][..SLOT])
-}
-
-/// A term as the panel writes it.
-fn text(term: &Term) -> String {
-    match term {
-        Term::Uri(text) => String::from_utf8_lossy(trim(text)).into_owned(),
-        Term::Str(_, text) => String::from_utf8_lossy(trim(text)).into_owned(),
-        Term::Int(n) => n.to_string(),
-        Term::Dec(n) => (*n as f64 / 1e6).to_string(),
-        Term::Time(n) => format!("second {n}"),
-    }
-}
-
 impl Screen {
-    /// The first line: whose calls these are.
-    pub fn begin(engine: &str) -> Screen {
-        println!("calls by: {engine}");
+    /// The types that the load reports.
+    pub fn loaded(saved: &SavedRun) -> Screen {
+        println!("load     accepted");
+        for (variable, name) in NAMES {
+            let found = saved.variable_type(variable);
+            println!("         {name:8} {}", found.map_or("-".to_owned(), |t| t.to_string()));
+        }
         Screen { roster: Vec::new() }
     }
 
-    /// The types that the load reports.
-    pub fn loaded(&self, station: &Station) {
-        println!("load     accepted");
-        for (variable, name) in NAMES {
-            let code = station.tables[2][TYPES + usize::from(variable)];
-            println!("         {name:8} {}", Type::from_code(code).map_or("-".to_owned(), Type::name));
-        }
-    }
-
     /// A line for each locomotive that the each block has just found.
-    pub fn roster(&mut self, station: &Station) {
-        if let (Some(name), Some(speed)) = (bound(station, CALLED), bound(station, FAST)) {
-            let line = format!("{} {}", text(&name), text(&speed));
+    pub fn roster(&mut self, tables: &Tables, saved: &SavedRun) {
+        let bound = |variable| saved.binding(variable).and_then(|number| tables.term(number));
+        if let (Some(name), Some(speed)) = (bound(CALLED), bound(FAST)) {
+            let line = format!("{name} {speed}");
             if !self.roster.contains(&line) {
                 println!("         roster: {line}");
                 self.roster.push(line);
@@ -61,22 +32,20 @@ impl Screen {
     }
 
     /// How a run ended.
-    pub fn state(&self, steps: u32, answer: &Answer, station: &Station) {
-        let state = match answer.state() {
-            Some(0) => "ended".to_owned(),
-            Some(1) => {
-                let slot = &station.tables[0][answer.wanted() * SLOT..][..SLOT];
-                format!("wants {}", Term::from_slot(slot).as_ref().map_or(String::new(), text))
+    pub fn state(&self, steps: u32, state: State, tables: &Tables) {
+        let state = match state {
+            State::Wanted(graph) => {
+                let graph = tables.term(graph).as_ref().map_or(String::new(), Term::to_string);
+                format!("wants {graph}")
             }
-            Some(2) => "waiting".to_owned(),
-            _ => "spent".to_owned(),
+            other => other.to_string(),
         };
         println!("run      {steps} steps, {state}");
     }
 
     /// What a page call reported.
-    pub fn page(&self, what: &str, answer: &Answer, station: &Station) {
-        println!("page     {what}: {} skipped, {} quads stored", answer.steps(), station.number(2));
+    pub fn page(&self, what: &str, report: PageReport, saved: &SavedRun) {
+        println!("page     {what}: {} skipped, {} quads stored", report.skipped, saved.quads());
     }
 
     /// The last line.

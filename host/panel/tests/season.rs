@@ -7,7 +7,7 @@ use std::process::Command;
 fn the_season_on_one_screen() {
     let output = Command::new(env!("CARGO_BIN_EXE_panel")).output().expect("the panel runs");
     let screen = String::from_utf8(output.stdout).expect("text");
-    let lines: Vec<&str> = screen.lines().skip(1).collect();
+    let lines: Vec<&str> = screen.lines().collect();
     let expected = [
         "load     accepted",
         "         $loco    xsd:anyURI",

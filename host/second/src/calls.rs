@@ -1,4 +1,5 @@
-//! The three calls over bytes, as the C interface has them.
+//! The three calls over bytes, as the C interface has them: inputs are terms, schema and script, tables are term table, quad
+//! table and, where it is written with them, saved run.
 
 use crate::check::{check, Typer};
 use crate::eval::{Fault, Quad, Store};
@@ -70,9 +71,7 @@ impl Engine<'_> {
     pub fn load(
         &self,
         [terms, schema, script]: [&[u8]; 3],
-        term_table: &mut [u8],
-        quad_table: &mut [u8],
-        saved: &mut [u8],
+        [term_table, quad_table, saved]: [&mut [u8]; 3],
     ) -> Outcome {
         lengths(term_table, quad_table)?;
         let saved = lent::<SAVED>(saved)?;
@@ -118,13 +117,10 @@ impl Engine<'_> {
     }
 
     /// Takes a page in: writes both tables, the saved run and the report.
-    #[allow(clippy::too_many_arguments)]
     pub fn page(
         &self,
         [terms, schema, script]: [&[u8]; 3],
-        term_table: &mut [u8],
-        quad_table: &mut [u8],
-        saved: &mut [u8],
+        [term_table, quad_table, saved]: [&mut [u8]; 3],
         graph: u64,
         page: &[u8],
         report: &mut [u8],
@@ -147,52 +143,4 @@ impl Engine<'_> {
         *report = skipped.to_le_bytes();
         Ok(())
     }
-}
-
-fn code(outcome: Outcome) -> u32 {
-    outcome.err().map_or(0, |refusal| refusal.number)
-}
-
-/// `willetcoffer_load` by the fast engine.
-pub fn load(
-    terms: &[u8],
-    schema: &[u8],
-    script: &[u8],
-    term_table: &mut [u8],
-    quad_table: &mut [u8],
-    saved: &mut [u8],
-) -> u32 {
-    code(Engine::fast().load([terms, schema, script], term_table, quad_table, saved))
-}
-
-/// `willetcoffer_run` by the fast engine.
-#[allow(clippy::too_many_arguments)]
-pub fn run(
-    terms: &[u8],
-    schema: &[u8],
-    script: &[u8],
-    term_table: &[u8],
-    quad_table: &[u8],
-    saved: &mut [u8],
-    budget: u64,
-    now: i64,
-    report: &mut [u8],
-) -> u32 {
-    code(Engine::fast().run([terms, schema, script], [term_table, quad_table], saved, (budget, now), report))
-}
-
-/// `willetcoffer_page` by the fast engine.
-#[allow(clippy::too_many_arguments)]
-pub fn page(
-    terms: &[u8],
-    schema: &[u8],
-    script: &[u8],
-    term_table: &mut [u8],
-    quad_table: &mut [u8],
-    saved: &mut [u8],
-    graph: u64,
-    page: &[u8],
-    report: &mut [u8],
-) -> u32 {
-    code(Engine::fast().page([terms, schema, script], term_table, quad_table, saved, graph, page, report))
 }

@@ -1,4 +1,4 @@
-//! Records as bytes, for tests, the comparison and the benchmark: one function for each kind.
+//! Records as bytes, for tests and for the cases that the comparison draws: one function for each kind.
 
 use crate::limits::{PAIRS, PATTERN, TAG};
 use crate::term::{fill, Term, Uri};

@@ -1,4 +1,5 @@
 //! Reads terms, schema and script joined from standard input and writes their types.
+#![forbid(unsafe_code)]
 
 use std::io::{self, Read, Write};
 

@@ -47,7 +47,7 @@ impl Station {
         for engine in ENGINES {
             let [mut terms, mut quads, mut saved] = before.clone();
             let inputs = [&self.terms[..], &self.schema, &self.script];
-            let outcome = engine.load(inputs, &mut terms, &mut quads, &mut saved);
+            let outcome = engine.load(inputs, [&mut terms, &mut quads, &mut saved]);
             results.push((outcome.err().map_or(0, |r| r.number), [terms, quads, saved]));
         }
         assert_eq!(results[0], results[1]);
@@ -87,9 +87,7 @@ impl Station {
         let before = self.buffers();
         let outcome = Engine::fast().page(
             [&self.terms, &self.schema, &self.script],
-            &mut self.term_table,
-            &mut self.quad_table,
-            &mut self.saved,
+            [&mut self.term_table, &mut self.quad_table, &mut self.saved],
             graph,
             page,
             &mut report,

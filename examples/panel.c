@@ -1,0 +1,197 @@
+/*
+ * A panel in C: a card is loaded, runs, wants a page, gets it with a record that is skipped, and runs to its end.
+ *
+ *     cc panel.c $(pkg-config --cflags --libs willetcoffer) -o panel && ./panel
+ *
+ * C99, and C++ too.
+ */
+#include <stdio.h>
+#include <string.h>
+#include <willetcoffer.h>
+
+/* ---- records, written one after the other ---- */
+
+struct bytes {
+    uint8_t at[2048];
+    size_t length;
+};
+
+static void put(struct bytes *bytes, int byte)
+{
+    bytes->at[bytes->length++] = (uint8_t)byte;
+}
+
+/* a text, filled with zeros */
+static void put_text(struct bytes *bytes, const char *text, size_t width)
+{
+    size_t length = strlen(text), i;
+    for (i = 0; i < width; i++)
+        put(bytes, i < length ? text[i] : 0);
+}
+
+static void put_uri(struct bytes *bytes, const char *text)
+{
+    put_text(bytes, text, WILLETCOFFER_TEXT_WIDTH);
+}
+
+static void put_number(struct bytes *bytes, int64_t number)
+{
+    int i;
+    for (i = 0; i < WILLETCOFFER_NUMBER_WIDTH; i++)
+        put(bytes, (int)((uint64_t)number >> 8 * i & 0xff));
+}
+
+/* kind 21: a property and the datatype of its objects */
+static void put_entry(struct bytes *schema, const char *property, int type)
+{
+    put(schema, 0x21);
+    put_uri(schema, property);
+    put(schema, type);
+}
+
+/* kinds 81 to 85: subject and property; the object's body is to follow */
+static void put_triple(struct bytes *page, int kind, const char *subject, const char *property)
+{
+    put(page, kind);
+    put_uri(page, subject);
+    put_uri(page, property);
+}
+
+static void put_name(struct bytes *page, const char *subject, const char *tag, const char *name)
+{
+    put_triple(page, 0x82, subject, "p:name");
+    put_text(page, tag, WILLETCOFFER_TAG_WIDTH);
+    put_text(page, name, WILLETCOFFER_TEXT_WIDTH);
+}
+
+static void put_speed(struct bytes *page, const char *subject, int64_t millionths)
+{
+    put_triple(page, 0x84, subject, "p:speed");
+    put_number(page, millionths);
+}
+
+/* ---- the card: from the yard's page, each locomotive with a name and a speed above 60 ---- */
+
+static const uint8_t script[] = {
+    0x72, 0x32, 0, 0,                             /* from named term 0, the yard */
+    0x73, 1, 3, 0, 0, 1, 0, 2, 0, 0, 0,           /* each: variables 0, 1 and 2, their types open */
+    0x62, 0x62,                                   /* both of both of */
+    0x61, 0x32, 0, 0, 0x31, 0, 0x32, 2, 0, 0x31, 1, /* in the yard, $0 p:name $1 (terms 2 and 3: the schema's URIs) */
+    0x61, 0x32, 0, 0, 0x31, 0, 0x32, 3, 0, 0x31, 2, /* in the yard, $0 p:speed $2 */
+    0x64, 0x58, 0x32, 1, 0, 0x31, 2,              /* and 60, which is term 1, less than $2 */
+    0x71                                          /* success */
+};
+
+static struct bytes terms, schema;
+
+static void write_card(void)
+{
+    put(&terms, 0x11);
+    put_uri(&terms, "http://club.example/yard");
+    put(&terms, 0x13);
+    put_number(&terms, 60);
+    put_entry(&schema, "p:name", WILLETCOFFER_TYPE_STRING);
+    put_entry(&schema, "p:speed", WILLETCOFFER_TYPE_DECIMAL);
+}
+
+/* ---- what is lent ---- */
+
+static uint8_t term_table[WILLETCOFFER_TERM_TABLE_WIDTH];
+static uint8_t quad_table[WILLETCOFFER_QUAD_TABLE_WIDTH];
+static uint8_t saved[WILLETCOFFER_SAVED_WIDTH];
+static uint8_t run_report[WILLETCOFFER_RUN_REPORT_WIDTH];
+static uint8_t page_report[WILLETCOFFER_PAGE_REPORT_WIDTH];
+
+/* a number of so many bytes */
+static uint32_t number(const uint8_t *bytes, int width)
+{
+    uint32_t sum = 0;
+    int i;
+    for (i = 0; i < width; i++)
+        sum |= (uint32_t)bytes[i] << 8 * i;
+    return sum;
+}
+
+/* the text of a URI (kind 11) or a string (kind 12, a tag before its text) in the term table */
+static void print_text(uint32_t term)
+{
+    const uint8_t *slot = term_table + term * WILLETCOFFER_SLOT_WIDTH;
+    const uint8_t *text = slot + 1 + (slot[0] == 0x12 ? WILLETCOFFER_TAG_WIDTH : 0);
+    printf("%.*s\n", WILLETCOFFER_TEXT_WIDTH, (const char *)text);
+}
+
+static int load(void)
+{
+    uint32_t refusal = willetcoffer_load(
+        terms.at, terms.length, schema.at, schema.length, script, sizeof script,
+        term_table, sizeof term_table, quad_table, sizeof quad_table, saved, sizeof saved);
+    int variable;
+    if (refusal != 0) {
+        printf("load: refused %u\n", (unsigned)refusal);
+        return 0;
+    }
+    printf("load: accepted\n");
+    for (variable = 0; variable < 3; variable++)
+        printf("  $%d has the type of code %d\n", variable, saved[WILLETCOFFER_TYPES_OFFSET + variable]);
+    return 1;
+}
+
+/* runs step by step, so that each answer is seen, until the script stands still */
+static int run(int64_t now)
+{
+    static const char *const states[] = {"ended", "wanted", "waiting", "spent"};
+    uint32_t steps = 0, last = WILLETCOFFER_TERM_LIMIT;
+    int state;
+    do {
+        uint32_t refusal = willetcoffer_run(
+            terms.at, terms.length, schema.at, schema.length, script, sizeof script,
+            term_table, sizeof term_table, quad_table, sizeof quad_table, saved, sizeof saved,
+            1, now, run_report, sizeof run_report);
+        if (refusal != 0) {
+            printf("run: refused %u\n", (unsigned)refusal);
+            return 0;
+        }
+        steps += number(run_report, 4);
+        state = run_report[4];
+        if (saved[WILLETCOFFER_BOUND_OFFSET + 1] == 1 && number(saved + WILLETCOFFER_BINDINGS_OFFSET + 2, 2) != last) {
+            last = number(saved + WILLETCOFFER_BINDINGS_OFFSET + 2, 2);
+            printf("  roster: ");
+            print_text(last);
+        }
+    } while (state == WILLETCOFFER_STATE_SPENT);
+    printf("run: %u steps, %s\n", (unsigned)steps, states[state]);
+    if (state == WILLETCOFFER_STATE_WANTED) {
+        printf("  graph: ");
+        print_text(number(run_report + 6, 2));
+    }
+    return 1;
+}
+
+static int take_page(const struct bytes *page)
+{
+    uint32_t refusal = willetcoffer_page(
+        terms.at, terms.length, schema.at, schema.length, script, sizeof script,
+        term_table, sizeof term_table, quad_table, sizeof quad_table, saved, sizeof saved,
+        number(run_report + 6, 2), page->at, page->length, page_report, sizeof page_report);
+    if (refusal != 0) {
+        printf("page: refused %u\n", (unsigned)refusal);
+        return 0;
+    }
+    printf("page: %u skipped, %u quads stored\n", (unsigned)number(page_report, 4), (unsigned)number(saved + 2, 2));
+    return 1;
+}
+
+int main(void)
+{
+    static struct bytes page;
+    write_card();
+    put_name(&page, "u:1", "en", "Mallard");
+    put_speed(&page, "u:1", 126400000);
+    put_name(&page, "u:2", "en", "Puffing Billy");
+    put_speed(&page, "u:2", 8000000);
+    put_name(&page, "u:3", "de", "Adler");
+    put_speed(&page, "u:3", 65000000);
+    put_triple(&page, 0x83, "u:3", "p:wheels"); /* no such property in the schema: skipped */
+    put_number(&page, 6);
+    return load() && run(0) && take_page(&page) && run(0) ? 0 : 1;
+}

@@ -1,0 +1,22 @@
+//! The proved engine, through its library.
+
+use super::{Call, Engine, Station};
+use willetcoffer::raw::{self, TablesMut, TablesRef};
+
+/// The proved engine.
+pub struct Archive;
+
+impl Engine for Archive {
+    fn name(&self) -> &'static str {
+        "archive"
+    }
+
+    fn call(&self, station: &mut Station, call: &Call, report: &mut [u8]) -> u32 {
+        let Station { card, term_table: terms, quad_table: quads, saved } = station;
+        match call {
+            Call::Load => raw::load(card, TablesMut { terms, quads }, saved),
+            Call::Run { budget, now, .. } => raw::run(card, TablesRef { terms, quads }, saved, *budget, *now, report),
+            Call::Page { graph, page, .. } => raw::page(card, TablesMut { terms, quads }, saved, *graph, page, report),
+        }
+    }
+}

@@ -1,0 +1,155 @@
+//! A station: what the calls are lent, and one call on it.
+
+use super::Engine;
+use willetcoffer::limits::{
+    FETCHED_OFFSET, GRAPH_LIMIT, PAGE_REPORT_WIDTH, QUAD_TABLE_WIDTH, RUN_REPORT_WIDTH, SAVED_WIDTH, SLOT_WIDTH,
+    TERM_TABLE_WIDTH,
+};
+use willetcoffer::saved::GRAPHS;
+use willetcoffer::{Card, PageReport, RunReport};
+
+/// A card and lent buffers of any lengths.
+#[derive(Clone, PartialEq, Eq)]
+pub struct Station {
+    /// Listed terms, schema and script.
+    pub card: Card,
+    /// The term table.
+    pub term_table: Vec<u8>,
+    /// The quad table.
+    pub quad_table: Vec<u8>,
+    /// The saved run.
+    pub saved: Vec<u8>,
+}
+
+/// A call.
+#[derive(Clone, PartialEq, Eq, Debug)]
+pub enum Call {
+    /// A load.
+    Load,
+    /// A run.
+    Run {
+        /// Steps to take.
+        budget: u64,
+        /// The value of now.
+        now: i64,
+        /// The length of the lent report.
+        report: usize,
+    },
+    /// A page.
+    Page {
+        /// The graph's number.
+        graph: u64,
+        /// Its page.
+        page: Vec<u8>,
+        /// The length of the lent report.
+        report: usize,
+    },
+}
+
+impl Call {
+    /// A run with a report of the right length.
+    pub fn run(budget: u64, now: i64) -> Call {
+        Call::Run { budget, now, report: RUN_REPORT_WIDTH }
+    }
+
+    /// A page with a report of the right length.
+    pub fn page(graph: usize, page: Vec<u8>) -> Call {
+        Call::Page { graph: graph as u64, page, report: PAGE_REPORT_WIDTH }
+    }
+
+    /// Its name in the coverage table.
+    pub fn name(&self) -> &'static str {
+        match self {
+            Call::Load => "load",
+            Call::Run { .. } => "run",
+            Call::Page { .. } => "page",
+        }
+    }
+
+    /// The length of its report; a load has none.
+    fn report(&self) -> usize {
+        match self {
+            Call::Load => 0,
+            Call::Run { report, .. } | Call::Page { report, .. } => *report,
+        }
+    }
+}
+
+/// What a call gave: its number and its report.
+#[derive(Clone, PartialEq, Eq, Debug)]
+pub struct Answer {
+    /// 0 or the refusal.
+    pub code: u32,
+    /// The report's bytes; `aa` where nothing was written.
+    pub report: Vec<u8>,
+}
+
+impl Answer {
+    /// The report of a run that was not refused.
+    pub fn ran(&self) -> Option<RunReport> {
+        RunReport::from_bytes(&self.report).filter(|_| self.code == 0)
+    }
+
+    /// The report of a page that was not refused.
+    pub fn paged(&self) -> Option<PageReport> {
+        PageReport::from_bytes(&self.report).filter(|_| self.code == 0)
+    }
+}
+
+impl Station {
+    /// Buffers of the right lengths, each byte the same.
+    pub fn new(card: Card, byte: u8) -> Station {
+        let [term_table, quad_table, saved] =
+            [TERM_TABLE_WIDTH, QUAD_TABLE_WIDTH, SAVED_WIDTH].map(|width| vec![byte; width]);
+        Station { card, term_table, quad_table, saved }
+    }
+
+    /// The buffers with their names.
+    pub fn buffers(&self) -> [(&'static str, &Vec<u8>); 3] {
+        [("term table", &self.term_table), ("quad table", &self.quad_table), ("saved run", &self.saved)]
+    }
+
+    /// The same, to be changed.
+    pub fn buffers_mut(&mut self) -> [&mut Vec<u8>; 3] {
+        [&mut self.term_table, &mut self.quad_table, &mut self.saved]
+    }
+
+    /// Makes the call by this engine.
+    pub fn call(&mut self, engine: &dyn Engine, call: &Call) -> Answer {
+        let mut report = vec![0xaa; call.report()];
+        let code = engine.call(self, call, &mut report);
+        Answer { code, report }
+    }
+
+    /// The saved number at this place, 0 in a saved run of another length.
+    pub fn number(&self, at: usize) -> usize {
+        self.saved.get(at..at + 2).map_or(0, |b| usize::from(u16::from_le_bytes([b[0], b[1]])))
+    }
+
+    /// Writes a saved number.
+    pub fn set(&mut self, at: usize, number: usize) {
+        if let Some(place) = self.saved.get_mut(at..at + 2) {
+            place.copy_from_slice(&(number as u16).to_le_bytes());
+        }
+    }
+
+    /// How many term slots are in use.
+    pub fn used(&self) -> usize {
+        self.term_table.chunks(SLOT_WIDTH).take_while(|slot| slot[0] != 0).count()
+    }
+
+    /// The fetched graphs' numbers.
+    pub fn fetched(&self) -> Vec<usize> {
+        let count = self.number(GRAPHS).min(GRAPH_LIMIT);
+        (0..count).map(|i| self.number(FETCHED_OFFSET + 2 * i)).collect()
+    }
+
+    /// Where two stations differ first.
+    pub fn first_difference(&self, other: &Station) -> Option<String> {
+        let mut pairs = self.buffers().into_iter().zip(other.buffers());
+        let ((name, a), (_, b)) = pairs.find(|((_, a), (_, b))| a != b)?;
+        let at = a.iter().zip(b).position(|(a, b)| a != b).unwrap_or(0);
+        let [a, b] = [a, b].map(|bytes| &bytes[at..(at + 16).min(bytes.len())]);
+        Some(format!("{name} differs at {at}: {a:02x?} and {b:02x?}"))
+    }
+}

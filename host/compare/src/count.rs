@@ -1,0 +1,87 @@
+//! Counting: what was met, and whether it was met often enough.
+
+mod coverage;
+pub mod kinds;
+
+pub use coverage::{Coverage, ENOUGH};
+
+use crate::call::{Answer, Call};
+use crate::draw::is_block;
+use second::script::Script;
+use willetcoffer::page::records;
+use willetcoffer::{SavedRun, State};
+
+/// What a call was made on and what came of it.
+pub struct Met<'a> {
+    /// The call.
+    pub call: &'a Call,
+    /// The name of the change before it, if there was one.
+    pub tamper: &'a str,
+    /// What it gave.
+    pub answer: &'a Answer,
+    /// Why it was refused.
+    pub why: &'a str,
+}
+
+impl Coverage {
+    /// Counts a call.
+    pub fn call(&mut self, Met { call, tamper, answer, why }: &Met) {
+        self.add(call.name(), format!("{:02}", answer.code));
+        if answer.code != 0 {
+            self.add("reasons", format!("{} {} {why}", call.name(), answer.code));
+        }
+        if !tamper.is_empty() {
+            let verdict = if answer.code == 10 { "unsound" } else { "sound" };
+            self.add("tampered", format!("{tamper} {verdict}"));
+        }
+        if let Some(report) = answer.ran() {
+            let name = match report.state {
+                State::Ended => "ended",
+                State::Wanted(_) => "wanted",
+                State::Waiting => "waiting",
+                State::Spent => "spent",
+            };
+            self.add("state", name);
+        }
+        if let (Call::Page { page, .. }, Some(report)) = (call, answer.paged()) {
+            for record in records(page) {
+                self.add("page record", format!("{:x}", record[0]));
+            }
+            self.add("page", if report.skipped > 0 { "with skipped records" } else { "without skipped records" });
+        }
+    }
+
+    /// Counts what a load gave to a script of this sort.
+    pub fn load(&mut self, sort: &str, answer: &Answer) {
+        let verdict = match answer.code {
+            0 => "accepted".to_string(),
+            code => format!("refused {code}"),
+        };
+        self.add("script", format!("{sort} {verdict}"));
+    }
+
+    /// Counts the reported types of an accepted script.
+    pub fn types(&mut self, saved: &SavedRun) {
+        for (_, t) in saved.types() {
+            self.add("type", t.to_string());
+        }
+    }
+
+    /// Counts the kinds of records of an accepted script.
+    pub fn kinds(&mut self, script: &Script) {
+        for kind in kinds::kinds(script) {
+            self.add("kind", format!("{kind:x}"));
+        }
+        for (each, name) in [(true, "73 each"), (false, "73 once")] {
+            if script.nodes.iter().any(|node| is_block(node, each)) {
+                self.add("kind", name);
+            }
+        }
+    }
+
+    /// Counts what a type printer wrote.
+    pub fn printed(&mut self, text: &str) {
+        let number = text.strip_prefix("refused ").map_or(0, |n| n.trim_end().parse().unwrap_or(0));
+        self.add("printer", format!("{number:02}"));
+    }
+}

@@ -1,0 +1,76 @@
+//! What was met, and whether it was met often enough.
+
+use std::collections::BTreeMap;
+use std::fmt::Write;
+
+/// Counts by section and key.
+#[derive(Default)]
+pub struct Coverage {
+    counts: BTreeMap<(&'static str, String), u64>,
+}
+
+/// How often each of what is required is to be met.
+pub const ENOUGH: u64 = 100;
+
+/// What a long enough run has to meet: each refusal of each call, each script kind, each state, each type.
+fn required() -> Vec<(&'static str, String)> {
+    let mut all = Vec::new();
+    let mut add = |section, keys: &[u32]| all.extend(keys.iter().map(|k| (section, format!("{k:02}"))));
+    add("load", &[0, 1, 2, 3, 4, 5, 6, 7, 8, 9]);
+    add("run", &[0, 1, 10, 11]);
+    add("page", &[0, 1, 10, 12, 13, 14]);
+    add("printer", &[0, 2, 3, 4, 5, 6, 7, 8, 9]);
+    let kinds = [0x31..=0x32, 0x41..=0x45, 0x50..=0x58, 0x61..=0x65, 0x71..=0x74].into_iter().flatten();
+    all.extend(kinds.map(|kind: u32| ("kind", format!("{kind:x}"))));
+    all.extend(["once", "each"].map(|mode| ("kind", format!("73 {mode}"))));
+    all.extend(["ended", "wanted", "waiting", "spent"].map(|state| ("state", state.to_string())));
+    all.extend(willetcoffer::Type::all().map(|t| ("type", t.to_string())));
+    all.extend((0x81..=0x85).map(|kind: u32| ("page record", format!("{kind:x}"))));
+    all
+}
+
+impl Coverage {
+    /// Counts one.
+    pub fn add(&mut self, section: &'static str, key: impl Into<String>) {
+        self.add_many(section, key, 1);
+    }
+
+    /// Counts some.
+    pub fn add_many(&mut self, section: &'static str, key: impl Into<String>, count: u64) {
+        *self.counts.entry((section, key.into())).or_default() += count;
+    }
+
+    /// How often this was met.
+    pub fn get(&self, section: &'static str, key: &str) -> u64 {
+        self.counts.get(&(section, key.to_string())).copied().unwrap_or(0)
+    }
+
+    /// What was met less than [`ENOUGH`] times, of what is required.
+    pub fn missing(&self) -> Vec<String> {
+        let few = required().into_iter().filter(|(section, key)| self.get(section, key) < ENOUGH);
+        few.map(|(section, key)| format!("{section} {key}: {}", self.get(section, &key))).collect()
+    }
+
+    /// The table, a section after the other.
+    pub fn table(&self) -> String {
+        let mut text = String::new();
+        let mut last = "";
+        let mut column = 0;
+        for ((section, key), count) in &self.counts {
+            if *section != last {
+                let _ = write!(text, "{}{section}:", if last.is_empty() { "" } else { "\n" });
+                (last, column) = (section, section.len());
+            }
+            let item = format!(" {key}={count}");
+            if column + item.len() > 118 {
+                text += "\n   ";
+                column = 3;
+            }
+            column += item.len() + 1;
+            text += &item;
+            text.push(',');
+        }
+        text.push('\n');
+        text
+    }
+}

@@ -1,0 +1,156 @@
+//! A case as a list of moves without chance: made again, and told in words.
+
+mod words;
+
+pub use words::describe;
+
+use crate::call::{Call, Engine, Made, Station};
+use crate::draw::is_block;
+use crate::judge::{judge, Breach, Difference, History};
+use std::panic::{catch_unwind, AssertUnwindSafe};
+use willetcoffer::Card;
+
+/// A station before its load, and what is done on it.
+#[derive(Clone, PartialEq, Eq)]
+pub struct Replay {
+    /// Card and lent buffers.
+    pub station: Station,
+    /// What is done, one after the other; the first is the load.
+    pub moves: Vec<Move>,
+}
+
+/// A call, and what was tampered with before it.
+#[derive(Clone, PartialEq, Eq)]
+pub struct Move {
+    /// The tampering, if there is one.
+    pub tampering: Option<Tampering>,
+    /// The call.
+    pub call: Call,
+}
+
+/// What was changed behind the engines' backs.
+#[derive(Clone, PartialEq, Eq)]
+pub struct Tampering {
+    /// The name of the change.
+    pub label: &'static str,
+    /// Another card, where this was changed.
+    pub card: Option<Card>,
+    /// Bytes changed in the lent buffers.
+    pub changes: Vec<Change>,
+}
+
+/// Bytes changed in one place.
+#[derive(Clone, PartialEq, Eq)]
+pub struct Change {
+    /// 0 the term table, 1 the quad table, 2 the saved run.
+    pub buffer: usize,
+    /// Where.
+    pub at: usize,
+    /// What stands there now.
+    pub bytes: Vec<u8>,
+}
+
+impl Tampering {
+    /// A change of which only the name is known.
+    pub fn named(label: &'static str) -> Tampering {
+        Tampering { label, card: None, changes: Vec::new() }
+    }
+
+    /// What was changed between two states of a station.
+    pub fn between(label: &'static str, before: &Station, after: &Station) -> Tampering {
+        let card = (before.card != after.card).then(|| after.card.clone());
+        let mut changes: Vec<Change> = Vec::new();
+        for (buffer, ((_, old), (_, new))) in before.buffers().into_iter().zip(after.buffers()).enumerate() {
+            for (at, (_, byte)) in old.iter().zip(new).enumerate().filter(|(_, (old, new))| old != new) {
+                match changes.last_mut() {
+                    Some(last) if last.buffer == buffer && last.at + last.bytes.len() == at => last.bytes.push(*byte),
+                    _ => changes.push(Change { buffer, at, bytes: vec![*byte] }),
+                }
+            }
+        }
+        Tampering { label, card, changes }
+    }
+
+    /// Makes the change.
+    fn apply(&self, station: &mut Station) {
+        if let Some(card) = &self.card {
+            station.card = card.clone();
+        }
+        let buffers = station.buffers_mut();
+        for Change { buffer, at, bytes } in &self.changes {
+            if let Some(place) = buffers[*buffer].get_mut(*at..at + bytes.len()) {
+                place.copy_from_slice(bytes);
+            }
+        }
+    }
+}
+
+/// Whether a card's script has an each block.
+fn has_each(card: &Card) -> bool {
+    let loaded = second::check::check(second::arcs::solve, &card.terms, &card.schema, &card.script);
+    loaded.is_ok_and(|loaded| loaded.script.nodes.iter().any(|node| is_block(node, true)))
+}
+
+impl Replay {
+    /// Makes the moves by both engines; the first difference, with the place of its move. A move after a refused load is none.
+    pub fn play(&self, engines: [&dyn Engine; 2]) -> Option<(usize, Difference)> {
+        let mut place = 0;
+        let play = AssertUnwindSafe(|| self.play_on(engines, &mut place, &mut |_, _| {}));
+        let result = catch_unwind(play);
+        let panicked = || Err(Difference::new(Breach::Panic, "an engine panicked".to_string()));
+        result.unwrap_or_else(|_| panicked()).err().map(|difference| (place, difference))
+    }
+
+    /// The same, each call shown to `see` with its tampering's name.
+    fn play_on(
+        &self,
+        engines: [&dyn Engine; 2],
+        place: &mut usize,
+        see: &mut dyn FnMut(&Made, &'static str),
+    ) -> Result<(), Difference> {
+        let mut station = self.station.clone();
+        let mut history = History::default();
+        engines.iter().for_each(|engine| engine.begin());
+        for (at, Move { tampering, call }) in self.moves.iter().enumerate() {
+            *place = at;
+            if let Some(tampering) = tampering {
+                tampering.apply(&mut station);
+            }
+            let made = Made::new(&station, call, engines);
+            see(&made, tampering.as_ref().map_or("", |tampering| tampering.label));
+            judge(&made, tampering.is_some(), &mut history)?;
+            let (after, answer) = made.into_first();
+            station = after;
+            history.tampered |= tampering.is_some();
+            if *call == Call::Load {
+                if answer.code != 0 {
+                    return Ok(());
+                }
+                history.each = has_each(&station.card);
+            }
+        }
+        Ok(())
+    }
+
+    /// The moves in words, each with what both engines gave.
+    pub fn tell(&self, engines: [&dyn Engine; 2]) -> String {
+        let mut text = String::new();
+        let mut see = |made: &Made, label: &'static str| text += &describe(made, label, engines);
+        // A panic has said its own words; what came before it is told.
+        let _ = catch_unwind(AssertUnwindSafe(|| self.play_on(engines, &mut 0, &mut see)));
+        text
+    }
+
+    /// How many bytes it takes: card, pages and changes.
+    pub fn bytes(&self) -> usize {
+        let card = |card: &Card| card.terms.len() + card.schema.len() + card.script.len();
+        let of_move = |m: &Move| {
+            let page = if let Call::Page { page, .. } = &m.call { page.len() } else { 0 };
+            let tampering = m.tampering.as_ref().map_or(0, |t| {
+                t.card.as_ref().map_or(0, card) + t.changes.iter().map(|change| change.bytes.len()).sum::<usize>()
+            });
+            page + tampering
+        };
+        card(&self.station.card) + self.moves.iter().map(of_move).sum::<usize>()
+    }
+}

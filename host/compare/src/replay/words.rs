@@ -1,0 +1,55 @@
+//! A call in words.
+
+use crate::call::{Call, Engine, Made};
+use crate::shrink::tree::Node;
+use std::fmt::Write;
+
+/// A call in words: what it was lent, what each engine gave, and the saved run after it.
+pub fn describe(made: &Made, tamper: &str, engines: [&dyn Engine; 2]) -> String {
+    let mut text = match made.call {
+        Call::Load => "load\n".to_string(),
+        Call::Run { budget, now, report } => format!("run budget {budget} now {now} report of {report}\n"),
+        Call::Page { graph, page, report } => format!("page graph {graph} report of {report} page {}\n", hex(page)),
+    };
+    if matches!(made.call, Call::Load) || !tamper.is_empty() {
+        let card = &made.before.card;
+        let _ = writeln!(
+            text,
+            "  terms {}\n  schema {}\n  script {}",
+            hex(&card.terms),
+            hex(&card.schema),
+            hex(&card.script)
+        );
+        if let Some(root) = Node::read(&card.script) {
+            outline(&root, 2, &mut text);
+        }
+    }
+    if !tamper.is_empty() {
+        let _ = writeln!(text, "  before it, tampered with: {tamper}");
+    }
+    for ((engine, answer), time) in engines.iter().zip(&made.answers).zip(made.times) {
+        let (name, why) = (engine.name(), engine.why());
+        let _ = writeln!(text, "  {name}: {} report {} {why} in {time:?}", answer.code, hex(&answer.report));
+    }
+    let _ = writeln!(text, "  saved run {}", hex(&made.after[0].saved));
+    text
+}
+
+/// A line for each record, deeper ones further in.
+fn outline(node: &Node, depth: usize, text: &mut String) {
+    let _ = writeln!(text, "{}{:02x} {}", "  ".repeat(depth), node.kind, hex(&node.body));
+    node.children.iter().for_each(|child| outline(child, depth + 1, text));
+}
+
+/// Hexadecimal, each long run of zeros as a count.
+fn hex(bytes: &[u8]) -> String {
+    let mut text = String::new();
+    for part in bytes.chunk_by(|a, b| (*a == 0) == (*b == 0)) {
+        if part[0] == 0 && part.len() > 5 {
+            text += &format!(" 00*{} ", part.len());
+        } else {
+            text.extend(part.iter().map(|b| format!("{b:02x}")));
+        }
+    }
+    text
+}

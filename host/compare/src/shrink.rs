@@ -1,0 +1,273 @@
+//! Shrinking: a case that shows a difference is cut down, piece by piece, while it still shows one of the same sort.
+
+pub mod tree;
+
+use crate::call::Call;
+use crate::replay::{Move, Replay, Tampering};
+use std::time::{Duration, Instant};
+use tree::Node;
+use willetcoffer::limits::{SLOT_WIDTH, TEXT_WIDTH};
+use willetcoffer::page::records;
+use willetcoffer::term::body_width;
+use willetcoffer::Card;
+
+/// How long a case is cut down.
+#[derive(Clone, Copy, Debug)]
+pub struct Patience {
+    /// Tries, at most.
+    pub tries: usize,
+    /// Time, at most.
+    pub time: Duration,
+}
+
+impl Default for Patience {
+    fn default() -> Patience {
+        Patience { tries: 5_000, time: Duration::from_secs(20) }
+    }
+}
+
+/// A case being cut down.
+struct Shrink<'a> {
+    best: Replay,
+    fails: &'a mut dyn FnMut(&Replay) -> bool,
+    left: usize,
+    end: Instant,
+}
+
+/// A smaller case that still fails; the case itself where nothing can be cut.
+pub fn shrink(replay: Replay, patience: Patience, fails: &mut dyn FnMut(&Replay) -> bool) -> Replay {
+    let end = Instant::now() + patience.time;
+    let mut shrink = Shrink { best: replay, fails, left: patience.tries, end };
+    loop {
+        let before = shrink.best.clone();
+        shrink.moves();
+        shrink.calls();
+        shrink.tampering();
+        for place in 0..shrink.cards() {
+            shrink.card(place);
+        }
+        if shrink.best == before || shrink.is_over() {
+            return shrink.best;
+        }
+    }
+}
+
+/// The card at this place: the station's, then those that a tampering puts in.
+fn card_at(replay: &mut Replay, place: usize) -> Option<&mut Card> {
+    let others = replay.moves.iter_mut().filter_map(|m| m.tampering.as_mut()?.card.as_mut());
+    std::iter::once(&mut replay.station.card).chain(others).nth(place)
+}
+
+impl Shrink<'_> {
+    fn is_over(&self) -> bool {
+        self.left == 0 || Instant::now() > self.end
+    }
+
+    /// Takes the change if the case still fails with it.
+    fn attempt(&mut self, change: impl FnOnce(&mut Replay)) -> bool {
+        let mut next = self.best.clone();
+        change(&mut next);
+        if self.is_over() || next == self.best {
+            return false;
+        }
+        self.left -= 1;
+        let fails = (self.fails)(&next);
+        if fails {
+            self.best = next;
+        }
+        fails
+    }
+
+    /// Leaves out pieces of a list: first large runs of them, then smaller ones, each from the end.
+    fn pieces<T: Clone>(&mut self, list: Vec<T>, put: &dyn Fn(&mut Replay, &[T])) {
+        let mut list = list;
+        let mut size = list.len();
+        while size > 0 {
+            let mut end = list.len();
+            while end > 0 {
+                let start = end.saturating_sub(size);
+                let rest = [&list[..start], &list[end..]].concat();
+                if self.attempt(|replay| put(replay, &rest)) {
+                    list = rest;
+                }
+                end = start;
+            }
+            size /= 2;
+        }
+    }
+
+    /// Fewer moves after the first, which is the load.
+    fn moves(&mut self) {
+        let after = self.best.moves.iter().skip(1).cloned().collect();
+        self.pieces(after, &|replay, rest: &[Move]| {
+            replay.moves.truncate(1);
+            replay.moves.extend_from_slice(rest);
+        });
+    }
+
+    /// Fewer steps, another now, fewer records of a page.
+    fn calls(&mut self) {
+        for place in 0..self.best.moves.len() {
+            match self.best.moves[place].call.clone() {
+                Call::Load => {}
+                Call::Run { budget: old, .. } => {
+                    let smaller = [0, 1, 2, old / 2, old.saturating_sub(1)];
+                    for less in smaller.into_iter().filter(|less| *less < old) {
+                        let change = |replay: &mut Replay| {
+                            if let Call::Run { budget, .. } = &mut replay.moves[place].call {
+                                *budget = less;
+                            }
+                        };
+                        if self.attempt(change) {
+                            break;
+                        }
+                    }
+                    self.attempt(|replay| {
+                        if let Call::Run { now, .. } = &mut replay.moves[place].call {
+                            *now = 0;
+                        }
+                    });
+                }
+                Call::Page { page, .. } => {
+                    let all: Vec<Vec<u8>> = records(&page).map(<[u8]>::to_vec).collect();
+                    self.pieces(all, &|replay, rest: &[Vec<u8>]| {
+                        if let Call::Page { page, .. } = &mut replay.moves[place].call {
+                            *page = rest.concat();
+                        }
+                    });
+                }
+            }
+        }
+    }
+
+    /// No tampering, the old card, fewer changed bytes.
+    fn tampering(&mut self) {
+        for place in 0..self.best.moves.len() {
+            if self.attempt(|replay| replay.moves[place].tampering = None) {
+                continue;
+            }
+            let Some(Tampering { card, changes, .. }) = self.best.moves[place].tampering.clone() else { continue };
+            if card.is_some() {
+                self.attempt(|replay| {
+                    if let Some(tampering) = &mut replay.moves[place].tampering {
+                        tampering.card = None;
+                    }
+                });
+            }
+            self.pieces(changes, &|replay, rest| {
+                if let Some(tampering) = &mut replay.moves[place].tampering {
+                    tampering.changes = rest.to_vec();
+                }
+            });
+        }
+    }
+
+    fn cards(&self) -> usize {
+        1 + self.best.moves.iter().filter(|m| m.tampering.as_ref().is_some_and(|t| t.card.is_some())).count()
+    }
+
+    /// A smaller script, fewer terms, fewer schema entries.
+    fn card(&mut self, place: usize) {
+        let Some(card) = card_at(&mut self.best, place).cloned() else { return };
+        match Node::read(&card.script) {
+            Some(root) => self.script(place, root),
+            None => self.pieces(card.script, &|replay, rest| {
+                if let Some(card) = card_at(replay, place) {
+                    card.script = rest.to_vec();
+                }
+            }),
+        }
+        self.pieces(split(&card.terms, &term_width), &|replay, rest: &[Vec<u8>]| {
+            with_card(replay, place, |card| card.terms = rest.concat());
+        });
+        self.pieces(split(&card.schema, &|_| Some(ENTRY)), &|replay, rest: &[Vec<u8>]| {
+            with_card(replay, place, |card| card.schema = rest.concat());
+        });
+    }
+
+    /// Smaller records in the place of larger ones, from the root on.
+    fn script(&mut self, place: usize, root: Node) {
+        let mut root = root;
+        let mut at = 0;
+        while let Some(node) = root.at(at).cloned() {
+            let cut = node.smaller().into_iter().find_map(|smaller| {
+                let mut next = root.clone();
+                *next.at(at)? = smaller;
+                let mut tidy = next.clone();
+                tidy.tidy();
+                [tidy, next].into_iter().find(|next| self.put_script(place, next.bytes()))
+            });
+            match cut {
+                Some(next) => root = next,
+                None => at += 1,
+            }
+        }
+    }
+
+    fn put_script(&mut self, place: usize, script: Vec<u8>) -> bool {
+        self.attempt(|replay| {
+            if let Some(card) = card_at(replay, place) {
+                card.script = script;
+            }
+        })
+    }
+}
+
+/// The bytes of a schema record.
+const ENTRY: usize = 1 + TEXT_WIDTH + 1;
+
+/// The bytes of a term record.
+fn term_width(kind: u8) -> Option<usize> {
+    body_width(kind).map(|body| 1 + body)
+}
+
+/// Records of the widths that their kinds fix; the rest in one piece.
+fn split(bytes: &[u8], width: &dyn Fn(u8) -> Option<usize>) -> Vec<Vec<u8>> {
+    let mut all = Vec::new();
+    let mut rest = bytes;
+    while let Some(kind) = rest.first() {
+        let (record, after) = rest.split_at(width(*kind).unwrap_or(rest.len()).min(rest.len()));
+        all.push(record.to_vec());
+        rest = after;
+    }
+    all
+}
+
+/// The terms' slots as loading numbers them: those listed, then the schema's URIs that are not among them.
+fn numbered(card: &Card) -> Vec<Vec<u8>> {
+    let slot = |record: &[u8]| {
+        let mut slot = record.to_vec();
+        slot.resize(SLOT_WIDTH, 0);
+        slot
+    };
+    let mut all: Vec<Vec<u8>> = split(&card.terms, &term_width).iter().map(|record| slot(record)).collect();
+    for entry in split(&card.schema, &|_| Some(ENTRY)).iter().filter(|entry| entry.len() == ENTRY) {
+        let uri = slot(&[&[0x11], &entry[1..ENTRY - 1]].concat());
+        if !all.contains(&uri) {
+            all.push(uri);
+        }
+    }
+    all
+}
+
+/// Changes terms or schema of a card; where that gives terms other numbers, constants and page calls follow.
+fn with_card(replay: &mut Replay, place: usize, change: impl FnOnce(&mut Card)) {
+    let Some(card) = card_at(replay, place) else { return };
+    let old = numbered(card);
+    change(card);
+    let new = numbered(card);
+    let renumbered = |number: usize| {
+        let term = old.get(number)?;
+        new.iter().position(|other| other == term)
+    };
+    if let Some(mut root) = Node::read(&card.script) {
+        root.renumber(&|number| renumbered(usize::from(number)).map_or(number, |new| new as u16));
+        card.script = root.bytes();
+    }
+    for m in &mut replay.moves {
+        if let Call::Page { graph, .. } = &mut m.call {
+            let new = usize::try_from(*graph).ok().and_then(renumbered);
+            *graph = new.map_or(*graph, |new| new as u64);
+        }
+    }
+}

@@ -1,0 +1,101 @@
+//! The judge: promises that two engines may break alike, so that comparing them would not show it.
+
+use compare::call::engine::fast;
+use compare::call::{Call, Engine, Station};
+use compare::case::Case;
+use compare::count::Coverage;
+use compare::judge::Breach;
+
+/// What a wrong call makes of the number and the report.
+type Wrong = fn(&mut Station, &Call, &mut u32, &mut [u8]);
+
+struct Alike(Wrong);
+
+impl Engine for Alike {
+    fn name(&self) -> &'static str {
+        "alike"
+    }
+
+    fn call(&self, station: &mut Station, call: &Call, report: &mut [u8]) -> u32 {
+        let mut code = fast().call(station, call, report);
+        (self.0)(station, call, &mut code, report);
+        code
+    }
+}
+
+/// The first breach of two engines that are wrong in the same way.
+fn breach(wrong: Wrong) -> Option<Breach> {
+    let engine = Alike(wrong);
+    let mut coverage = Coverage::default();
+    let mut run = |index| Case::new(17, index, [&engine, &engine], &mut coverage).run().err();
+    (0..2000).find_map(|index| run(index).map(|difference| difference.breach))
+}
+
+#[test]
+fn an_engine_that_is_right() {
+    assert_eq!(breach(|_, _, _, _| {}), None);
+}
+
+#[test]
+fn a_refused_call_that_changes_a_table() {
+    let clears: Wrong = |station, _, code, _| {
+        if *code != 0 {
+            station.quad_table.fill(0);
+        }
+    };
+    assert_eq!(breach(clears), Some(Breach::Kept));
+}
+
+#[test]
+fn a_fault() {
+    // A run of no steps, which changes nothing.
+    let faulty: Wrong = |_, call, code, _| {
+        if let (Call::Run { budget: 0, .. }, 0) = (call, *code) {
+            *code = second::calls::FAULT + 3;
+        }
+    };
+    assert_eq!(breach(faulty), Some(Breach::Fault));
+}
+
+#[test]
+fn refusal_10_of_what_nobody_tampered_with() {
+    let distrustful: Wrong = |_, call, code, _| {
+        if let (Call::Run { budget: 0, .. }, 0) = (call, *code) {
+            *code = 10;
+        }
+    };
+    assert_eq!(breach(distrustful), Some(Breach::Unsound));
+}
+
+#[test]
+fn steps_that_do_not_go_with_the_budget() {
+    let spends: Wrong = |_, call, code, report| {
+        if let (Call::Run { .. }, 0) = (call, *code) {
+            report.copy_from_slice(&[0, 0, 0, 0, 3, 0, 0, 0]);
+        }
+    };
+    let invents: Wrong = |_, call, code, report| {
+        if let (Call::Run { .. }, 0) = (call, *code) {
+            report[3] = 1;
+        }
+    };
+    let babbles: Wrong = |_, call, code, report| {
+        if let (Call::Run { .. }, 0) = (call, *code) {
+            report[4] = 9;
+        }
+    };
+    for wrong in [spends, invents, babbles] {
+        assert_eq!(breach(wrong), Some(Breach::Steps));
+    }
+}
+
+#[test]
+fn too_many_steps_without_an_each_block() {
+    let tireless: Wrong = |_, call, code, report| {
+        if let (Call::Run { budget, .. }, 0) = (call, *code) {
+            report[..4].copy_from_slice(&(*budget as u32).to_le_bytes());
+            report[4..].copy_from_slice(&[3, 0, 0, 0]);
+        }
+    };
+    assert_eq!(breach(tireless), Some(Breach::Total));
+}

@@ -1,0 +1,92 @@
+//! A card and its calls.
+
+use crate::limits::{PAGE_REPORT_WIDTH, RUN_REPORT_WIDTH, SAVED_WIDTH, TEXT_WIDTH};
+use crate::raw;
+use crate::refusal::Refusal;
+use crate::report::{PageReport, RunReport};
+use crate::saved::SavedRun;
+use crate::script::Script;
+use crate::tables::Tables;
+use crate::term::Term;
+use crate::types::Datatype;
+
+/// A card: listed terms, schema and script, as bytes. Any bytes may stand here; [`Card::load`] says what is wrong with them.
+/// Every call is lent the card that was loaded.
+#[derive(Clone, PartialEq, Eq, Debug, Default)]
+pub struct Card {
+    /// The listed terms' records.
+    pub terms: Vec<u8>,
+    /// The schema's records.
+    pub schema: Vec<u8>,
+    /// The script's records, in prefix order.
+    pub script: Vec<u8>,
+}
+
+impl Card {
+    /// A card with these terms, schema entries and script. Constants of the script number the terms from 0 as they stand here;
+    /// the properties of the schema that are not among them follow in schema order.
+    ///
+    /// A schema entry is a property and the datatype of its objects. For a property that is no URI a bad record is written,
+    /// which the load refuses with 4.
+    pub fn new(terms: &[Term], schema: &[(Term, Datatype)], script: Script) -> Card {
+        let terms = terms.iter().flat_map(Term::record).copied().collect();
+        let schema = schema.iter().flat_map(|(property, datatype)| {
+            let body = property.uri_body().unwrap_or(&[0; TEXT_WIDTH]);
+            [&[0x21], body, &[datatype.code()]].concat()
+        });
+        Card { terms, schema: schema.collect(), script: script.into_bytes() }
+    }
+
+    /// Terms, schema and script joined, as the type printer reads them.
+    pub fn joined(&self) -> Vec<u8> {
+        [&self.terms[..], &self.schema, &self.script].concat()
+    }
+
+    /// Loads the card: the tables get its terms and no quad, and the saved run has the reported types.
+    ///
+    /// Refused with 2 to 9, and then the tables keep what they had.
+    ///
+    /// ```
+    /// use willetcoffer::script::{con, once, pattern, success, var};
+    /// use willetcoffer::{Card, Refusal, Tables, Term};
+    /// // Who is called Mallard, and by which property?
+    /// let script = once(&[(0, None), (1, None)], pattern([var(0), var(0), var(1), con(0)]), success());
+    /// let card = Card::new(&[Term::string("Mallard")?], &[], script);
+    /// let saved = card.load(&mut Tables::new())?;
+    /// assert_eq!(saved.variable_type(1).map(|t| t.to_string()).as_deref(), Some("range(xsd:string)"));
+    /// // A listed term twice.
+    /// let twice = Card { terms: card.terms.repeat(2), ..card };
+    /// assert_eq!(twice.load(&mut Tables::new()), Err(Refusal::TermTwice));
+    /// # Ok::<(), Box<dyn std::error::Error>>(())
+    /// ```
+    pub fn load(&self, tables: &mut Tables) -> Result<SavedRun, Refusal> {
+        let mut saved = SavedRun::from_bytes([0; SAVED_WIDTH]);
+        Refusal::unless_zero(raw::load(self, tables.lent_mut(), saved.as_bytes_mut()))?;
+        Ok(saved)
+    }
+
+    /// Takes up to `budget` steps at the time `now`, in seconds from 1970-01-01T00:00:00Z.
+    ///
+    /// Refused with 10 and 11, and then the saved run keeps what it had.
+    pub fn run(&self, tables: &Tables, saved: &mut SavedRun, budget: u64, now: i64) -> Result<RunReport, Refusal> {
+        let mut report = [0; RUN_REPORT_WIDTH];
+        Refusal::unless_zero(raw::run(self, tables.lent(), saved.as_bytes_mut(), budget, now, &mut report))?;
+        Ok(RunReport::from_bytes(&report).expect("a run call that is not refused writes its report"))
+    }
+
+    /// Takes in the page of a graph, which is named by its term number.
+    ///
+    /// Refused with 10, 12, 13 and 14, and then tables and saved run keep what they had.
+    pub fn page(
+        &self,
+        tables: &mut Tables,
+        saved: &mut SavedRun,
+        graph: impl Into<u64>,
+        page: &[u8],
+    ) -> Result<PageReport, Refusal> {
+        let mut report = [0; PAGE_REPORT_WIDTH];
+        let graph = graph.into();
+        Refusal::unless_zero(raw::page(self, tables.lent_mut(), saved.as_bytes_mut(), graph, page, &mut report))?;
+        Ok(PageReport { skipped: u32::from_le_bytes(report) })
+    }
+}

@@ -1,0 +1,155 @@
+//! The calls over buffers of any length, each giving 0 or the number of its refusal: what the C interface is, with slices.
+//!
+//! [`Card`] has the same calls with buffers that always fit. All that is `unsafe` in this workspace stands
+//! here.
+
+use crate::card::Card;
+
+// Each slice of the C interface passes as a pointer and a length. A test compares these declarations, and those of the C
+// header, with the exported functions.
+extern "C" {
+    fn willetcoffer_load(
+        terms: *const u8,
+        terms_length: usize,
+        schema: *const u8,
+        schema_length: usize,
+        script: *const u8,
+        script_length: usize,
+        term_table: *mut u8,
+        term_table_length: usize,
+        quad_table: *mut u8,
+        quad_table_length: usize,
+        saved: *mut u8,
+        saved_length: usize,
+    ) -> u32;
+
+    fn willetcoffer_run(
+        terms: *const u8,
+        terms_length: usize,
+        schema: *const u8,
+        schema_length: usize,
+        script: *const u8,
+        script_length: usize,
+        term_table: *const u8,
+        term_table_length: usize,
+        quad_table: *const u8,
+        quad_table_length: usize,
+        saved: *mut u8,
+        saved_length: usize,
+        budget: u64,
+        now: i64,
+        report: *mut u8,
+        report_length: usize,
+    ) -> u32;
+
+    fn willetcoffer_page(
+        terms: *const u8,
+        terms_length: usize,
+        schema: *const u8,
+        schema_length: usize,
+        script: *const u8,
+        script_length: usize,
+        term_table: *mut u8,
+        term_table_length: usize,
+        quad_table: *mut u8,
+        quad_table_length: usize,
+        saved: *mut u8,
+        saved_length: usize,
+        graph: u64,
+        page: *const u8,
+        page_length: usize,
+        report: *mut u8,
+        report_length: usize,
+    ) -> u32;
+}
+
+/// The tables of a call that writes them.
+pub struct TablesMut<'a> {
+    /// The term table.
+    pub terms: &'a mut [u8],
+    /// The quad table.
+    pub quads: &'a mut [u8],
+}
+
+/// The tables of a call that only reads them.
+#[derive(Clone, Copy)]
+pub struct TablesRef<'a> {
+    /// The term table.
+    pub terms: &'a [u8],
+    /// The quad table.
+    pub quads: &'a [u8],
+}
+
+/// Loads a card: on 0 both tables and the saved run are written, else nothing is.
+pub fn load(card: &Card, tables: TablesMut<'_>, saved: &mut [u8]) -> u32 {
+    // SAFETY: each pointer comes with the length of the slice it was taken from; the slices outlive the call, and those that
+    // it writes overlap no other, being borrowed mutably. The call reads and writes within these lengths and keeps no
+    // pointer (proved of the exported function).
+    unsafe {
+        willetcoffer_load(
+            card.terms.as_ptr(),
+            card.terms.len(),
+            card.schema.as_ptr(),
+            card.schema.len(),
+            card.script.as_ptr(),
+            card.script.len(),
+            tables.terms.as_mut_ptr(),
+            tables.terms.len(),
+            tables.quads.as_mut_ptr(),
+            tables.quads.len(),
+            saved.as_mut_ptr(),
+            saved.len(),
+        )
+    }
+}
+
+/// Takes up to `budget` steps: on 0 the saved run and the report are written, else nothing is.
+pub fn run(card: &Card, tables: TablesRef<'_>, saved: &mut [u8], budget: u64, now: i64, report: &mut [u8]) -> u32 {
+    // SAFETY: as in `load`.
+    unsafe {
+        willetcoffer_run(
+            card.terms.as_ptr(),
+            card.terms.len(),
+            card.schema.as_ptr(),
+            card.schema.len(),
+            card.script.as_ptr(),
+            card.script.len(),
+            tables.terms.as_ptr(),
+            tables.terms.len(),
+            tables.quads.as_ptr(),
+            tables.quads.len(),
+            saved.as_mut_ptr(),
+            saved.len(),
+            budget,
+            now,
+            report.as_mut_ptr(),
+            report.len(),
+        )
+    }
+}
+
+/// Takes a page in: on 0 both tables, the saved run and the report are written, else nothing is.
+pub fn page(card: &Card, tables: TablesMut<'_>, saved: &mut [u8], graph: u64, page: &[u8], report: &mut [u8]) -> u32 {
+    // SAFETY: as in `load`.
+    unsafe {
+        willetcoffer_page(
+            card.terms.as_ptr(),
+            card.terms.len(),
+            card.schema.as_ptr(),
+            card.schema.len(),
+            card.script.as_ptr(),
+            card.script.len(),
+            tables.terms.as_mut_ptr(),
+            tables.terms.len(),
+            tables.quads.as_mut_ptr(),
+            tables.quads.len(),
+            saved.as_mut_ptr(),
+            saved.len(),
+            graph,
+            page.as_ptr(),
+            page.len(),
+            report.as_mut_ptr(),
+            report.len(),
+        )
+    }
+}

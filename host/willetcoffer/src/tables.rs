@@ -1,0 +1,86 @@
+//! The tables that a host lends: terms by number, and the stored quads.
+
+use crate::limits::{QUAD_TABLE_WIDTH, QUAD_WIDTH, SLOT_WIDTH, TERM_TABLE_WIDTH};
+use crate::raw::{TablesMut, TablesRef};
+use crate::saved::SavedRun;
+use crate::term::Term;
+
+/// A term table and a quad table. A load fills them anew, a page call writes them, a run call only reads them.
+#[derive(Clone, PartialEq, Eq, Debug)]
+pub struct Tables {
+    terms: Box<[u8; TERM_TABLE_WIDTH]>,
+    quads: Box<[u8; QUAD_TABLE_WIDTH]>,
+}
+
+/// A stored quad, by term numbers.
+#[derive(Clone, Copy, PartialEq, Eq, Hash, Debug)]
+pub struct Quad {
+    /// The graph that it was fetched from.
+    pub graph: u16,
+    /// The subject.
+    pub subject: u16,
+    /// The property.
+    pub property: u16,
+    /// The object.
+    pub object: u16,
+}
+
+impl Default for Tables {
+    fn default() -> Tables {
+        Tables::new()
+    }
+}
+
+impl Tables {
+    /// Empty tables, for a load.
+    pub fn new() -> Tables {
+        Tables { terms: Box::new([0; TERM_TABLE_WIDTH]), quads: Box::new([0; QUAD_TABLE_WIDTH]) }
+    }
+
+    /// Tables of these bytes, as they were stored.
+    pub fn from_bytes(terms: Box<[u8; TERM_TABLE_WIDTH]>, quads: Box<[u8; QUAD_TABLE_WIDTH]>) -> Tables {
+        Tables { terms, quads }
+    }
+
+    /// The term table's bytes.
+    pub fn term_bytes(&self) -> &[u8; TERM_TABLE_WIDTH] {
+        &self.terms
+    }
+
+    /// The quad table's bytes.
+    pub fn quad_bytes(&self) -> &[u8; QUAD_TABLE_WIDTH] {
+        &self.quads
+    }
+
+    /// The term of this number, if it is in use.
+    pub fn term(&self, number: u16) -> Option<Term> {
+        self.terms.chunks(SLOT_WIDTH).nth(usize::from(number)).and_then(Term::from_slot)
+    }
+
+    /// The terms in use, by number.
+    pub fn terms(&self) -> impl Iterator<Item = Term> + '_ {
+        self.terms.chunks(SLOT_WIDTH).map_while(Term::from_slot)
+    }
+
+    /// The number of a term that is in use.
+    pub fn number_of(&self, term: &Term) -> Option<u16> {
+        let place = self.terms.chunks(SLOT_WIDTH).position(|slot| slot == term.slot())?;
+        u16::try_from(place).ok()
+    }
+
+    /// The quads in use, in table order; their number stands in the saved run.
+    pub fn quads<'a>(&'a self, saved: &SavedRun) -> impl Iterator<Item = Quad> + use<'a> {
+        self.quads.chunks(QUAD_WIDTH).take(saved.quads()).map(|row| {
+            let [graph, subject, property, object] = [0, 2, 4, 6].map(|at| u16::from_le_bytes([row[at], row[at + 1]]));
+            Quad { graph, subject, property, object }
+        })
+    }
+
+    pub(crate) fn lent(&self) -> TablesRef<'_> {
+        TablesRef { terms: &self.terms[..], quads: &self.quads[..] }
+    }
+
+    pub(crate) fn lent_mut(&mut self) -> TablesMut<'_> {
+        TablesMut { terms: &mut self.terms[..], quads: &mut self.quads[..] }
+    }
+}

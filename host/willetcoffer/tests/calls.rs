@@ -1,0 +1,207 @@
+//! The calls through the safe interface: each refusal with an input that meets it, lengths, and a run from load to end.
+
+use willetcoffer::limits::{
+    BUDGET_LIMIT, GRAPH_LIMIT, PAGE_LIMIT, SECONDS_AFTER, SECONDS_BEFORE, SLOT_WIDTH, TEXT_WIDTH,
+};
+use willetcoffer::limits::{PAGE_REPORT_WIDTH, QUAD_TABLE_WIDTH, RUN_REPORT_WIDTH, SAVED_WIDTH, TERM_TABLE_WIDTH};
+use willetcoffer::page::{record_width, records, triple};
+use willetcoffer::raw::{self, TablesMut, TablesRef};
+use willetcoffer::script::*;
+use willetcoffer::{Card, Datatype, PageReport, Quad, Refusal, RunReport, SavedRun, StackItem, State, Tables};
+use willetcoffer::{Term, Type, Value};
+
+fn uri(text: &str) -> Term {
+    Term::uri(text).unwrap()
+}
+
+fn integer(number: i64) -> Term {
+    Term::integer(number).unwrap()
+}
+
+fn refusal(card: &Card) -> u32 {
+    card.load(&mut Tables::new()).map_or_else(Refusal::number, |_| 0)
+}
+
+fn with_script(script: &[u8]) -> Card {
+    Card { script: script.to_vec(), ..Card::default() }
+}
+
+/// Document 01's table of refusals, 2 to 9.
+#[test]
+fn refusals_of_a_load() {
+    let three = Card::new(&[integer(3)], &[], success());
+    assert_eq!(refusal(&Card { terms: vec![0x16], ..three.clone() }), 2);
+    assert_eq!(refusal(&Card { terms: three.terms.repeat(2), ..three.clone() }), 3);
+    let named = Card::new(&[], &[(uri("p:name"), Datatype::String)], success());
+    let mut datatype_6 = named.clone();
+    *datatype_6.schema.last_mut().unwrap() = 6;
+    assert_eq!(refusal(&datatype_6), 4);
+    assert_eq!(refusal(&Card { schema: named.schema.repeat(2), ..named }), 5);
+    assert_eq!(refusal(&with_script(&[])), 6);
+    assert_eq!(refusal(&with_script(&[0x72, 0x31, 0, 0x71])), 7);
+    let regex_on_an_integer = once(&[], filter(regex("a", con(0))), success());
+    assert_eq!(refusal(&Card::new(&[integer(3)], &[], regex_on_an_integer)), 8);
+    assert_eq!(refusal(&Card::new(&[], &[], once(&[(0, None)], empty(), success()))), 9);
+    assert_eq!(refusal(&three), 0);
+}
+
+/// What does not fit its record is refused, never read as something else.
+#[test]
+fn records_that_do_not_fit() {
+    let long = regex("a pattern of more than sixteen bytes", con(0));
+    let text = Term::string("a").unwrap();
+    assert_eq!(refusal(&Card::new(&[text], &[], once(&[], filter(long), success()))), 6);
+    let range = lang_matches("en-and-more", con(0));
+    assert_eq!(refusal(&Card::new(&[text], &[], once(&[], filter(range), success()))), 6);
+    let five: Vec<(u8, Option<Type>)> = (0..5).map(|v| (v, None)).collect();
+    assert_eq!(refusal(&Card::new(&[], &[], once(&five, empty(), success()))), 6);
+    assert_eq!(refusal(&Card::new(&[], &[(integer(3), Datatype::Integer)], success())), 4);
+}
+
+/// The yard, by its number 0, with p:speed over decimals: from the yard, each thing with a speed; then once the yard itself.
+fn yard() -> Card {
+    let open = [(0, None), (1, None)];
+    let speeds = each(&open, pattern([con(0), var(0), con(1), var(1)]), success());
+    let own = once(&[(2, Some(Type::Data(Datatype::Decimal)))], pattern([con(0), con(0), con(1), var(2)]), success());
+    let script = from_named(con(0), sequence(speeds, own));
+    Card::new(&[uri("u:yard")], &[(uri("p:speed"), Datatype::Decimal)], script)
+}
+
+fn speed(subject: &str, number: i64) -> Vec<u8> {
+    triple(&uri(subject), &uri("p:speed"), &integer(number)).unwrap()
+}
+
+#[test]
+fn refusals_of_run_and_page() {
+    let card = yard();
+    let mut tables = Tables::new();
+    let mut saved = card.load(&mut tables).unwrap();
+    let before = (tables.clone(), saved.clone());
+    let other = Card::new(&[integer(3)], &[], success());
+    assert_eq!(other.run(&tables, &mut saved, 1, 0), Err(Refusal::Unsound));
+    assert_eq!(card.run(&tables, &mut saved, BUDGET_LIMIT + 1, 0), Err(Refusal::RunCall));
+    assert_eq!(card.run(&tables, &mut saved, 1, SECONDS_AFTER + 1), Err(Refusal::RunCall));
+    assert_eq!(card.run(&tables, &mut saved, 1, -SECONDS_BEFORE - 1), Err(Refusal::RunCall));
+    assert_eq!(card.page(&mut tables, &mut saved, 2u16, &[]), Err(Refusal::PageGraph));
+    assert_eq!(card.page(&mut tables, &mut saved, 0u16, &[0x81]), Err(Refusal::Page));
+    let long = speed("u:loco", 60).repeat(PAGE_LIMIT / record_width(0x83).unwrap() + 1);
+    assert_eq!(card.page(&mut tables, &mut saved, 0u16, &long), Err(Refusal::Page));
+    assert_eq!((&tables, &saved), (&before.0, &before.1));
+    let graphs: Vec<Term> = (0..=GRAPH_LIMIT).map(|n| uri(&format!("u:{n}"))).collect();
+    let many = Card::new(&graphs, &[], success());
+    let mut saved = many.load(&mut tables).unwrap();
+    for graph in 0..GRAPH_LIMIT as u64 {
+        assert_eq!(many.page(&mut tables, &mut saved, graph, &[]), Ok(PageReport { skipped: 0 }));
+    }
+    assert_eq!(many.page(&mut tables, &mut saved, GRAPH_LIMIT as u64, &[]), Err(Refusal::Room));
+}
+
+#[test]
+fn every_length_counts() {
+    let card = yard();
+    let widths = [TERM_TABLE_WIDTH, QUAD_TABLE_WIDTH, SAVED_WIDTH, RUN_REPORT_WIDTH, PAGE_REPORT_WIDTH];
+    let buffers = || widths.map(|width| vec![0; width]);
+    let load = |[terms, quads, saved, ..]: &mut [Vec<u8>; 5]| raw::load(&card, TablesMut { terms, quads }, saved);
+    let mut good = buffers();
+    assert_eq!(load(&mut good), 0);
+    for place in 0..5 {
+        for length in [0, widths[place] - 1, widths[place] + 1] {
+            let mut lent = good.clone();
+            lent[place].resize(length, 0);
+            let before = lent.clone();
+            if place < 3 {
+                assert_eq!(load(&mut lent), 1);
+            }
+            let [terms, quads, saved, run_report, page_report] = &mut lent;
+            if place < 4 {
+                assert_eq!(raw::run(&card, TablesRef { terms, quads }, saved, 1, 0, run_report), 1);
+            }
+            if place != 3 {
+                assert_eq!(raw::page(&card, TablesMut { terms, quads }, saved, 0, &[], page_report), 1);
+            }
+            assert_eq!(lent, before);
+        }
+    }
+}
+
+#[test]
+fn from_load_to_end() {
+    let card = yard();
+    let mut tables = Tables::new();
+    let mut saved = card.load(&mut tables).unwrap();
+    let types: Vec<String> = saved.types().map(|(v, t)| format!("{v} {t}")).collect();
+    assert_eq!(types, ["0 xsd:anyURI", "1 xsd:decimal", "2 xsd:decimal"]);
+    assert_eq!(saved.stack().collect::<Vec<_>>(), [StackItem { offset: 0, last: None }]);
+    assert_eq!(tables.terms().collect::<Vec<_>>(), [uri("u:yard"), uri("p:speed")]);
+    let report = card.run(&tables, &mut saved, 9, 0).unwrap();
+    assert_eq!(report, RunReport { steps: 0, state: State::Wanted(0) });
+
+    let name = triple(&uri("u:loco"), &uri("p:name"), &Term::string("Mallard").unwrap()).unwrap();
+    let page = [speed("u:loco", 126), name].concat();
+    assert_eq!(
+        records(&page).map(<[u8]>::len).collect::<Vec<_>>(),
+        [0x83, 0x82].map(|kind| record_width(kind).unwrap())
+    );
+    assert_eq!(card.page(&mut tables, &mut saved, 0u16, &page), Ok(PageReport { skipped: 1 }));
+    assert_eq!(saved.fetched().collect::<Vec<_>>(), [0]);
+    let quads: Vec<Quad> = tables.quads(&saved).collect();
+    assert_eq!(quads, [Quad { graph: 0, subject: 2, property: 1, object: 3 }]);
+    assert_eq!((tables.number_of(&uri("u:loco")), tables.number_of(&uri("u:nobody"))), (Some(2), None));
+
+    // From named and sequence, then the each block's answer: it stays below its script, with the tuple it used.
+    let report = card.run(&tables, &mut saved, 3, 0).unwrap();
+    assert_eq!(report, RunReport { steps: 3, state: State::Spent });
+    let stack: Vec<StackItem> = saved.stack().collect();
+    assert_eq!(stack.len(), 3);
+    assert_eq!(stack[1].last, Some([2, 3, 0, 0]));
+    assert_eq!((saved.binding(0), saved.binding(1), saved.binding(2)), (Some(2), Some(3), None));
+    assert_eq!(tables.term(3).as_ref().map(Term::value), Some(Value::Integer(126)));
+    let report = card.run(&tables, &mut saved, 9, 0).unwrap();
+    assert_eq!(report, RunReport { steps: 2, state: State::Waiting });
+
+    // Stored and handed in again, the run goes on.
+    let mut saved = SavedRun::from_bytes(*saved.as_bytes());
+    let stored = |bytes: &[u8]| bytes.to_vec().into_boxed_slice();
+    let (terms, quads) = (stored(tables.term_bytes()), stored(tables.quad_bytes()));
+    let mut tables = Tables::from_bytes(terms.try_into().unwrap(), quads.try_into().unwrap());
+    assert_eq!(card.page(&mut tables, &mut saved, 0u16, &speed("u:yard", 5)), Ok(PageReport { skipped: 0 }));
+    let report = card.run(&tables, &mut saved, 9, 0).unwrap();
+    assert_eq!(report, RunReport { steps: 2, state: State::Ended });
+    assert_eq!((saved.stack().count(), saved.quads()), (0, 1));
+    assert_eq!(saved.variable_type(16), None);
+    assert_eq!(saved.binding(255), None);
+}
+
+#[test]
+fn terms() {
+    let good = [
+        (uri("u:1"), "u:1"),
+        (Term::tagged("en", "Mallard").unwrap(), "Mallard"),
+        (integer(-3), "-3"),
+        (Term::decimal(126_400_000).unwrap(), "126.4"),
+        (Term::decimal(-500_000).unwrap(), "-0.5"),
+        (Term::decimal(65_000_000).unwrap(), "65"),
+        (Term::date_time(0).unwrap(), "second 0"),
+    ];
+    for (term, text) in good {
+        assert_eq!(term.to_string(), text);
+        assert_eq!(Term::from_slot(term.slot()), Some(term));
+        let mut dirty = *term.slot();
+        dirty[SLOT_WIDTH - 1] = 1;
+        assert_eq!(Term::from_slot(&dirty), None);
+    }
+    let long = "a".repeat(TEXT_WIDTH + 1);
+    let bad = [
+        Term::uri(""),
+        Term::uri("a b"),
+        Term::uri(&long),
+        Term::string(&long),
+        Term::string("ä"),
+        Term::tagged("EN", "a"),
+        Term::tagged("abcdefghi", "a"),
+        Term::integer(1_000_000_000_001),
+        Term::decimal(-1_000_000_000_000_000_001),
+        Term::date_time(SECONDS_AFTER + 1),
+    ];
+    assert!(bad.iter().all(|term| term.as_ref().is_err_and(|error| !error.to_string().is_empty())));
+}

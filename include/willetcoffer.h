@@ -1,0 +1,232 @@
+/*
+ * willetcoffer.h: the C interface of Willetcoffer, the proved engine for page scripts.
+ *
+ * A card holds terms, a schema and a script. The host lends a term table, a quad table and a saved run, loads the card, runs
+ * it with a budget of steps, fetches the page of a graph that is wanted, hands it in, and runs on:
+ *
+ *     willetcoffer_load(..)      once for a card
+ *     willetcoffer_run(..)       until the report says wanted, waiting or ended
+ *     willetcoffer_page(..)      for a wanted graph, and whenever a page has changed
+ *
+ * For C99 and C++. Link with -lwilletcoffer (pkg-config --cflags --libs willetcoffer). A test compares the numbers and the
+ * declarations of this file with the definitions that the engine is proved to meet.
+ *
+ * WHAT HOLDS FOR EVERY CALL
+ *
+ * - It returns 0, or the number of its refusal (below). On a refusal every lent buffer keeps its bytes.
+ * - A buffer passes as a pointer and its length in bytes. No pointer may be null, not even one with length 0. A buffer that is
+ *   written (no const) may overlap no other buffer of the call.
+ * - It reads and writes within these lengths, ends, allocates nothing, keeps nothing between calls and calls nothing but memcpy
+ *   and memset; so calls on different buffers may run at the same time.
+ * - Every number in a buffer is little endian, signed ones in two's complement; a buffer needs no alignment.
+ * - Terms go by their number, from 0: those listed on the card in their order, then the schema's URIs that are not among them,
+ *   in schema order, then those that pages bring.
+ */
+#ifndef WILLETCOFFER_H
+#define WILLETCOFFER_H
+
+#include <stddef.h>
+#include <stdint.h>
+
+#ifdef __cplusplus
+extern "C" {
+#endif
+
+/* ---- lengths of lent buffers: another length meets refusal 1 ---------------------------------------------------------- */
+
+/* The term table: WILLETCOFFER_TERM_LIMIT slots of WILLETCOFFER_SLOT_WIDTH bytes. A slot holds a term's record and zeros; a free
+   one is all zeros. */
+#define WILLETCOFFER_TERM_TABLE_WIDTH 25088
+/* The quad table: WILLETCOFFER_QUAD_LIMIT quads, each four term numbers of 2 bytes: graph, subject, property, object. Those in
+   use stand first (the saved run counts them), zeros after. */
+#define WILLETCOFFER_QUAD_TABLE_WIDTH 4096
+/* The saved run; see THE SAVED RUN. */
+#define WILLETCOFFER_SAVED_WIDTH 486
+/* The report of a run call; see willetcoffer_run. */
+#define WILLETCOFFER_RUN_REPORT_WIDTH 8
+/* The report of a page call; see willetcoffer_page. */
+#define WILLETCOFFER_PAGE_REPORT_WIDTH 4
+
+/* ---- widths of fields, in bytes ------------------------------------------------------------------------------------------ */
+
+#define WILLETCOFFER_TEXT_WIDTH 40           /* a URI's text, a string's text, filled with zeros */
+#define WILLETCOFFER_TAG_WIDTH 8             /* a string's language tag, filled with zeros */
+#define WILLETCOFFER_NUMBER_WIDTH 8          /* an integer, a decimal (in millionths), a dateTime (seconds from 1970) */
+#define WILLETCOFFER_PATTERN_WIDTH 16        /* a pattern, filled with zeros */
+#define WILLETCOFFER_LANGUAGE_RANGE_WIDTH 8  /* a language range, filled with zeros */
+#define WILLETCOFFER_BLOCK_WIDTH 10          /* a block's head after its kind: mode, count, four pairs */
+#define WILLETCOFFER_SLOT_WIDTH 49           /* a slot of the term table: the longest term record, a string's */
+#define WILLETCOFFER_URI_WIDTH 41            /* a URI's record: kind and text */
+#define WILLETCOFFER_ENTRY_WIDTH 42          /* a schema record: kind, URI and datatype */
+#define WILLETCOFFER_SCHEMA_WIDTH 5376       /* a schema of all its entries */
+#define WILLETCOFFER_QUAD_WIDTH 8            /* a quad */
+
+/* ---- where parts of a record begin, counted from its kind ---------------------------------------------------------------- */
+
+#define WILLETCOFFER_PROPERTY_OFFSET 41           /* a page record's property, after its subject */
+#define WILLETCOFFER_OBJECT_OFFSET 81             /* a page record's object */
+#define WILLETCOFFER_COUNT_OFFSET 2               /* a block's count of variables, after its mode */
+#define WILLETCOFFER_PAIRS_OFFSET 3               /* a block's pairs */
+#define WILLETCOFFER_QUERY_OFFSET 11              /* a block's query */
+#define WILLETCOFFER_REGEX_TEXT_OFFSET 17         /* a regex's expression, after its pattern */
+#define WILLETCOFFER_LANG_MATCHES_TEXT_OFFSET 9   /* a langMatches' expression, after its range */
+
+/* ---- limits -------------------------------------------------------------------------------------------------------------- */
+
+#define WILLETCOFFER_TERM_LIMIT 512          /* terms in use */
+#define WILLETCOFFER_QUAD_LIMIT 512          /* stored quads */
+#define WILLETCOFFER_GRAPH_LIMIT 64          /* fetched graphs */
+#define WILLETCOFFER_ENTRY_LIMIT 128         /* schema entries */
+#define WILLETCOFFER_SCRIPT_LIMIT 2048       /* bytes of a script */
+#define WILLETCOFFER_DEPTH_LIMIT 24          /* depth of a script's records, the root at 1; items of the stack */
+#define WILLETCOFFER_VARIABLE_LIMIT 16       /* variables of a script, numbered from 0 */
+#define WILLETCOFFER_PAIR_LIMIT 4            /* variables of one block */
+#define WILLETCOFFER_BUDGET_LIMIT 60000      /* steps of one run call */
+#define WILLETCOFFER_PAGE_LIMIT 65536        /* bytes of a page */
+#define WILLETCOFFER_PRINTER_LIMIT 32512     /* bytes of a card's three parts together, as the type printer reads them */
+#define WILLETCOFFER_INTEGER_LIMIT 1000000000000LL        /* an integer's amount */
+#define WILLETCOFFER_DECIMAL_LIMIT 1000000000000000000LL  /* a decimal's amount, in millionths */
+#define WILLETCOFFER_SECONDS_BEFORE 62135596800LL         /* the first dateTime, 0001-01-01T00:00:00Z, before 1970 */
+#define WILLETCOFFER_SECONDS_AFTER 253402300799LL         /* the last dateTime, 9999-12-31T23:59:59Z, after 1970 */
+
+/* ---- THE SAVED RUN -------------------------------------------------------------------------------------------------------
+ *
+ *     at   bytes  what
+ *     0    2      height of the stack; 0 once the script has ended
+ *     2    2      quads in use
+ *     4    2      fetched graphs
+ *     6    16     the reported type of each variable by its code, 0 for a variable that no block binds
+ *     22   16     1 for a bound variable, else 0
+ *     38   32     the bound variables' term numbers, 2 bytes each
+ *     70   128    the fetched graphs' term numbers, 2 bytes each, in the order of their first page
+ *     198  288    places for WILLETCOFFER_DEPTH_LIMIT stack items from the bottom, WILLETCOFFER_ITEM_WIDTH bytes each: offset of
+ *                 the record in the script (2), 1 if it has a last tuple (1), zero (1), the last tuple: four term numbers (8)
+ *
+ * What means nothing is zero in every result and is not looked at in what is handed in. A host may store a saved run with its
+ * two tables and hand them in later; bytes that hold no sound run are refused with 10.
+ */
+#define WILLETCOFFER_TYPES_OFFSET 6
+#define WILLETCOFFER_BOUND_OFFSET 22
+#define WILLETCOFFER_BINDINGS_OFFSET 38
+#define WILLETCOFFER_FETCHED_OFFSET 70
+#define WILLETCOFFER_ITEMS_OFFSET 198
+#define WILLETCOFFER_ITEM_WIDTH 12
+
+/* ---- codes of types: written in a block's pairs (0: open), in a schema entry (1 to 5), reported in the saved run -------- */
+
+#define WILLETCOFFER_TYPE_ANY_URI 1
+#define WILLETCOFFER_TYPE_STRING 2
+#define WILLETCOFFER_TYPE_DECIMAL 3
+#define WILLETCOFFER_TYPE_DATE_TIME 4
+#define WILLETCOFFER_TYPE_INTEGER 5
+#define WILLETCOFFER_TYPE_RANGE_ANY_URI 9    /* a property whose objects are URIs; and so on */
+#define WILLETCOFFER_TYPE_RANGE_STRING 10
+#define WILLETCOFFER_TYPE_RANGE_DECIMAL 11
+#define WILLETCOFFER_TYPE_RANGE_DATE_TIME 12
+#define WILLETCOFFER_TYPE_RANGE_INTEGER 13
+
+/* ---- states of a run, byte 4 of its report -------------------------------------------------------------------------------- */
+
+#define WILLETCOFFER_STATE_ENDED 0           /* the script has ended */
+#define WILLETCOFFER_STATE_WANTED 1          /* the page of the reported graph is wanted */
+#define WILLETCOFFER_STATE_WAITING 2         /* a once block has no answer yet; a page may bring one */
+#define WILLETCOFFER_STATE_SPENT 3           /* as many steps as the budget, and the script can go on */
+
+/* ---- refusals ------------------------------------------------------------------------------------------------------------- */
+
+#define WILLETCOFFER_REFUSED_LENGTH 1          /* a lent table, saved run or report of another length */
+#define WILLETCOFFER_REFUSED_TERM_RECORD 2     /* a bad term record */
+#define WILLETCOFFER_REFUSED_TERM_TWICE 3      /* a term listed twice */
+#define WILLETCOFFER_REFUSED_SCHEMA_RECORD 4   /* a bad schema record */
+#define WILLETCOFFER_REFUSED_PROPERTY_TWICE 5  /* a property twice in the schema */
+#define WILLETCOFFER_REFUSED_SCRIPT 6          /* script malformed: kind, place, written type, bad pattern or range, term
+                                                  number, bytes left over, depth; or a limit passed on terms, entries or
+                                                  script bytes */
+#define WILLETCOFFER_REFUSED_SCOPE 7           /* a variable unbound at its use, or bound by two pairs */
+#define WILLETCOFFER_REFUSED_NO_TYPING 8       /* no typing */
+#define WILLETCOFFER_REFUSED_NO_GREATEST 9     /* typings, none above the rest */
+#define WILLETCOFFER_REFUSED_UNSOUND 10        /* saved run or tables unsound, or not of this card */
+#define WILLETCOFFER_REFUSED_RUN_CALL 11       /* budget over WILLETCOFFER_BUDGET_LIMIT, or now no dateTime */
+#define WILLETCOFFER_REFUSED_PAGE_GRAPH 12     /* the page's graph is no URI of the term table */
+#define WILLETCOFFER_REFUSED_PAGE 13           /* page over WILLETCOFFER_PAGE_LIMIT bytes, or a bad record in it */
+#define WILLETCOFFER_REFUSED_ROOM 14           /* terms, quads or graphs would pass their limits */
+
+/* ---- the calls ------------------------------------------------------------------------------------------------------------ */
+
+/*
+ * Loads a card.
+ *
+ *   terms       the listed terms' records (kinds 11 to 15), any length
+ *   schema      the schema's records (kind 21), any length
+ *   script      the script's records (kinds 31 to 74) in prefix order, any length
+ *   term_table  written: the numbered terms, free slots zero
+ *   quad_table  written: zeros
+ *   saved       written: the script's root alone on the stack, nothing bound or fetched, the reported types
+ *
+ * Refusals: 1 to 9, in this order. What the buffers written held before means nothing.
+ */
+uint32_t willetcoffer_load(
+    const uint8_t *terms, size_t terms_length,
+    const uint8_t *schema, size_t schema_length,
+    const uint8_t *script, size_t script_length,
+    uint8_t *term_table, size_t term_table_length,
+    uint8_t *quad_table, size_t quad_table_length,
+    uint8_t *saved, size_t saved_length);
+
+/*
+ * Takes steps, as many as the budget has, or until a page is wanted, a block waits or the script has ended.
+ *
+ *   terms, schema, script       the card that was loaded
+ *   term_table, quad_table      read: as the last call left them
+ *   saved       read and written: as the last call left it
+ *   budget      steps to take, at most WILLETCOFFER_BUDGET_LIMIT; 0 asks for the state alone
+ *   now         the value of now, in seconds from 1970-01-01T00:00:00Z
+ *   report      written:
+ *                 at 0, 4 bytes  steps taken
+ *                 at 4, 1 byte   state, WILLETCOFFER_STATE_*
+ *                 at 5, 1 byte   zero
+ *                 at 6, 2 bytes  the wanted graph's term number, else zero
+ *
+ * Refusals: 1, 10, 11, in this order.
+ */
+uint32_t willetcoffer_run(
+    const uint8_t *terms, size_t terms_length,
+    const uint8_t *schema, size_t schema_length,
+    const uint8_t *script, size_t script_length,
+    const uint8_t *term_table, size_t term_table_length,
+    const uint8_t *quad_table, size_t quad_table_length,
+    uint8_t *saved, size_t saved_length,
+    uint64_t budget,
+    int64_t now,
+    uint8_t *report, size_t report_length);
+
+/*
+ * Takes in a graph's page: its triples become that graph's quads, each once, and replace those it had. A record is skipped where
+ * its property has no schema entry or its object has another datatype than the entry asks for.
+ *
+ *   terms, schema, script       the card that was loaded
+ *   term_table, quad_table      read and written: as the last call left them
+ *   saved       read and written: as the last call left it
+ *   graph       the graph's term number
+ *   page        the page's records (kinds 81 to 85), at most WILLETCOFFER_PAGE_LIMIT bytes
+ *   report      written:
+ *                 at 0, 4 bytes  records skipped
+ *
+ * Refusals: 1, 10, 12, 13, 14, in this order.
+ */
+uint32_t willetcoffer_page(
+    const uint8_t *terms, size_t terms_length,
+    const uint8_t *schema, size_t schema_length,
+    const uint8_t *script, size_t script_length,
+    uint8_t *term_table, size_t term_table_length,
+    uint8_t *quad_table, size_t quad_table_length,
+    uint8_t *saved, size_t saved_length,
+    uint64_t graph,
+    const uint8_t *page, size_t page_length,
+    uint8_t *report, size_t report_length);
+
+#ifdef __cplusplus
+}
+#endif
+
+#endif
