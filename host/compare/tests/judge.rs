@@ -1,31 +1,16 @@
 //! The judge: promises that two engines may break alike, so that comparing them would not show it.
 
-use compare::call::engine::fast;
-use compare::call::{Call, Engine, Station};
+use compare::call::Call;
 use compare::case::Case;
 use compare::count::Coverage;
 use compare::judge::Breach;
+use wrong::{Turn, Wrong};
 
-/// What a wrong call makes of the number and the report.
-type Wrong = fn(&mut Station, &Call, &mut u32, &mut [u8]);
-
-struct Alike(Wrong);
-
-impl Engine for Alike {
-    fn name(&self) -> &'static str {
-        "alike"
-    }
-
-    fn call(&self, station: &mut Station, call: &Call, report: &mut [u8]) -> u32 {
-        let mut code = fast().call(station, call, report);
-        (self.0)(station, call, &mut code, report);
-        code
-    }
-}
+mod wrong;
 
 /// The first breach of two engines that are wrong in the same way.
-fn breach(wrong: Wrong) -> Option<Breach> {
-    let engine = Alike(wrong);
+fn breach(turn: Turn) -> Option<Breach> {
+    let engine = Wrong(turn);
     let mut coverage = Coverage::default();
     let mut run = |index| Case::new(17, index, [&engine, &engine], &mut coverage).run().err();
     (0..2000).find_map(|index| run(index).map(|difference| difference.breach))
@@ -38,7 +23,7 @@ fn an_engine_that_is_right() {
 
 #[test]
 fn a_refused_call_that_changes_a_table() {
-    let clears: Wrong = |station, _, code, _| {
+    let clears: Turn = |station, _, code, _| {
         if *code != 0 {
             station.quad_table.fill(0);
         }
@@ -49,7 +34,7 @@ fn a_refused_call_that_changes_a_table() {
 #[test]
 fn a_fault() {
     // A run of no steps, which changes nothing.
-    let faulty: Wrong = |_, call, code, _| {
+    let faulty: Turn = |_, call, code, _| {
         if let (Call::Run { budget: 0, .. }, 0) = (call, *code) {
             *code = second::calls::FAULT + 3;
         }
@@ -59,7 +44,7 @@ fn a_fault() {
 
 #[test]
 fn refusal_10_of_what_nobody_tampered_with() {
-    let distrustful: Wrong = |_, call, code, _| {
+    let distrustful: Turn = |_, call, code, _| {
         if let (Call::Run { budget: 0, .. }, 0) = (call, *code) {
             *code = 10;
         }
@@ -69,17 +54,17 @@ fn refusal_10_of_what_nobody_tampered_with() {
 
 #[test]
 fn steps_that_do_not_go_with_the_budget() {
-    let spends: Wrong = |_, call, code, report| {
+    let spends: Turn = |_, call, code, report| {
         if let (Call::Run { .. }, 0) = (call, *code) {
             report.copy_from_slice(&[0, 0, 0, 0, 3, 0, 0, 0]);
         }
     };
-    let invents: Wrong = |_, call, code, report| {
+    let invents: Turn = |_, call, code, report| {
         if let (Call::Run { .. }, 0) = (call, *code) {
             report[3] = 1;
         }
     };
-    let babbles: Wrong = |_, call, code, report| {
+    let babbles: Turn = |_, call, code, report| {
         if let (Call::Run { .. }, 0) = (call, *code) {
             report[4] = 9;
         }
@@ -91,7 +76,7 @@ fn steps_that_do_not_go_with_the_budget() {
 
 #[test]
 fn too_many_steps_without_an_each_block() {
-    let tireless: Wrong = |_, call, code, report| {
+    let tireless: Turn = |_, call, code, report| {
         if let (Call::Run { budget, .. }, 0) = (call, *code) {
             report[..4].copy_from_slice(&(*budget as u32).to_le_bytes());
             report[4..].copy_from_slice(&[3, 0, 0, 0]);

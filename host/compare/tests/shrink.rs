@@ -1,7 +1,7 @@
 //! The shrinker, on differences made for it: each is cut down to little more than what shows it, and still shows it.
 
 use compare::call::engine::fast;
-use compare::call::{Call, Engine, Station};
+use compare::call::{Call, Engine};
 use compare::case::Case;
 use compare::count::Coverage;
 use compare::judge::{Breach, Difference};
@@ -12,26 +12,14 @@ use compare::shrink::{shrink, Patience};
 use std::time::Duration;
 use willetcoffer::limits::SLOT_WIDTH;
 use willetcoffer::page::records;
+use wrong::Wrong;
 
-/// Calls by the second engine, wrong on purpose where `lie` says so; it sees the station and gets the number and the report.
-struct Liar(fn(&Station, &Call, &mut u32, &mut [u8]));
-
-impl Engine for Liar {
-    fn name(&self) -> &'static str {
-        "liar"
-    }
-
-    fn call(&self, station: &mut Station, call: &Call, report: &mut [u8]) -> u32 {
-        let mut code = fast().call(station, call, report);
-        (self.0)(station, call, &mut code, report);
-        code
-    }
-}
+mod wrong;
 
 /// The first case that shows a difference, as it is and cut down, with the breach.
-fn cut_down(liar: &Liar) -> (Replay, Replay, Breach) {
+fn cut_down(wrong: &Wrong) -> (Replay, Replay, Breach) {
     let first = fast();
-    let engines: [&dyn Engine; 2] = [&first, liar];
+    let engines: [&dyn Engine; 2] = [&first, wrong];
     for index in 0..2000 {
         let mut coverage = Coverage::default();
         let mut case = Case::new(5, index, engines, &mut coverage).keeping();
@@ -61,12 +49,12 @@ fn kinds(script: &[u8], kind: u8) -> usize {
 /// A load of a script with a comparison by equality is refused, though it is accepted: a block with one such filter is left.
 #[test]
 fn a_script_is_cut_down() {
-    let liar = Liar(|station, call, code, _| {
+    let wrong = Wrong(|station, call, code, _| {
         if *call == Call::Load && kinds(&station.card.script, 0x57) > 0 && *code == 0 {
             *code = 8;
         }
     });
-    let (before, small, breach) = cut_down(&liar);
+    let (before, small, breach) = cut_down(&wrong);
     assert_eq!(breach, Breach::Answers);
     let card = &small.station.card;
     assert!(before.station.card.script.len() > card.script.len());
@@ -80,14 +68,14 @@ fn a_script_is_cut_down() {
 /// A page with a record whose object is a decimal counts one skipped record more: a page of that record is left.
 #[test]
 fn a_page_is_cut_down() {
-    let liar = Liar(|_, call, code, report| {
+    let wrong = Wrong(|_, call, code, report| {
         if let (Call::Page { page, .. }, 0) = (call, *code) {
             if records(page).any(|record| record[0] == 0x84) {
                 report[0] += 1;
             }
         }
     });
-    let (_, small, breach) = cut_down(&liar);
+    let (_, small, breach) = cut_down(&wrong);
     assert_eq!(breach, Breach::Answers);
     let [load, page] = &small.moves[..] else { panic!("a load and a page are left") };
     assert_eq!(load.call, Call::Load);
@@ -101,12 +89,12 @@ fn a_page_is_cut_down() {
 /// A run of three steps or more is said to have taken one more: a budget of three is left, and three records to step over.
 #[test]
 fn a_run_is_cut_down() {
-    let liar = Liar(|_, call, code, report| {
+    let wrong = Wrong(|_, call, code, report| {
         if let (Call::Run { .. }, 0) = (call, *code) {
             report[0] += u8::from(report[0] >= 3);
         }
     });
-    let (_, small, breach) = cut_down(&liar);
+    let (_, small, breach) = cut_down(&wrong);
     assert_eq!(breach, Breach::Answers);
     let runs = small.moves.iter().filter(|m| matches!(m.call, Call::Run { .. })).count();
     assert_eq!(runs, 1);
@@ -118,7 +106,7 @@ fn a_run_is_cut_down() {
 /// Refusal 10 is forgotten where a quad was tampered with: the tampering stays, with no byte too many.
 #[test]
 fn tampering_is_cut_down() {
-    let liar = Liar(|station, call, code, report| {
+    let wrong = Wrong(|station, call, code, report| {
         if let (Call::Run { .. }, 10) = (call, *code) {
             // A quad that names a term past the table.
             if station.quad_table.chunks(2).any(|number| u16::from_le_bytes([number[0], number[1]]) >= 512) {
@@ -127,7 +115,7 @@ fn tampering_is_cut_down() {
             }
         }
     });
-    let (_, small, _) = cut_down(&liar);
+    let (_, small, _) = cut_down(&wrong);
     let tampered: Vec<_> = small.moves.iter().filter_map(|m| m.tampering.as_ref()).collect();
     let [tampering] = &tampered[..] else { panic!("one tampering is left") };
     let [change] = &tampering.changes[..] else { panic!("in one place") };
@@ -138,11 +126,11 @@ fn tampering_is_cut_down() {
 /// An engine that panics is cut down as well.
 #[test]
 fn a_panic_is_cut_down() {
-    let liar = Liar(|station, call, _, _| {
+    let wrong = Wrong(|station, call, _, _| {
         assert!(*call != Call::Load || kinds(&station.card.script, 0x63) == 0, "a union");
     });
     let first = fast();
-    let engines: [&dyn Engine; 2] = [&first, &liar];
+    let engines: [&dyn Engine; 2] = [&first, &wrong];
     let (index, kept) = (0..2000)
         .find_map(|index| {
             let mut coverage = Coverage::default();
@@ -161,13 +149,13 @@ fn a_panic_is_cut_down() {
 /// The comparison prints the smaller case: what it shows, its card and its calls.
 #[test]
 fn the_smaller_case_is_told() {
-    let liar = Liar(|station, call, code, _| {
+    let wrong = Wrong(|station, call, code, _| {
         if *call == Call::Load && kinds(&station.card.script, 0x72) > 0 && *code == 0 {
             *code = 7;
         }
     });
     let first = fast();
-    let mut compare = Compare { engines: [&first, &liar], printer: None, coverage: Coverage::default() };
+    let mut compare = Compare { engines: [&first, &wrong], printer: None, coverage: Coverage::default() };
     let plan = Plan { seed: 5, from: 0, cases: 200, printed: false, differences: 1, trace: false };
     assert_eq!(compare.run(&plan).differences, 1);
     let index = (0..200)

@@ -1,0 +1,22 @@
+//! An engine that is wrong on purpose.
+
+use compare::call::engine::fast;
+use compare::call::{Call, Engine, Station};
+
+/// What is made of a call that the second engine has answered: of all that was lent, its number and its report.
+pub type Turn = fn(&mut Station, &Call, &mut u32, &mut [u8]);
+
+/// The second engine, with each call turned.
+pub struct Wrong(pub Turn);
+
+impl Engine for Wrong {
+    fn name(&self) -> &'static str {
+        "wrong"
+    }
+
+    fn call(&self, station: &mut Station, call: &Call, report: &mut [u8]) -> u32 {
+        let mut code = fast().call(station, call, report);
+        (self.0)(station, call, &mut code, report);
+        code
+    }
+}
