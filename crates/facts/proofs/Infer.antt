@@ -13,7 +13,7 @@ use Rattle.definitions.specs.Types.{Datatype, anyURI, decimal, dateTime, intege
 use Rattle.definitions.specs.Terms.{Sort}
 use Rattle.definitions.specs.Tree.{Name, var, const, Script}
 use Rattle.definitions.specs.Scope.{variables}
-use Rattle.definitions.specs.Typing.{Written, unbound, undecided, fixed, typeAt, Verdict, noTyping, noGreatest, greatest, verdict, writtenTypes}
+use Rattle.definitions.specs.Typing.{Written, unbound, undecided, fixed, typeAt, Verdict, noTyping, noGreatest, greatest, verdict}
 use Rattle.laws.proofs.Variables.{at-variable}
 use Rattle.laws.proofs.Tests.{andLeft, andRight, andMake, notBoth, trueIs, falseIs, by-test}
 use Rattle.laws.proofs.Order.{leq-refl}
@@ -283,8 +283,3 @@ module _ (constants : ℕ → Sort) (ws : List Written) (per-variable : length w
   pub infer-is-verdict : infer constants ws s ≡ verdict constants ws s
   unfolding infer
   infer-is-verdict = sym (verdict-is constants ws s (readOff t ws) .1 read-off-says)
-
--- with the types that are written in the script
-pub infer-of-script : (constants : ℕ → Sort) (s : Script) → infer constants (writtenTypes s) s ≡ verdict constants (writtenTypes s) s
-unfolding writtenTypes
-infer-of-script constants s = infer-is-verdict constants (writtenTypes s) refl s

@@ -242,9 +242,6 @@ module _ (constants : ℕ → Sort) (ws : List Written) (per-variable : length w
       )
   noted-adds t s (property p o) = related-adds t s (at p) (at o) (place-open p) (place-open o)
 
-  pub noted-keeps : (t : Tables) → Sound ws t → (c : Demand) → Sound ws (noted constants ws c t)
-  noted-keeps t s c = noted-adds t s c .sound
-
   all-noted-adds : (cs : List Demand) (t : Tables) → Sound ws t → Adds ws t (allNoted constants ws cs t) (λ E. T (every (placed E) cs))
   unfolding allNoted
   all-noted-adds [] t s = record { sound = s; says = λ E. (λ h. (h, tt), λ h. h .0) }

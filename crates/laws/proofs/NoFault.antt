@@ -27,9 +27,6 @@ module _ {A : Type 0} {P : A → Type 0} where
   pub fine-ok : {m : Outcome A} → Fine P m → (a : A) × (m ≡ ok a) × P a
   fine-ok (fine {a} p) = (a, refl, p)
 
-  pub ok-fine : {m : Outcome A} (a : A) → m ≡ ok a → P a → Fine P m
-  ok-fine a e p = rw e (fine p)
-
 -- ── with or without a fault ─────────────────────────────────────────────────────────────────
 
 module _ {A B : Type 0} {P : A → Type 0} {Q : B → Type 0} where

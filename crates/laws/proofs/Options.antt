@@ -27,10 +27,6 @@ module _ {A : Type 0} where
   unfolding provided
   provided-yes o e = rw e
 
-  pub provided-no : {b : Bool} (o : Option A) → b ≡ false → provided b o ≡ none
-  unfolding provided
-  provided-no o e = rw e
-
   pub provided-holds : (b : Bool) {o : Option A} {a : A} → T b → o ≡ some a → provided b o ≡ some a
   unfolding provided
   provided-holds true t e = e

@@ -2,7 +2,7 @@
 use mathlib.Core.Path.{_≡_, refl, ap, sym, _∙_}
 use mathlib.Core.Bool.{Bool, _&&_}
 use mathlib.Core.Option.{some, Option·some-injective}
-use lib.Dec.{T, eqb→eq, eqb-refl}
+use lib.Dec.{T, eqb→eq}
 use Rattle.definitions.specs.Types.{Datatype, anyURI, string, decimal, dateTime, integer, Ty, plain, range, leq, typeCode, typeOfCode, sameDatatype, sameType}
 use Rattle.laws.proofs.Tests.{andLeft, andRight, implies, apply}
 
@@ -67,9 +67,6 @@ type-of-code (range integer) = refl
 
 pub same-type : (τ σ : Ty) → T (sameType τ σ) → τ ≡ σ
 same-type τ σ h = Option·some-injective τ σ (sym (type-of-code τ) ∙ (ap typeOfCode (eqb→eq (typeCode τ) (typeCode σ) h) ∙ type-of-code σ))
-
-pub same-type-refl : (τ : Ty) → T (sameType τ τ)
-same-type-refl τ = eqb-refl (typeCode τ)
 
 pub same-datatype : (d e : Datatype) → T (sameDatatype d e) → d ≡ e
 same-datatype d e h = let p : plain d ≡ plain e = same-type (plain d) (plain e) h in cc

@@ -365,9 +365,3 @@ parsed-in terms s root e =
 
 pub parsed-bounded : (terms : ℕ) (s : List ℕ) (root : Script) → parsed terms s ≡ some root → ScriptBounded terms root
 parsed-bounded terms s root e = parsed-in terms s root e .bounded
-
-pub parsed-placed : (terms : ℕ) (s : List ℕ) (root : Script) → parsed terms s ≡ some root → Placed 0 (length s) root
-parsed-placed terms s root e = parsed-in terms s root e .placed
-
-pub parsed-shallow : (terms : ℕ) (s : List ℕ) (root : Script) → parsed terms s ≡ some root → height root ≤ depthLimit
-parsed-shallow terms s root e = parsed-in terms s root e .shallow

@@ -262,15 +262,6 @@ module _ (s : List ℕ) (terms : ℕ) where
     pub name-others : Others (Unit {0}) (byte s at) nameRows → readName s terms left at ≡ none
     name-others h = rw (name-step left at pos, row-others (Unit {0}) nameRows NameShape.unknown (byte s at) h)
 
-    pub expr-others : Others (Unit {0}) (byte s at) exprRows → readExpr s terms left at ≡ none
-    expr-others h = rw (expr-step left at pos, row-others (Unit {0}) exprRows ExprShape.unknown (byte s at) h)
-
-    pub cond-others : Others (Unit {0}) (byte s at) condRows → readCond s terms left at ≡ none
-    cond-others h = rw (cond-step left at pos, row-others (Unit {0}) condRows CondShape.unknown (byte s at) h)
-
-    pub query-others : Others (Unit {0}) (byte s at) queryRows → readQuery s terms left at ≡ none
-    query-others h = rw (query-step left at pos, row-others (Unit {0}) queryRows QueryShape.unknown (byte s at) h)
-
     pub script-others : Others (Unit {0}) (byte s at) scriptRows → readScript s terms left at ≡ none
     script-others h = rw (script-step left at pos, row-others (Unit {0}) scriptRows ScriptShape.unknown (byte s at) h)
 

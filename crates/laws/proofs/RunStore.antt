@@ -3,7 +3,7 @@ use Prim.Native.Nat.{ℕ, zero, suc}
 use mathlib.Core.Bool.{true, false}
 use mathlib.Core.List.{List, [], _∷_}
 use mathlib.Core.Option.{Option, none, some}
-use mathlib.Core.Path.{_≡_, refl, sym, subst, _∙_}
+use mathlib.Core.Path.{_≡_, refl, subst, _∙_}
 use native.Mathlib.Omega.{arith}
 use lib.IntN.{ℤ}
 use Rattle.definitions.specs.Lists.{isIn}
@@ -19,7 +19,6 @@ use Rattle.definitions.specs.declared.RunState.the-variants.{Ended, Wanted}
 use Rattle.laws.proofs.Tests.{by-test}
 use Rattle.laws.specs.Lists.{All}
 use Rattle.laws.proofs.All.{all-weaken}
-use Rattle.laws.specs.Valid.{Valid, ValidIn}
 
 -- ── what an outcome gives, if it is no fault ────────────────────────────────────────────────
 
@@ -116,11 +115,6 @@ module _ (S : Schema) (Γ : Typing) (clock : ℤ) where
   run-keeps (suc budget) s =
       bind-gives (Keeps s) (Same (s .store)) (next S Γ clock s) (goOn (run S Γ clock budget)) (next-keeps s)
       (go-keeps (run S Γ clock budget) (λ x. run-keeps budget x) s)
-
-  -- valid terms stay valid
-  pub run-keeps-valid : (budget : ℕ) (s : State) → ValidIn s → Gives (λ r. All ValidIn (r .passed)) (run S Γ clock budget s)
-  run-keeps-valid budget s v r e =
-      all-weaken (λ x. x .store ≡ s .store) ValidIn (λ x k. subst (λ (σ : Store). All Valid (σ .terms)) (sym k) v) (r .passed) (run-keeps budget s r e)
 
 -- what holds before a run and of every state passed holds after it
 pub last-all : (P : State → Type 0) (s : State) (passed : List State) → P s → All P passed → P (lastOf s passed)

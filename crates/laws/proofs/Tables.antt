@@ -129,9 +129,6 @@ module _ (table : List ℕ) (h : AreBytes table) where
     pub terms-in-valid : All Valid ts
     terms-in-valid = terms-at .valid
 
-    pub terms-in-few : length ts ≤ termLimit
-    terms-in-few = terms-at .few
-
     pub terms-in-table : table ≡ termTable ts
     unfolding termTable filled
     terms-in-table =
@@ -271,9 +268,6 @@ module _ (table : List ℕ) (h : AreBytes table) where
 
     quads-at : QuadsAt count table 0 qs
     quads-at = subst (QuadsAt count table 0) (tests .1) (quads-from-inv count 0 (omega (arith, quads-in-few)))
-
-    pub quads-in-small : All Small qs
-    quads-in-small = quads-at .small
 
     pub quads-in-count : length qs ≡ count
     quads-in-count = quads-at .count-is

@@ -6,7 +6,7 @@ use lib.ListN.{length}
 use Rattle.definitions.specs.Limits.{textWidth, tagWidth}
 use Rattle.definitions.specs.Lists.{every}
 use Rattle.definitions.specs.Terms.{Text, Term, Triple, uriByte, textByte, tagByte, isInteger, isDecimal, isDateTime}
-use Rattle.definitions.specs.Machine.{State, store}
+use Rattle.definitions.specs.Machine.{State}
 use Rattle.laws.specs.Lists.{All}
 
 -- a text whose bytes pass a test and that fits its field

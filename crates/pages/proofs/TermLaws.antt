@@ -1,21 +1,16 @@
 -- Laws of the term table: a term's number, and a term that joins.
-use Prim.Native.Nat.{ℕ, zero, suc, _+_, _-_, _*_, _≤_, _<_}
+use Prim.Native.Nat.{ℕ, suc, _+_, _-_, _*_, _≤_, _<_}
 use native.Mathlib.Omega.{arith}
-use native.Mathlib.Numerals.{add-one}
 use mathlib.Core.Path.{_≡_, refl, ap, ap₂, sym, subst, _∙_}
 use mathlib.Core.Logic.{_⊎_, inl, inr, ⊎-elim}
 use mathlib.Core.List.{List, [], _∷_, _++_, append-assoc, append-nil}
-use mathlib.Core.Bool.{Bool, true, false, cond}
-use mathlib.Core.Option.{Option, none, some}
-use lib.Dec.{T, ltb}
+use mathlib.Core.Option.{some}
 use lib.ListN.{length, take, drop, replicate, length-append}
 use lib.Seq.{take-at, drop-at}
-use borrow.Author.Tests.{lt-ltb, le-ltb}
 use Rattle.definitions.specs.Limits.{slotWidth, termLimit, termTableWidth}
 use Rattle.definitions.specs.Bytes.{filled}
-use Rattle.definitions.specs.Types.{Datatype}
-use Rattle.definitions.specs.Terms.{Term, datatype, termKind, bodyOf, slotOf, sameTerm, bodyWidth}
-use Rattle.definitions.specs.Machine.{Numbered, numbered, afterTerm}
+use Rattle.definitions.specs.Terms.{Term, datatype, termKind, bodyOf, slotOf}
+use Rattle.definitions.specs.Machine.{Numbered, numbered}
 use Rattle.definitions.specs.Saved.{slots, termTable, slotTerm, termsIn}
 use Rattle.laws.specs.Lists.{All}
 use Rattle.laws.proofs.All.{all-append}

@@ -1,39 +1,38 @@
 -- One kind of expression, boolean or query: what the code makes of the parts' values is the machine's, wherever the machine meets no fault.
-use Prim.Native.Nat.{ℕ, _≤_, _<_}
+use Prim.Native.Nat.{ℕ}
 use native.Mathlib.Omega.{arith}
 use mir.Syntax.{w64}
 use mir.Val.{SFits, toZ, ofZ}
 use mir.Facts.{toZ-ofZ}
-use mathlib.Core.Path.{_≡_, refl, sym, _∙_, ap, ap₂, subst, subst⁻¹}
+use mathlib.Core.Path.{_≡_, refl, _∙_, ap, ap₂, subst, subst⁻¹}
 use mathlib.Core.List.{List, []}
 use mathlib.Core.Bool.{Bool, true, false, cond, _&&_, _||_}
 use mathlib.Core.Bool as Bools
-use mathlib.Core.Option.{Option, none, some}
+use mathlib.Core.Option.{none, some}
 use lib.Dec.{T, eqb, ltb}
 use lib.IntN.{ℤ}
-use lib.ListN.{length, getElem?}
 use Rattle.definitions.specs.Bytes.{Got, signed}
 use Rattle.definitions.specs.Limits.{variableLimit}
 use Rattle.definitions.specs.Terms.{Term, Schema, isDateTime}
 use Rattle.definitions.specs.Text.{Pattern, LanguageRange, accepts, matches}
 use Rattle.definitions.specs.Tree.{Name, Expr, Cond, Query}
 use Rattle.definitions.specs.Outcome.{Outcome, ok, _>>=_}
-use Rattle.definitions.specs.Values.{Value as Meant, valueOf, sum, difference, absolute, textOf, Pair, paired, equalPair, lessPair, stringIn, holdsOf}
-use Rattle.definitions.specs.Evaluate.{Quad, stored, named, numberOf, expression, condition, query}
+use Rattle.definitions.specs.Values.{Value as Meant, sum, difference, absolute, textOf, Pair, equalPair, lessPair}
+use Rattle.definitions.specs.Evaluate.{Quad, stored, numberOf, expression, condition, query}
 use Rattle.definitions.specs.Saved.{termsIn}
-use Rattle.laws.proofs.Options.{some-is, same-some}
+use Rattle.laws.proofs.Options.{some-is}
 use Rattle.laws.specs.Sound.{NameBounded}
 use Rattle.laws.specs.Walks.{Walked}
 use Rattle.values.specs.Meaning.{meaning, Good, Gives, Tells, compared, textTest}
 use Rattle.values.specs.Means.{Holds}
 use Rattle.values.specs.declared.Value.{Value}
-use Rattle.query.specs.Seek.{Place, fixed, Places, scan}
+use Rattle.query.specs.Seek.{fixed, scan}
 use Rattle.query.specs.Codes.{soughtCode, placeAt, placesAt, numberAt, bindingsOf, codeOf, Coded}
 use Rattle.query.specs.declared.Four.{Four}
 use borrow.Author.Tests.{ltb-true}
 use Rattle.query.specs.Eval.{Lent, ValueOf, TruthOf, HoldsOf, NumberGives}
 use Rattle.query.proofs.Outcomes.{ok-is, then-ok}
-use Rattle.query.proofs.Patterns.{named-ok, PatternOk, pattern-ok}
+use Rattle.query.proofs.Patterns.{named-ok, pattern-ok}
 use Rattle.query.proofs.CodeLaws.{at-fixed, code-number}
 use Rattle.query.proofs.FixedScan.{scan-exact}
 

@@ -2,17 +2,15 @@
 use Prim.Native.Nat.{ℕ}
 use mathlib.Core.Path.{_≡_, refl, sym, _∙_, ap}
 use mathlib.Core.List.{List}
-use mathlib.Core.Bool.{Bool, true, false}
+use mathlib.Core.Bool.{Bool}
 use mathlib.Core.Option.{Option, none, some}
-use lib.Dec.{T}
 use lib.ListN.{getElem?}
 use lib.IntN.{ℤ}
-use Rattle.definitions.specs.Types.{Datatype, plain}
+use Rattle.definitions.specs.Types.{plain}
 use Rattle.definitions.specs.Terms.{Term, Schema, hasType}
 use Rattle.definitions.specs.Tree.{Name, Query}
-use Rattle.definitions.specs.Outcome.{Outcome, ok, fault, _>>=_, _>>_, demand, graphNoURI, subjectNoURI, objectNotOfDatatype}
-use Rattle.definitions.specs.Evaluate.{Bindings, Quad, stored, Named, named, numberOf, termOfNumber, withTerm, isURI, propertyDatatype, query}
-use Rattle.query.specs.Seek.{passes}
+use Rattle.definitions.specs.Outcome.{ok, demand, graphNoURI, subjectNoURI, objectNotOfDatatype}
+use Rattle.definitions.specs.Evaluate.{Bindings, Quad, stored, Named, named, numberOf, termOfNumber, withTerm, isURI, query}
 use Rattle.query.proofs.Outcomes.{ok-is, no-fault, then-ok, and-ok}
 
 -- what a name gives: its number, and that number's term

@@ -144,6 +144,3 @@ module _ (codes : Four) where
         given-object e = λ lo f at q.
             rw (at-sought (codes .object) e)
             (pick-other (codes .property) _ _ p ∙ (pick-other (codes .subject) _ _ s ∙ pick-other (codes .graph) _ _ g))
-
-  pub given-nowhere : GivenAt codes 4
-  given-nowhere = λ lo f at p. absurd (omega arith)

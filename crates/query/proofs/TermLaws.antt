@@ -4,13 +4,13 @@ use native.Mathlib.Omega.{arith}
 use mathlib.Core.Path.{_≡_, ap}
 use mathlib.Core.List.{List}
 use mathlib.Core.Option.{some}
-use lib.ListN.{length, getElem?}
-use Rattle.definitions.specs.Limits.{slotWidth, termLimit, termTableWidth}
+use lib.ListN.{length}
+use Rattle.definitions.specs.Limits.{slotWidth, termLimit}
 use Rattle.definitions.specs.Bytes.{part}
 use Rattle.definitions.specs.Terms.{Term}
 use Rattle.definitions.specs.Outcome.{Outcome}
 use Rattle.definitions.specs.Values.{Value as Meant, valueOf}
-use Rattle.definitions.specs.Saved.{slotTerm, termsIn}
+use Rattle.definitions.specs.Saved.{slotTerm}
 use Rattle.laws.proofs.Options.{same-some}
 use Rattle.laws.proofs.Bindings.{there-is, is-below}
 use Rattle.laws.proofs.SlotAt.{terms-few, slot-at}

@@ -2,10 +2,10 @@
 use Prim.Native.Nat.{ℕ, _+_, _-_, _≤_, _<_}
 use native.Mathlib.Omega.{arith}
 use mathlib.Core.Path.{_≡_, refl, sym, _∙_, ap, subst, subst⁻¹, fun-ext}
-use mathlib.Core.List.{List, [], _∷_}
+use mathlib.Core.List.{List, _∷_}
 use mathlib.Core.Bool.{Bool, true, false, cond, _||_}
-use mathlib.Core.Option.{none, some}
-use lib.Dec.{T, eqb, ltb, eqb→eq, eqb-refl}
+use mathlib.Core.Option.{none}
+use lib.Dec.{T, eqb, eqb→eq, eqb-refl}
 use lib.ListN.{length, getD, set}
 use lib.Seq.{getD-set-same, getD-set-other}
 use Rattle.definitions.specs.Bytes.{signed}
@@ -13,10 +13,9 @@ use Rattle.definitions.specs.Lists.{isIn}
 use Rattle.definitions.specs.Outcome.{ok}
 use Rattle.definitions.specs.Evaluate.{Bindings, Quad}
 use Rattle.query.specs.Seek.{clear, find, fastAnswer}
-use Rattle.query.specs.Codes.{soughtCode, freeCode, numberAt, bindingsOf}
-use Rattle.query.specs.Eval.{Lent}
+use Rattle.query.specs.Codes.{freeCode, numberAt, bindingsOf}
 use Rattle.search.specs.Ready.{Ready}
-use Rattle.search.specs.Finding.{numbersFrom, tupleOf, lastOf, Level, World, FindOf, AnswerOf}
+use Rattle.search.specs.Finding.{numbersFrom, tupleOf, lastOf, Level, FindOf, AnswerOf}
 use Rattle.search.specs.declared.Block.{Block}
 use Rattle.search.specs.declared.Found.{Found}
 use Rattle.search.proofs.FastAnswer.{distinct-once, fast-answer}

@@ -1,8 +1,8 @@
 -- A block on top of the stack of a sound state: its search is ready, and what the search finds is the machine's answer.
 use Prim.Native.Nat.{ℕ, _<_}
-use mathlib.Core.Path.{_≡_, sym, subst, subst⁻¹, _∙_}
+use mathlib.Core.Path.{_≡_, subst}
 use mathlib.Core.List.{List, [], _∷_, _++_}
-use mathlib.Core.Bool.{Bool, not, _&&_, _||_}
+use mathlib.Core.Bool.{Bool, not, _||_}
 use mathlib.Core.Option.{some}
 use lib.Dec.{T, eqb}
 use lib.ListN.{length, getD, getElem?}
@@ -10,7 +10,7 @@ use Rattle.definitions.specs.Bytes.{signed}
 use Rattle.definitions.specs.Lists.{every, distinct, isIn}
 use Rattle.definitions.specs.Types.{typeOfCode}
 use Rattle.definitions.specs.Terms.{Term, sortOf}
-use Rattle.definitions.specs.Tree.{Binder, Query, Script, success, fromNamed, block, sequence}
+use Rattle.definitions.specs.Tree.{Binder, Query, Script, block}
 use Rattle.definitions.specs.Scope.{variables, variablesOf, inQuery, isFree, bindersOf, inScope}
 use Rattle.definitions.specs.Reading.{readQuery}
 use Rattle.definitions.specs.Typing.{typeAt, queryTyped, scriptTyped}
@@ -25,7 +25,7 @@ use Rattle.laws.specs.Sorts.{least}
 use Rattle.laws.specs.Bindings.{BoundIn}
 use Rattle.laws.proofs.Places.{At, inherits, bounded-at, typed-at}
 use Rattle.laws.specs.Sound.{Accepted, Sound}
-use Rattle.laws.proofs.SoundMeans.{ItemFacts, StackFacts, Facts, facts}
+use Rattle.laws.proofs.SoundMeans.{ItemFacts, StackFacts, facts}
 use Rattle.query.specs.Codes.{bindingsOf}
 use Rattle.search.specs.Ready.{Ready}
 use Rattle.search.specs.Finding.{numbersFrom, tupleOf, lastOf, World, AnswerOf}

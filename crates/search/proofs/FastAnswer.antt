@@ -1,13 +1,13 @@
 -- The fast search gives the machine's answer, under what soundness gives.
-use Prim.Native.Nat.{ℕ, zero, suc, _-_, _≤_, _<_, min}
+use Prim.Native.Nat.{ℕ, zero, _-_, _≤_, _<_, min}
 use native.Mathlib.Omega.{arith}
 use mathlib.Core.Path.{_≡_, refl, sym, _∙_, ap, subst, subst⁻¹, fun-ext}
 use mathlib.Core.List.{List, [], _∷_}
 use mathlib.Core.Logic.{⊎-elim}
-use mathlib.Core.Bool.{Bool, true, false, cond, not, _&&_, _||_}
+use mathlib.Core.Bool.{Bool, true, false, cond, not, _||_}
 use mathlib.Core.Option.{Option, none, some}
 use lib.Dec.{T, eqb, ltb, eqb→eq, eqb-refl, lt→ltb, T-not}
-use lib.ListN.{length, getElem?}
+use lib.ListN.{length}
 use lib.IntN.{ℤ}
 use Rattle.definitions.specs.Lists.{isIn, every, distinct}
 use Rattle.definitions.specs.Terms.{Term, Schema}
@@ -20,7 +20,7 @@ use Rattle.laws.proofs.Tests.{andLeft, andRight, andMake, orLeft, orRight, orCa
 use Rattle.laws.proofs.Options.{some-not-none}
 use Rattle.laws.specs.Bindings.{Holds, Fits}
 use Rattle.laws.proofs.Bindings.{test-holds, holds-test, is-below}
-use Rattle.query.specs.Seek.{passes, seek, skip, set, clear, startAt, restOf, tries, ahead, next, hopeful, find, fastAnswer}
+use Rattle.query.specs.Seek.{passes, seek, set, clear, startAt, restOf, ahead, next, hopeful, find, fastAnswer}
 use Rattle.search.specs.Ready.{Ready}
 use Rattle.search.proofs.TupleOrder.{isAfter}
 use Rattle.search.proofs.FirstTuple.{First, first-map, Good as GoodAnswer, answer-first}

@@ -1,14 +1,13 @@
 -- A filter whose variables are all known gives the same with more known.
 use Prim.Native.Nat.{ℕ}
-use mathlib.Core.Path.{_≡_, refl, sym, subst⁻¹}
+use mathlib.Core.Path.{_≡_, subst⁻¹}
 use mathlib.Core.Logic.{⊎-elim}
 use mathlib.Core.Bool.{Bool, _&&_, _||_}
-use mathlib.Core.Option.{Option, none, some}
+use mathlib.Core.Option.{some}
 use lib.Dec.{T, eqb→eq}
 use Rattle.definitions.specs.Tree.{Name, var, const, Expr, Cond}
 use Rattle.definitions.specs.Scope.{inName, inExpr, inCond}
 use Rattle.definitions.specs.Evaluate.{Bindings}
-use Rattle.definitions.specs.Saved.{isBound}
 use Rattle.laws.proofs.Tests.{andLeft, andRight, orCases}
 use Rattle.laws.specs.Bindings.{Bound, BoundIn}
 use Rattle.laws.proofs.Bindings.{test-bound}

@@ -2,30 +2,25 @@
 -- A faster search is proved equal to the machine's by this.
 use Prim.Native.Nat.{ℕ}
 use mathlib.Core.Path.{_≡_, refl, subst, subst⁻¹}
-use mathlib.Core.List.{List, [], _∷_, List·Memᴰ·head, List·Memᴰ·tail, List·Memᴰ·not-nil, List·Memᴰ·cases-cons}
-use mathlib.Core.Bool.{Bool, true, false, not, _&&_}
+use mathlib.Core.List.{List, [], _∷_, List·Memᴰ·head, List·Memᴰ·tail, List·Memᴰ·not-nil}
+use mathlib.Core.Bool.{Bool, true, false}
 use mathlib.Core.Option.{Option, none, some}
-use lib.Dec.{T, not-T}
-use lib.ListN.{length}
+use lib.Dec.{T}
 use lib.IntN.{ℤ}
-use Rattle.definitions.specs.Lists.{isIn}
 use Rattle.definitions.specs.Terms.{Term, Schema}
 use Rattle.definitions.specs.Tree.{Query}
 use Rattle.definitions.specs.Scope.{inQuery}
-use Rattle.definitions.specs.Typing.{queryTyped}
 use Rattle.definitions.specs.Outcome.{Outcome, ok, fault, _>>=_}
 use Rattle.definitions.specs.Evaluate.{Bindings, Quad, query}
 use Rattle.definitions.specs.Search.{Typing, Tuple, tuples, earlier, after, first, bind, answer}
-use Rattle.definitions.specs.Calls.{constantsOf}
 use Rattle.laws.specs.Lists.{_∈_}
 use Rattle.laws.proofs.Lists.{here, there}
 use Rattle.laws.specs.Lists.{All}
 use Rattle.laws.proofs.All.{all-weaken}
 use Rattle.laws.specs.Outcomes.{Fine, fine, Any}
-use Rattle.laws.specs.Bindings.{Extends, WellBound, BoundIn, Fits}
+use Rattle.laws.specs.Bindings.{Fits}
 use Rattle.laws.proofs.Evaluate.{query-fine}
 use Rattle.laws.proofs.Answers.{after-fit, bind-typed, bound-reached}
-use Rattle.laws.specs.Sound.{QueryBounded}
 use Rattle.query.specs.Seek.{passes}
 use Rattle.search.specs.Ready.{Ready}
 use Rattle.search.proofs.TupleOrder.{Pairwise, isAfter, after-sorted, after-all, after-only}

@@ -2,7 +2,7 @@
 use Prim.Native.Nat.{ℕ, zero, suc, _+_, _-_, _≤_, _<_}
 use native.Mathlib.Omega.{arith}
 use native.Mathlib.Numerals.{add-one}
-use mathlib.Core.Path.{_≡_, refl, sym, _∙_, ap, ap₂, subst, subst⁻¹}
+use mathlib.Core.Path.{_≡_, refl, sym, _∙_, ap, ap₂, subst}
 use mathlib.Core.List.{List, [], _∷_}
 use mathlib.Core.Bool.{Bool, true, false, cond, not, _&&_}
 use mathlib.Core.Option.{Option, none, some}
@@ -12,7 +12,7 @@ use lib.Seq.{getD-set-same, getD-set-other}
 use borrow.Author.Tests.{lt-ltb, le-ltb}
 use Rattle.definitions.specs.Search.{Tuple}
 use Rattle.query.specs.Seek.{startAt, restOf, found, tries, but, ahead}
-use Rattle.search.specs.Finding.{numbersFrom, tupleOf, lastOf}
+use Rattle.search.specs.Finding.{numbersFrom, lastOf}
 use Rattle.search.specs.declared.Found.{Found}
 
 -- ── how many are tried at most does not matter ──────────────────────────────────────────────

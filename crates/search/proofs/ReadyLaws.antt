@@ -1,9 +1,9 @@
 -- What is ready stays ready as a variable is chosen; and then no filter that is evaluated, nor the query of a whole tuple, meets a fault.
 use Prim.Native.Nat.{ℕ}
-use mathlib.Core.Path.{_≡_, refl, sym, _∙_, subst, subst⁻¹}
+use mathlib.Core.Path.{_≡_, refl, subst, subst⁻¹}
 use mathlib.Core.List.{List, [], _∷_}
 use mathlib.Core.Bool.{Bool, true, false, cond, not, _&&_, _||_}
-use mathlib.Core.Option.{Option, none, some}
+use mathlib.Core.Option.{none, some}
 use lib.Dec.{T, eqb, eqb→eq}
 use lib.ListN.{length}
 use lib.IntN.{ℤ}
@@ -15,7 +15,7 @@ use Rattle.definitions.specs.Typing.{queryTyped}
 use Rattle.definitions.specs.Evaluate.{Bindings, Quad, query}
 use Rattle.definitions.specs.Search.{Typing}
 use Rattle.definitions.specs.Calls.{constantsOf}
-use Rattle.laws.proofs.Tests.{andLeft, andRight, andMake}
+use Rattle.laws.proofs.Tests.{andLeft, andRight}
 use Rattle.laws.proofs.Options.{some-is, some-not-none}
 use Rattle.laws.specs.Outcomes.{Fine, Any}
 use Rattle.laws.specs.Bindings.{Extends, Holds, Bound, WellBound}

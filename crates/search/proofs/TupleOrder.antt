@@ -1,12 +1,11 @@
 -- The tuples tried stand in order, and every tuple of the variables' types is among them.
-use Prim.Native.Nat.{ℕ, zero, suc, _<_}
+use Prim.Native.Nat.{ℕ, zero, suc}
 use native.Mathlib.Omega.{arith}
-use mathlib.Core.Path.{_≡_, refl, ap, subst⁻¹}
+use mathlib.Core.Path.{ap, subst⁻¹}
 use mathlib.Core.List.{List, [], _∷_, _++_, map, List·Memᴰ, List·Memᴰ·head, List·Memᴰ·tail, Memᴰ·append-left, Memᴰ·append-right}
-use mathlib.Core.Bool.{Bool, true, false, cond, _&&_, _||_}
+use mathlib.Core.Bool.{Bool, true, false, cond, _&&_}
 use mathlib.Core.Option.{Option, none, some, Option·none-ne-some, Option·some-injective}
 use lib.Dec.{T, eqb, ltb, eqb-refl, ltb→lt, lt→ltb}
-use lib.ListN.{getElem?}
 use Rattle.definitions.specs.Lists.{keep}
 use Rattle.definitions.specs.Types.{Ty}
 use Rattle.definitions.specs.Terms.{Term, Schema, hasType}
@@ -16,7 +15,7 @@ use Rattle.laws.proofs.Tests.{orLeft, orRight, andMake}
 use Rattle.laws.specs.Lists.{_∈_}
 use Rattle.laws.proofs.Lists.{here, keep-at, keep-of}
 use Rattle.laws.specs.Lists.{All}
-use Rattle.laws.proofs.All.{all-append, all-cond, all-keep, all-map}
+use Rattle.laws.proofs.All.{all-append, all-keep, all-map}
 use Rattle.laws.specs.Bindings.{Holds, Fits}
 
 -- ── each passes a test with every later one ─────────────────────────────────────────────────

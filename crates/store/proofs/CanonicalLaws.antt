@@ -1,34 +1,32 @@
 -- The saved run without what means nothing is the saved run of the state that is held.
 use Prim.Native.Nat.{ℕ, zero, suc, _+_, _-_, _*_, _≤_, _<_}
 use native.Mathlib.Omega.{arith}
-use native.Mathlib.Numerals.{add-one}
 use mathlib.Core.Path.{_≡_, refl, ap, sym, _∙_}
 use mathlib.Core.List.{List, [], _∷_, _++_, map, map-append}
 use mathlib.Core.Bool.{Bool, true, false, cond, _&&_, and-false}
-use mathlib.Core.Option.{Option, none, some}
-use lib.Dec.{T, eqb, ltb, leb, leb→le}
+use mathlib.Core.Option.{none, some}
+use lib.Dec.{eqb, ltb, leb, leb→le}
 use lib.ListN.{length, getD, take, drop, replicate, length-take, length-map}
 use lib.Seq.{take-suc, ext-getD}
 use borrow.Author.Tests.{eq-eqb, ne-eqb, lt-ltb, eqb-true}
 use Rattle.definitions.specs.Limits.{graphLimit, depthLimit, variableLimit, quadLimit, quadWidth}
-use Rattle.definitions.specs.Bytes.{byte, filled, allZero, provided, onward}
+use Rattle.definitions.specs.Bytes.{byte, filled, allZero, onward}
 use Rattle.definitions.specs.Tree.{Script, success, fromNamed, block, sequence, Binder}
 use Rattle.definitions.specs.Reading.{readScript, parsed, isEach}
 use Rattle.definitions.specs.Scope.{variables}
 use Rattle.definitions.specs.Evaluate.{Quad}
 use Rattle.definitions.specs.Machine.{Item, State}
 use Rattle.definitions.specs.Saved.{Place, placeIn, lastTuple, noItem, stackFrom, savedItem, savedItems, zeroItem, savedOf, quadsFrom, quadsIn}
-use Rattle.definitions.specs.Saved.{bindingsIn, isBound, numberOrZero, hasTuple, lastNumbers, offsetOf}
+use Rattle.definitions.specs.Saved.{bindingsIn, isBound, numberOrZero, hasTuple, lastNumbers}
 use Rattle.definitions.specs.declared.SavedItem.{SavedItem}
 use Rattle.definitions.specs.declared.SavedRun.{SavedRun}
-use Rattle.laws.proofs.Options.{some-is, some-not-none, onward-inv, provided-inv}
-use Rattle.laws.specs.ScriptReads.{ReadsAs}
-use Rattle.laws.proofs.ScriptReads.{script-reads, parsed-reads, ReadAt}
+use Rattle.laws.proofs.Options.{some-is, onward-inv, provided-inv}
+use Rattle.laws.proofs.ScriptReads.{script-reads, parsed-reads}
 use Rattle.laws.proofs.ReadBounds.{binders-bounded}
 use Rattle.laws.proofs.Variables.{at-variable}
 use Rattle.laws.proofs.Saved.{Holding}
 use Rattle.store.specs.Stack.{freshItem}
-use Rattle.store.specs.Canonical.{hasLast, startedItem, cleanItem, cleanItems, numberOf, cleanBindings, canonicalOf}
+use Rattle.store.specs.Canonical.{startedItem, cleanItem, cleanItems, numberOf, cleanBindings, canonicalOf}
 
 -- ── one item ────────────────────────────────────────────────────────────────────────────────
 

@@ -1,5 +1,5 @@
 -- Arrays that are filled place by place from zeros; and a look through a list.
-use Prim.Native.Nat.{ℕ, zero, suc, _+_, _-_, _≤_, _<_}
+use Prim.Native.Nat.{ℕ, suc, _+_, _-_, _≤_, _<_}
 use native.Mathlib.Omega.{arith}
 use native.Mathlib.Numerals.{add-one}
 use native.Mathlib.Nat.{sub-zero}
@@ -43,9 +43,6 @@ module _ {A : Type 0} (z : A) (old : List A) (n : ℕ) where
   -- the first places of a list, zeros after them
   abbrev pub copiedTo : ℕ → List A
   copiedTo i = take i old ++ replicate (n - i) z
-
-  pub copied-none : replicate n z ≡ copiedTo 0
-  copied-none = ap (λ (j : ℕ). replicate j z) (sym (sub-zero n))
 
   pub copied-next : (i : ℕ) (d : A) → i < length old → i < n → (array : List A) → array ≡ copiedTo i → set array i (getD old i d) ≡ copiedTo (i + 1)
   copied-next i d h k array e =

@@ -1,21 +1,20 @@
 -- What the operations on the saved run do to the state that it is of.
-use Prim.Native.Nat.{ℕ, zero, suc, _+_, _-_, _≤_, _<_}
+use Prim.Native.Nat.{ℕ, zero, suc, _-_, _<_}
 use native.Mathlib.Omega.{arith}
 use native.Mathlib.Numerals.{add-one}
 use mathlib.Core.Path.{_≡_, refl, ap, sym, _∙_}
 use mathlib.Core.List.{List, [], _∷_, _++_, map}
 use mathlib.Core.Bool.{Bool, true, false, cond}
-use mathlib.Core.Option.{Option, none, some}
+use mathlib.Core.Option.{Option, some}
 use lib.Dec.{eqb}
 use lib.ListN.{length, set, getD, replicate, length-append}
 use Rattle.definitions.specs.Bytes.{filled}
 use Rattle.definitions.specs.Tree.{Script}
 use Rattle.definitions.specs.Scope.{variables}
 use Rattle.definitions.specs.Evaluate.{Bindings}
-use Rattle.definitions.specs.Machine.{State, Control, Item, fresh, withStack}
-use Rattle.definitions.specs.Saved.{savedItem, savedItems, savedOf, zeroItem, noItem, isBound, numberOrZero, offsetOf, lastNumbers, hasTuple}
+use Rattle.definitions.specs.Machine.{State, Item, fresh, withStack}
+use Rattle.definitions.specs.Saved.{savedItem, savedItems, savedOf, zeroItem, noItem, isBound, numberOrZero, offsetOf}
 use Rattle.definitions.specs.declared.SavedItem.{SavedItem}
-use Rattle.definitions.specs.declared.SavedRun.{SavedRun}
 use Rattle.laws.proofs.Fill.{set-end, set-back, get-last, set-last}
 use Rattle.store.specs.Stack.{withItems, freshItem, pushed, popped, replaced, topOf, boundTo}
 

@@ -9,7 +9,7 @@ use lib.ListN.{length}
 use Rattle.definitions.specs.Lists.{keep, isIn, distinct}
 use Rattle.definitions.specs.Terms.{Term, Schema, Triple, sameTerm}
 use Rattle.definitions.specs.Evaluate.{Quad, sameQuad, stored}
-use Rattle.definitions.specs.Machine.{State, store, wellTyped, ofGraph}
+use Rattle.definitions.specs.Machine.{State, wellTyped, ofGraph}
 use Rattle.definitions.specs.Calls.{PageTaken}
 use Rattle.laws.specs.Lists.{_∈_}
 use Rattle.laws.specs.Bindings.{Extends}

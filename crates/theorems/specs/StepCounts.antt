@@ -3,7 +3,6 @@ use Prim.Native.Nat.{ℕ, suc, _+_}
 use mathlib.Core.List.{List, [], _∷_}
 use mathlib.Core.Bool.{Bool, true, not, _&&_}
 use Rattle.definitions.specs.Tree.{Script, success, fromNamed, block, sequence}
-use Rattle.definitions.specs.Search.{answer}
 use Rattle.definitions.specs.CallList.{Answer, ran, paged, Done}
 use Rattle.definitions.specs.declared.RunAnswer.the-variants as RunAnswers
 

@@ -1,15 +1,10 @@
 -- `search::find::hopeful` meets its contract. The loop's invariant: from j on gives what the whole gives. Assumes nothing.
-use mathlib.Core.Path.{_≡_, refl, sym, _∙_}
-use mathlib.Core.List.{List}
-use Prim.Native.Nat.{ℕ, _-_, _≤_}
+use mathlib.Core.Path.{refl, sym, _∙_}
+use Prim.Native.Nat.{_-_}
 use native.Mathlib.Omega.{arith}
 use borrow.Author.Tests.{not-true, not-false}
-use Rattle.definitions.specs.Bytes.{signed}
-use Rattle.query.specs.Seek.{hopeful}
 use Rattle.laws.specs.Quads.{rowsFrom}
-use Rattle.query.specs.Codes.{bindingsOf}
-use Rattle.search.specs.Ready.{Ready}
-use Rattle.search.specs.Finding.{World, later, HopesOn}
+use Rattle.search.specs.Finding.{HopesOn}
 use Rattle.search.proofs.FindLaws.{level-at, hopeful-ends, hopeful-lost, hopeful-on}
 use Rattle.search.proofs.find.hopeful.Statement.{statement}
 use Rattle.search.proofs.find.hopeful.Tie as tie
