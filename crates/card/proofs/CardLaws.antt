@@ -3,9 +3,9 @@ use Prim.Native.Nat.{ℕ}
 use native.Mathlib.Omega.{arith}
 use mathlib.Core.Path.{_≡_, refl, sym, _∙_}
 use mathlib.Core.List.{List}
-use mathlib.Core.Bool.{Bool, true, false, not}
+use mathlib.Core.Bool.{Bool, true, false, cond}
 use mathlib.Core.Option.{Option, none, some}
-use borrow.Author.Tests.{not-true, not-false}
+use lib.Dec.{T}
 use lib.ListN.{length}
 use Rattle.definitions.specs.Lists.{distinct}
 use Rattle.definitions.specs.Terms.{Term, Schema, readTerms, readSchema, sameTerm, sameProperty}
@@ -16,48 +16,51 @@ use Rattle.fields.specs.Answers.{countOf, distinctIn}
 use Rattle.fields.specs.declared.Counted.{Counted}
 use Rattle.fields.specs.declared.Counted.the-variants.{Count, Malformed}
 use Rattle.definitions.specs.Calls.{recordTests}
+use Rattle.table.proofs.CountLaws.{count-none, count-some}
+use Rattle.records.specs.Listing.{listedOf}
+use Rattle.records.specs.declared.Listed.{Listed}
 use Rattle.card.specs.Check.{numberOf}
 use Rattle.card.proofs.RefusalNumbers.{number-refused, number-passed}
 
--- ── what a count says ───────────────────────────────────────────────────────────────────────
-
-module _ {A : Type 0} where
-  pub count-none : (o : Option (List A)) → countOf o ≡ Malformed → o ≡ none
-  unfolding countOf
-  count-none none e = refl
-  count-none (some xs) e = absurd (let z : _≡_ {A = ℕ} 0 1 = cc in omega arith)
-
-  pub count-some : (o : Option (List A)) {n : ℕ} → countOf o ≡ Count n → (xs : List A) × (o ≡ some xs) × (length xs ≡ n)
-  unfolding countOf
-  count-some none e = absurd (let z : _≡_ {A = ℕ} 0 1 = cc in omega arith)
-  count-some (some xs) {n} e = let l : length xs ≡ n = cc in (xs, refl, l)
-
-  distinct-of : (same : A → A → Bool) {o : Option (List A)} {xs : List A} → o ≡ some xs → distinctIn same o ≡ distinct same xs
-  unfolding distinctIn
-  distinct-of same e = rw e
+distinct-of : {A : Type 0} (same : A → A → Bool) {o : Option (List A)} {xs : List A} → o ≡ some xs → distinctIn same o ≡ distinct same xs
+unfolding distinctIn
+distinct-of same e = rw e
 
 -- ── the tests, one after the other ──────────────────────────────────────────────────────────
 
-module _ (terms schema : List ℕ) {a : Counted} (ea : a ≡ countOf (readTerms terms)) where
-  pub two : a ≡ Malformed → 2 ≡ numberOf (recordTests terms schema)
-  unfolding recordTests
-  two m = number-refused (given-refused 2 _ (count-none (readTerms terms) (sym ea ∙ m)))
+module _ (terms schema : List ℕ) {a : ℕ} (ea : a ≡ listedOf (readTerms terms) .refusal) where
+  pub two-three : (a ≡ 0 → ⊥) → a ≡ numberOf (recordTests terms schema)
+  unfolding recordTests listedOf
+  two-three h = go (readTerms terms) refl ea
+    where
+      twice : (ts : List Term) → readTerms terms ≡ some ts → (b : Bool) → distinct sameTerm ts ≡ b
+          → a ≡ (cond {A = Listed} b (record { refusal = 0; count = length ts }) (record { refusal = 3; count = 0 })) .refusal → a ≡ numberOf (recordTests terms schema)
+      twice ts e true d q = absurd (h q)
+      twice ts e false d q = q ∙ number-refused (given-bind 2 _ e ∙ require-refused 3 _ d)
 
-  module _ {n : ℕ} (ka : a ≡ Count n) {d : Bool} (ed : d ≡ distinctIn sameTerm (readTerms terms)) where
-    listed : (xs : List Term) × (readTerms terms ≡ some xs) × (length xs ≡ n)
-    listed = count-some (readTerms terms) (sym ea ∙ ka)
+      go : (o : Option (List Term)) → readTerms terms ≡ o → a ≡ listedOf o .refusal → a ≡ numberOf (recordTests terms schema)
+      go none e q = q ∙ number-refused (given-refused 2 _ e)
+      go (some ts) e q = twice ts e (distinct sameTerm ts) refl q
 
-    apart : distinct sameTerm (listed .0) ≡ d
-    apart = sym (ed ∙ distinct-of sameTerm (listed .1))
+  module _ (za : a ≡ 0) where
+    listed : (ts : List Term) × (readTerms terms ≡ some ts) × T (distinct sameTerm ts)
+    unfolding listedOf
+    listed = go (readTerms terms) refl (sym za ∙ ea)
+      where
+        twice : (ts : List Term) → readTerms terms ≡ some ts → (b : Bool) → distinct sameTerm ts ≡ b
+            → 0 ≡ (cond {A = Listed} b (record { refusal = 0; count = length ts }) (record { refusal = 3; count = 0 })) .refusal
+            → (ts : List Term) × (readTerms terms ≡ some ts) × T (distinct sameTerm ts)
+        twice ts e true d q = (ts, e, trueIs _ d)
+        twice ts e false d q = absurd (omega arith)
 
-    pub three : not d ≡ true → 3 ≡ numberOf (recordTests terms schema)
-    unfolding recordTests
-    three h = number-refused (given-bind 2 _ (listed .1) ∙ require-refused 3 _ (apart ∙ not-true d h))
+        go : (o : Option (List Term)) → readTerms terms ≡ o → 0 ≡ listedOf o .refusal → (ts : List Term) × (readTerms terms ≡ some ts) × T (distinct sameTerm ts)
+        go none e q = absurd (omega arith)
+        go (some ts) e q = twice ts e (distinct sameTerm ts) refl q
 
-    module _ (kd : not d ≡ false) {b : Counted} (eb : b ≡ countOf (readSchema schema)) where
+    module _ {b : Counted} (eb : b ≡ countOf (readSchema schema)) where
       second : recordTests terms schema ≡ (given 4 (readSchema schema) >>= λ S. require 5 (distinct sameProperty S) >> passed (record { terms = listed .0; schema = S }))
       unfolding recordTests
-      second = given-bind 2 _ (listed .1) ∙ require-after 3 _ _ (trueIs _ (apart ∙ not-false d kd))
+      second = given-bind 2 _ (listed .1) ∙ require-after 3 _ _ (listed .2)
 
       pub four : b ≡ Malformed → 4 ≡ numberOf (recordTests terms schema)
       four m = number-refused (second ∙ given-refused 4 _ (count-none (readSchema schema) (sym eb ∙ m)))
@@ -69,8 +72,8 @@ module _ (terms schema : List ℕ) {a : Counted} (ea : a ≡ countOf (readTerms 
         properties : distinct sameProperty (entries .0) ≡ f
         properties = sym (ef ∙ distinct-of sameProperty (entries .1))
 
-        pub five : not f ≡ true → 5 ≡ numberOf (recordTests terms schema)
-        five h = number-refused (second ∙ given-bind 4 _ (entries .1) ∙ require-refused 5 _ (properties ∙ not-true f h))
+        pub five : f ≡ false → 5 ≡ numberOf (recordTests terms schema)
+        five h = number-refused (second ∙ given-bind 4 _ (entries .1) ∙ require-refused 5 _ (properties ∙ h))
 
-        pub all-pass : not f ≡ false → 0 ≡ numberOf (recordTests terms schema)
-        all-pass h = number-passed (second ∙ given-bind 4 _ (entries .1) ∙ require-after 5 _ _ (trueIs _ (properties ∙ not-false f h)))
+        pub all-pass : f ≡ true → 0 ≡ numberOf (recordTests terms schema)
+        all-pass h = number-passed (second ∙ given-bind 4 _ (entries .1) ∙ require-after 5 _ _ (trueIs _ (properties ∙ h)))

@@ -13,27 +13,27 @@ use Rattle.definitions.specs.Terms.{readSchema}
 use Rattle.definitions.specs.Tree.{Script}
 use Rattle.definitions.specs.Reading.{parsed}
 use Rattle.definitions.specs.Typing.{Verdict, noTyping, noGreatest, greatest, writtenTypes, verdict}
-use Rattle.definitions.specs.Saved.{termTable, termsIn}
+use Rattle.definitions.specs.Saved.{termsIn}
 use Rattle.definitions.specs.Result.{Result, refused, passed, _>>=_}
 use Rattle.definitions.specs.Calls.{Checked, constantsOf, typesOf, check, reported}
 use Rattle.laws.proofs.Check.{Passed, schema-fits}
-use Rattle.laws.proofs.Results.{passed-is, not-refused}
+use Rattle.laws.proofs.Results.{passed-is, not-refused, bind-refused, bind-passed}
 use Rattle.laws.specs.ReadAnswers.{isSome}
 use Rattle.definitions.specs.Limits.{entryWidth}
-use Rattle.table.specs.Table.{HoldsTerms}
+use Rattle.table.specs.Table.{HoldsTerms, HeldTerms}
 use Rattle.records.proofs.EntryLaws.{schema-length}
-use Rattle.records.proofs.NumberingLaws.{Holding, holding-terms, holds-of}
+use Rattle.records.proofs.NumberingLaws.{held-terms, held-holds}
 use Rattle.facts.specs.Codes.{sortsIn}
 use Rattle.facts.specs.Answers.{answerOf}
 use Rattle.facts.specs.declared.Answer.{Answer}
 use Rattle.typing.proofs.Constants.{worked-out}
 use Rattle.card.specs.Leasts.{codeOf, leastCodes}
 use Rattle.definitions.specs.Calls.{Parsed, readTests, typeTests}
-use Rattle.card.specs.Check.{numberOf, readyOf, refusedCard, cardOf, TablesOf}
+use Rattle.table.specs.Hashes.{HashedEntries}
+use Rattle.card.specs.Check.{numberOf, ReadyOf, refusedCard, cardOf, TablesOf}
 use Rattle.card.specs.declared.refusals.Card.{Card}
 use Rattle.card.specs.declared.refusals.Ready.{Ready}
-use Rattle.card.specs.declared.refusals.Ready.the-variants.{Refused, Terms}
-use Rattle.card.proofs.RefusalNumbers.{NotZero, bind-not-zero, bind-refused, bind-passed}
+use Rattle.card.proofs.RefusalNumbers.{NotZero, refused-number, passed-number, bind-not-zero}
 use Rattle.card.proofs.ReadyLaws.{read-not-zero, Reads, reads-of}
 use Rattle.laws.proofs.Check.{ReadPassed, read-passed}
 
@@ -44,15 +44,15 @@ passed-short terms schema script c p = omega (arith, schema-fits terms schema sc
 
 -- ── what the code answers ───────────────────────────────────────────────────────────────────
 
-pub card-refused : {m : Result Checked} {n : ℕ} {r : Card} {table leasts : List ℕ} → m ≡ refused n → r ≡ refusedCard n
-    → (r ≡ cardOf m) × ((c : Checked) → m ≡ passed c → TablesOf c table leasts)
+pub card-refused : {m : Result Checked} {n : ℕ} {r : Card} {schema table leasts entries : List ℕ} → m ≡ refused n → r ≡ refusedCard n entries
+    → (r ≡ cardOf m (r .entries)) × ((c : Checked) → m ≡ passed c → TablesOf c schema table leasts (r .entries))
 unfolding cardOf
-card-refused e f = (f ∙ rw e, λ c p. absurd (not-refused (sym e ∙ p)))
+card-refused {n = n} e f = (f ∙ ap (refusedCard n) (sym (ap (λ (r : Card). r .entries) f)) ∙ rw e, λ c p. absurd (not-refused (sym e ∙ p)))
 
-pub card-number : (m : Result Checked) → cardOf m .refusal ≡ numberOf m
+pub card-number : (m : Result Checked) (entries : List ℕ) → cardOf m entries .refusal ≡ numberOf m
 unfolding cardOf numberOf
-card-number (refused n) = refl
-card-number (passed c) = refl
+card-number (refused n) entries = refl
+card-number (passed c) entries = refl
 
 types-not-zero : (v : Verdict) → NotZero (typesOf v)
 unfolding typesOf
@@ -65,19 +65,10 @@ unfolding check typeTests
 check-not-zero terms schema script =
     bind-not-zero (readTests terms schema script) typeTests (read-not-zero terms schema script) (λ x. bind-not-zero (typesOf _) _ (types-not-zero _) (λ Γ. tt))
 
-ready-refused : (m : Result Parsed) {n : ℕ} → Refused n ≡ readyOf m → m ≡ refused n
-unfolding readyOf
-ready-refused (refused k) {n} e = let h : k ≡ n = cc in ap refused h
-ready-refused (passed x) e = absurd (let z : _≡_ {A = ℕ} 0 1 = cc in omega arith)
-
-ready-passed : (m : Result Parsed) {n : ℕ} → Terms n ≡ readyOf m → (x : Parsed) × (m ≡ passed x) × (length (x .terms) ≡ n)
-unfolding readyOf
-ready-passed (refused k) e = absurd (let z : _≡_ {A = ℕ} 0 1 = cc in omega arith)
-ready-passed (passed x) {n} e = let h : length (x .terms) ≡ n = cc in (x, refl, h)
-
-card-is : (c : Checked) (n : ℕ) → length (c .terms) ≡ n → (types : List ℕ) → types ≡ reported c → cardOf (passed c) ≡ record { refusal = 0; count = n; types = types }
+card-is : (c : Checked) (n : ℕ) → length (c .terms) ≡ n → (types entries : List ℕ) → types ≡ reported c
+    → cardOf (passed c) entries ≡ record { refusal = 0; count = n; types = types; entries = entries }
 unfolding cardOf
-card-is c n e types f = λ i. record { refusal = 0; count = e i; types = sym f i }
+card-is c n e types entries f = λ i. record { refusal = 0; count = e i; types = sym f i; entries = entries }
 
 -- the types worked out, from the typer's answer
 module _ (x : Parsed) where
@@ -100,14 +91,20 @@ module _ (x : Parsed) where
   typed-passed noGreatest a e h = absurd (omega (arith, ap (λ (b : Answer). b .refusal) e))
   typed-passed (greatest Γ) a e h = (Γ, refl, ap (λ (b : Answer). b .types) e)
 
-module _ (terms schema script : List ℕ) {r : Ready} (er : r ≡ readyOf (readTests terms schema script)) where
-  pub read-refused : {n : ℕ} → r ≡ Refused n → check terms schema script ≡ refused n
+module _ (terms schema script : List ℕ) (r : Ready) (er : r .refusal ≡ numberOf (readTests terms schema script)) where
+  pub read-refused : (r .refusal ≡ 0 → ⊥) → check terms schema script ≡ refused (r .refusal)
   unfolding check
-  read-refused k = bind-refused typeTests (ready-refused (readTests terms schema script) (sym k ∙ er))
+  read-refused h = bind-refused typeTests (refused-number (readTests terms schema script) er h)
 
-  module _ {count : ℕ} (k : r ≡ Terms count) {table : List ℕ} (ht : (x : Parsed) → readTests terms schema script ≡ passed x → table ≡ termTable (x .terms)) where
-    found : (x : Parsed) × (readTests terms schema script ≡ passed x) × (length (x .terms) ≡ count)
-    found = ready-passed (readTests terms schema script) (sym k ∙ er)
+  module _ (z : r .refusal ≡ 0) {table : List ℕ} (ht : (x : Parsed) → readTests terms schema script ≡ passed x → ReadyOf x schema table r) where
+    abbrev count : ℕ
+    count = r .count
+
+    found : (x : Parsed) × (readTests terms schema script ≡ passed x)
+    found = passed-number (readTests terms schema script) (read-not-zero terms schema script) er z
+
+    ready : ReadyOf (found .0) schema table r
+    ready = ht (found .0) (found .1)
 
     passes : ReadPassed terms schema script (found .0)
     passes = read-passed terms schema script (found .0) (found .1)
@@ -115,17 +112,17 @@ module _ (terms schema script : List ℕ) {r : Ready} (er : r ≡ readyOf (readT
     reads : Reads schema (found .0)
     reads = reads-of terms schema script (found .0) passes
 
-    held : Holding table (found .0 .terms) count
-    held = record { valid = reads .valid; is = ht (found .0) (found .1); count = found .2; few = omega (arith, reads .few, found .2) }
+    held : HeldTerms table count (found .0 .terms)
+    held = record { is = ready .slots; valid = reads .valid; count = sym (ready .count); few = omega (arith, reads .few, ready .count) }
 
     pub holds : HoldsTerms table count
-    holds = holds-of _ _ _ held
+    holds = held-holds _ _ _ held
 
     pub schema-reads : isSome (readSchema schema) ≡ true
     schema-reads = rw (passes .entries)
 
-    pub schema-short : length schema ≤ entryLimit * entryWidth
-    schema-short = reads .short
+    pub schema-hashed : HashedEntries schema (r .entries)
+    schema-hashed = ready .entries
 
     pub leasts-room : (old : List ℕ) → length old ≡ termLimit → count ≤ length old
     leasts-room old e = omega (arith, e, held .few)
@@ -139,12 +136,12 @@ module _ (terms schema script : List ℕ) {r : Ready} (er : r ≡ readyOf (readT
 
     codes-length : length codes ≡ count
     unfolding codes
-    codes-length = length-map (found .0 .terms) (codeOf (found .0 .schema)) ∙ found .2
+    codes-length = length-map (found .0 .terms) (codeOf (found .0 .schema)) ∙ sym (ready .count)
 
     module _ (old : List ℕ) {leasts : List ℕ} (el : leasts ≡ leastCodes (readSchema schema) (termsIn table) ++ drop count old) where
       codes-first : leasts ≡ codes ++ drop count old
       unfolding codes leastCodes
-      codes-first = el ∙ rw (passes .entries, holding-terms _ _ _ held)
+      codes-first = el ∙ rw (passes .entries, held-terms _ _ _ held)
 
       -- the codes stand in front
       pub codes-fit : count ≤ length leasts
@@ -157,7 +154,7 @@ module _ (terms schema script : List ℕ) {r : Ready} (er : r ≡ readyOf (readT
       sorts-length = sym (ap length sorts ∙ codes-length)
 
       parses : parsed (length (take count leasts)) script ≡ some (found .0 .root)
-      parses = ap (λ (n : ℕ). parsed n script) (sym sorts-length ∙ sym (found .2)) ∙ passes .parses
+      parses = ap (λ (n : ℕ). parsed n script) (sym sorts-length ∙ sym (sym (ready .count))) ∙ passes .parses
 
       pub script-reads : isSome (parsed (length (take count leasts)) script) ≡ true
       script-reads = rw parses
@@ -171,12 +168,16 @@ module _ (terms schema script : List ℕ) {r : Ready} (er : r ≡ readyOf (readT
         pub types-refused : (a .refusal ≡ 0 → ⊥) → check terms schema script ≡ refused (a .refusal)
         types-refused h = types-left ∙ typed-refused (found .0) _ a answer h
 
-        pub types-found : a .refusal ≡ 0 → (record { refusal = 0; count = count; types = a .types } ≡ cardOf (check terms schema script))
-            × ((c : Checked) → check terms schema script ≡ passed c → TablesOf c table leasts)
+        pub types-found : a .refusal ≡ 0
+            → (record { refusal = 0; count = count; types = a .types; entries = r .entries } ≡ cardOf (check terms schema script) (r .entries))
+            × ((c : Checked) → check terms schema script ≡ passed c → TablesOf c schema table leasts (r .entries))
         unfolding codes
         types-found h =
             let t = typed-passed (found .0) _ a answer h in
             let c = made (found .0) (t .0) in
             let e : check terms schema script ≡ passed c = types-left ∙ t .1 in
-            let d : TablesOf c table leasts = record { slots = held .is; codes = ap (λ (n : ℕ). take n leasts) (found .2) ∙ sorts } in
-            (sym (ap cardOf e ∙ card-is c count (found .2) (a .types) (t .2)), λ c′ p. subst (λ (z : Checked). TablesOf z table leasts) (passed-is (sym e ∙ p)) d)
+            let d : TablesOf c schema table leasts (r .entries) =
+            record { slots = held .is; codes = ap (λ (n : ℕ). take n leasts) (sym (ready .count)) ∙ sorts; hashes = schema-hashed } in (
+              sym (ap (λ (m : Result Checked). cardOf m (r .entries)) e ∙ card-is c count (sym (ready .count)) (a .types) (r .entries) (t .2)),
+              λ c′ p. subst (λ (z : Checked). TablesOf z schema table leasts (r .entries)) (passed-is (sym e ∙ p)) d,
+            )

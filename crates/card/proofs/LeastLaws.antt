@@ -6,7 +6,7 @@ use mathlib.Core.Option.{some}
 use mathlib.Core.Path.{_≡_, sym, ap, _∙_}
 use native.Mathlib.Omega.{arith}
 use native.Mathlib.Numerals.{add-one}
-use lib.ListN.{length, take, drop, set, getD, length-map}
+use lib.ListN.{length, take, drop, set, getD, length-map, take-append-drop}
 use lib.Seq.{take-all, take-suc, length-take-le}
 use Rattle.definitions.specs.Limits.{slotWidth}
 use Rattle.definitions.specs.Bytes.{part}
@@ -47,6 +47,10 @@ module _ (table schema : List ℕ) (count : ℕ) (g : isSome (readSchema schema)
   code-there i l =
       let s = slot-there table count h i l in
       rw (some-part table (i * slotWidth) slotWidth, s .1, entries .1, codes-are) (sym (code-at (codeOf (entries .0)) (terms table count h .0) i (s .2)))
+
+  -- the first stand there already
+  pub least-first : (old : List ℕ) (i : ℕ) → take i old ≡ take i (leastCodes (readSchema schema) (termsIn table)) → old ≡ take i (leastCodes (readSchema schema) (termsIn table)) ++ drop i old
+  least-first old i e = sym (take-append-drop i old) ∙ ap (λ (l : List ℕ). l ++ drop i old) e
 
   module _ (old out : List ℕ) (i : ℕ) (e : out ≡ take i (leastCodes (readSchema schema) (termsIn table)) ++ drop i old) where
     pub least-next : count ≤ length old → i < count → {k : ℕ}

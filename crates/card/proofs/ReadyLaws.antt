@@ -1,39 +1,40 @@
 -- Refusals 2 to 7 in one: from what the code finds, which one is met, or what is ready to be typed.
-use Prim.Native.Nat.{ℕ, _*_, _≤_}
+use Prim.Native.Nat.{ℕ, _*_, _≤_, _<_}
 use native.Mathlib.Omega.{arith}
-use mathlib.Core.Path.{_≡_, refl, sym, ap, _∙_}
+use mathlib.Core.Path.{_≡_, refl, sym, ap, subst, _∙_}
 use mathlib.Core.List.{List}
 use mathlib.Core.Bool.{Bool, true, false, _&&_}
-use mathlib.Core.Option.{some}
+use mathlib.Core.Option.{Option, some}
 use lib.Dec.{leb, leb→le}
-use lib.ListN.{length}
-use Rattle.definitions.specs.Limits.{termLimit, entryLimit, scriptLimit}
+use lib.ListN.{length, length-append}
+use borrow.Author.Tests.{lt-leb}
+use Rattle.definitions.specs.Limits.{termLimit, entryLimit, scriptLimit, schemaWidth}
 use Rattle.definitions.specs.Lists.{distinct}
 use Rattle.definitions.specs.Terms.{Term, Schema, readTerms, readSchema, sameTerm, sameProperty}
 use Rattle.definitions.specs.Tree.{Script}
 use Rattle.definitions.specs.Reading.{parsed}
 use Rattle.definitions.specs.Scope.{inScope}
 use Rattle.definitions.specs.Machine.{withProperties}
-use Rattle.definitions.specs.Saved.{termTable}
 use Rattle.definitions.specs.Result.{Result, refused, passed, _>>=_, require, given}
 use Rattle.laws.specs.Lists.{All}
 use Rattle.laws.proofs.Numbering.{all-properties}
-use Rattle.laws.proofs.Results.{passed-is, not-refused, require-refused}
-use Rattle.laws.proofs.Tests.{andLeft}
+use Rattle.laws.proofs.Results.{passed-is, not-refused, require-refused, bind-inv, bind-refused, bind-passed}
+use Rattle.laws.proofs.Tests.{isTrue, andLeft}
 use Rattle.laws.specs.Valid.{Valid}
 use Rattle.laws.proofs.Valid.{terms-valid, schema-valid}
 use Rattle.laws.specs.ReadAnswers.{isSome}
 use Rattle.definitions.specs.Limits.{entryWidth}
-use Rattle.table.specs.Table.{listOf, addedOf, tableOf}
+use Rattle.table.specs.Table.{HeldTerms, listOf, addedOf, tableOf}
 use Rattle.table.specs.declared.Added.{Added}
 use Rattle.table.specs.declared.Added.the-variants.{Count, Full}
 use Rattle.records.proofs.EntryLaws.{schema-length}
-use Rattle.records.proofs.NumberingLaws.{Holding, holding-added}
+use Rattle.records.proofs.NumberingLaws.{held-added, properties-append}
+use Rattle.records.specs.Listing.{listedOf}
+use Rattle.table.specs.Hashes.{HashedEntries}
 use Rattle.definitions.specs.Calls.{Listed, recordTests, scriptTests, Parsed, readTests}
-use Rattle.card.specs.Check.{numberOf, readyOf}
-use Rattle.card.specs.declared.refusals.Ready.the-variants.{Refused, Terms}
-use Rattle.card.proofs.RefusalNumbers.{NotZero, refused-number, passed-number, given-not-zero, require-not-zero, bind-not-zero, after-not-zero, bind-refused, bind-passed}
-use Rattle.laws.proofs.Check.{ReadPassed, records-inv}
+use Rattle.card.specs.Check.{numberOf, ReadyOf}
+use Rattle.card.proofs.RefusalNumbers.{NotZero, number-refused, number-after, refused-number, passed-number, given-not-zero, require-not-zero, bind-not-zero, after-not-zero}
+use Rattle.laws.proofs.Check.{ReadPassed, records-inv, read-passed}
 use Rattle.laws.proofs.Valid.{read-valid}
 use Rattle.definitions.specs.Calls.{sizesFit}
 use Rattle.laws.proofs.Tests.{andRight}
@@ -89,15 +90,14 @@ full-fits ts e h = let g : Full ≡ Count (length ts) = h ∙ rw e in let z : _�
 
 -- ── the code's answer ───────────────────────────────────────────────────────────────────────
 
--- of a refusal nothing is promised of the table
-pub refuses : {m : Result Parsed} {n : ℕ} {table : List ℕ} → m ≡ refused n → (Refused n ≡ readyOf m) × ((x : Parsed) → m ≡ passed x → table ≡ termTable (x .terms))
-unfolding readyOf
-refuses e = (rw e, λ x p. absurd (not-refused (sym e ∙ p)))
+-- of a refusal nothing is promised of the tables
+pub refuses : {m : Result Parsed} {n count : ℕ} {schema table entries : List ℕ} → m ≡ refused n
+    → (n ≡ numberOf m) × ((x : Parsed) → m ≡ passed x → ReadyOf x schema table (record { refusal = n; count = count; entries = entries }))
+refuses e = (number-refused e, λ x p. absurd (not-refused (sym e ∙ p)))
 
-pub is-ready : {m : Result Parsed} {y : Parsed} {n : ℕ} {table : List ℕ} → m ≡ passed y → length (y .terms) ≡ n → table ≡ termTable (y .terms)
-    → (Terms n ≡ readyOf m) × ((x : Parsed) → m ≡ passed x → table ≡ termTable (x .terms))
-unfolding readyOf
-is-ready e k t = (rw e (ap Terms (sym k)), λ x p. t ∙ ap (λ (z : Parsed). termTable (z .terms)) (passed-is (sym e ∙ p)))
+-- what is listed in a table is what is read
+pub listed-so : (S : Schema) {A : Type 0} (f : List Term → A) {o p : Option (List Term)} → o ≡ p → f (withProperties S (listOf o)) ≡ f (withProperties S (listOf p))
+listed-so S f e = ap (λ (o : Option (List Term)). f (withProperties S (listOf o))) e
 
 module _ (terms schema script : List ℕ) {a : ℕ} (ea : a ≡ numberOf (recordTests terms schema)) where
   pub records-refused : (a ≡ 0 → ⊥) → readTests terms schema script ≡ refused a
@@ -138,28 +138,45 @@ module _ (terms schema script : List ℕ) {a : ℕ} (ea : a ≡ numberOf (record
     unfolding readTests numbered
     second = bind-passed _ (lists .1)
 
+    -- no refusal of the terms
+    pub listed-none : {k : ℕ} → k ≡ listedOf (readTerms terms) .refusal → k ≡ 0
+    unfolding listedOf
+    listed-none e = e ∙ rw (found .0, isTrue (distinct sameTerm (lists .0 .terms)) (found .1))
+
+    -- a limit passed
+    many : leb (length numbered) termLimit ≡ false → readTests terms schema script ≡ refused 6
+    unfolding scriptTests sizesFit
+    many e = second ∙ bind-refused _ (require-refused 6 _ (rw e))
+
+    pub many-listed : {n : ℕ} → n ≡ listedOf (readTerms terms) .count → termLimit < n → readTests terms schema script ≡ refused 6
+    unfolding listedOf numbered
+    many-listed {n} e l =
+        let more = properties-append S (lists .0 .terms) in
+        let k : n ≡ length (lists .0 .terms) = e ∙ rw (found .0, isTrue (distinct sameTerm (lists .0 .terms)) (found .1)) in
+        many (lt-leb (length numbered) termLimit (omega (arith, k, ap length (more .1), length-append (lists .0 .terms) (more .0))))
+
     module _ {r : Added} {table : List ℕ} (er : r ≡ addedOf (withProperties (listOf (readSchema schema)) (listOf (readTerms terms))))
         (et : table ≡ tableOf (withProperties (listOf (readSchema schema)) (listOf (readTerms terms)))) where
       pub too-many : r ≡ Full → readTests terms schema script ≡ refused 6
-      unfolding scriptTests sizesFit
-      too-many k = second ∙ bind-refused _ (require-refused 6 _ (rw (go (leb (length numbered) termLimit) refl) refl))
+      too-many k = many (go (leb (length numbered) termLimit) refl)
         where
           go : (b : Bool) → leb (length numbered) termLimit ≡ b → leb (length numbered) termLimit ≡ false
           go true e = absurd (full-fits numbered e (sym k ∙ er ∙ ap addedOf numbered-is))
           go false e = e
 
       module _ {n : ℕ} (k : r ≡ Count n) where
-        held : Holding table numbered n
-        held = holding-added numbered numbered-valid n (sym k ∙ er ∙ ap addedOf numbered-is) (et ∙ ap tableOf numbered-is)
+        held : HeldTerms table n numbered
+        held = held-added numbered numbered-valid n (sym k ∙ er ∙ ap addedOf numbered-is) (et ∙ ap tableOf numbered-is)
 
-        module _ {b : ℕ} (says : (ts : List Term) (S : Schema) → length ts ≡ n → n ≤ termLimit → readSchema schema ≡ some S → b ≡ numberOf (scriptTests ts S script)) where
-          eb : b ≡ numberOf (scriptTests numbered S script)
-          eb = says numbered S (held .count) (held .few) (found .2)
-
-          pub script-refused : (b ≡ 0 → ⊥) → readTests terms schema script ≡ refused b
-          script-refused h = second ∙ bind-refused _ (refused-number (scriptTests numbered S script) eb h)
-
-          pub ready : b ≡ 0 → (Terms n ≡ readyOf (readTests terms schema script)) × ((x : Parsed) → readTests terms schema script ≡ passed x → table ≡ termTable (x .terms))
-          ready h =
-              let c = passed-number (scriptTests numbered S script) (script-not-zero numbered S script) eb h in
-              is-ready {y = made (c .0)} (second ∙ bind-passed _ (c .1)) (held .count) (held .is)
+        pub ready : {b : ℕ} → ((ts : List Term) (S : Schema) → length ts ≡ n → n ≤ termLimit → readSchema schema ≡ some S → b ≡ numberOf (scriptTests ts S script))
+            → (entries : List ℕ) → (length schema ≤ schemaWidth → HashedEntries schema entries)
+            → (b ≡ numberOf (readTests terms schema script))
+            × ((x : Parsed) → readTests terms schema script ≡ passed x → ReadyOf x schema table (record { refusal = b; count = n; entries = entries }))
+        ready {b} says entries h = (
+          says numbered S (held .count) (held .few) (found .2) ∙ number-after (scriptTests numbered S script) made ∙ sym (ap numberOf second),
+          λ x p.
+              let i = bind-inv (scriptTests numbered S script) (λ root. passed (made root)) (sym second ∙ p) in
+              let same : made (i .0) ≡ x = passed-is (i .2) in
+              subst (λ (x : Parsed). ReadyOf x schema table (record { refusal = b; count = n; entries = entries })) same
+              (record { count = sym (held .count); slots = held .is; entries = h (reads-of terms schema script x (read-passed terms schema script x p) .short) }),
+        )

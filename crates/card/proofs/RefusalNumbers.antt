@@ -47,15 +47,13 @@ module _ {A B : Type 0} where
   bind-not-zero (refused n) f z k = z
   bind-not-zero (passed a) f z k = k a
 
-  pub bind-refused : {m : Result A} (f : A → Result B) {n : ℕ} → m ≡ refused n → (m >>= f) ≡ refused n
-  unfolding _>>=_
-  bind-refused f e = rw e
-
-  pub bind-passed : {m : Result A} (f : A → Result B) {a : A} → m ≡ passed a → (m >>= f) ≡ f a
-  unfolding _>>=_
-  bind-passed f e = rw e
-
   pub after-not-zero : (m : Result A) (k : Result B) → NotZero m → NotZero k → NotZero (m >> k)
   unfolding _>>_
   after-not-zero (refused n) k z y = z
   after-not-zero (passed a) k z y = y
+
+  -- what goes on without a test
+  pub number-after : (m : Result A) (f : A → B) → numberOf m ≡ numberOf (m >>= λ a. passed (f a))
+  unfolding numberOf _>>=_
+  number-after (refused n) f = refl
+  number-after (passed a) f = refl

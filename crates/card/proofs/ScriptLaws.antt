@@ -18,7 +18,7 @@ use Rattle.laws.proofs.Tests.{trueIs}
 use Rattle.laws.proofs.Results.{given-bind, given-refused, require-after, require-refused}
 use Rattle.definitions.specs.Limits.{entryWidth}
 use Rattle.records.proofs.EntryLaws.{schema-length}
-use Rattle.laws.specs.ReadAnswers.{isSome, holdsOf}
+use Rattle.laws.specs.ReadAnswers.{isSome, passes}
 use Rattle.laws.proofs.ReadAnswers.{is-some, is-none}
 use Rattle.definitions.specs.Calls.{scriptTests}
 use Rattle.card.specs.Check.{numberOf}
@@ -62,12 +62,13 @@ module _ (terms : ℕ) (schema script : List ℕ) where
       pub malformed : not b ≡ true → Says 6
       malformed h ts S n few e = number-refused (reading ts S n few e ∙ given-refused 6 _ (is-none (parsed terms script) (sym eb ∙ not-true b h)))
 
-      module _ (kb : not b ≡ false) {d : Bool} (ed : d ≡ holdsOf inScope (parsed terms script)) where
+      module _ (kb : not b ≡ false) {d : Bool} (ed : d ≡ passes inScope (parsed terms script)) where
         root : (c : Script) × (parsed terms script ≡ some c)
         root = is-some (parsed terms script) (sym eb ∙ not-false b kb)
 
         scoped : inScope (root .0) ≡ d
-        scoped = sym (ed ∙ ap (holdsOf inScope) (root .1))
+        unfolding passes
+        scoped = sym (ed ∙ ap (passes inScope) (root .1))
 
         pub out-of-scope : not d ≡ true → Says 7
         out-of-scope h ts S n few e =

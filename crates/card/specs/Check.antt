@@ -10,7 +10,7 @@ use Rattle.definitions.specs.Calls.{Checked, reported}
 use Rattle.card.specs.Leasts.{codeOf}
 use Rattle.card.specs.declared.refusals.Card.{Card}
 use Rattle.card.specs.declared.refusals.Ready.{Ready}
-use Rattle.card.specs.declared.refusals.Ready.the-variants.{Refused, Terms}
+use Rattle.table.specs.Hashes.{HashedEntries}
 use Rattle.definitions.specs.Calls.{Parsed}
 
 -- the refusal's number, 0 where nothing is refused
@@ -18,20 +18,22 @@ unfoldable pub numberOf : {A : Type 0} → Result A → ℕ
 numberOf (refused n) = n
 numberOf (passed a) = 0
 
--- the refusal's number, or the number of terms
-unfoldable pub readyOf : Result Parsed → Ready
-readyOf (refused n) = Refused n
-readyOf (passed x) = Terms (length (x .terms))
+-- after a reading that passes: the number of terms, each in its slot of the working table, and the hashes of the schema's URIs
+pub record ReadyOf (x : Parsed) (schema table : List ℕ) (r : Ready) : Type 0 where
+  pub count : r .count ≡ length (x .terms)
+  pub slots : table ≡ termTable (x .terms)
+  pub entries : HashedEntries schema (r .entries)
 
-abbrev pub refusedCard : ℕ → Card
-refusedCard n = record { refusal = n; count = 0; types = replicate variableLimit 0 }
+abbrev pub refusedCard : ℕ → (entries : List ℕ) → Card
+refusedCard n entries = record { refusal = n; count = 0; types = replicate variableLimit 0; entries = entries }
 
 -- the refusal's number and zeros, or the number of terms and the reported types
-unfoldable pub cardOf : Result Checked → Card
-cardOf (refused n) = refusedCard n
-cardOf (passed c) = record { refusal = 0; count = length (c .terms); types = reported c }
+unfoldable pub cardOf : Result Checked → (entries : List ℕ) → Card
+cardOf (refused n) entries = refusedCard n entries
+cardOf (passed c) entries = record { refusal = 0; count = length (c .terms); types = reported c; entries = entries }
 
--- the working tables after a check that passes: each term in its slot, and the code of its least type
-pub record TablesOf (c : Checked) (table leasts : List ℕ) : Type 0 where
+-- the working tables after a check that passes: each term in its slot, the code of its least type, and the hashes of the schema's URIs
+pub record TablesOf (c : Checked) (schema table leasts entries : List ℕ) : Type 0 where
   pub slots : table ≡ termTable (c .terms)
   pub codes : take (length (c .terms)) leasts ≡ map (codeOf (c .schema)) (c .terms)
+  pub hashes : HashedEntries schema entries

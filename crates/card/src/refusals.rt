@@ -2,67 +2,98 @@
 ghost use mathlib.Core.Path.{_≡_};
 ghost use mathlib.Core.Bool.{true};
 ghost use lib.ListN.{length, replicate};
-ghost use Rattle.definitions.specs.Limits.{termLimit, termTableWidth};
-ghost use Rattle.definitions.specs.Terms.{Term, Schema, readSchema};
+ghost use Rattle.definitions.specs.Limits.{termLimit, termTableWidth, schemaWidth};
+ghost use Rattle.definitions.specs.Terms.{Term, Schema, readTerms, readSchema};
 ghost use Rattle.definitions.specs.Result.{passed};
-ghost use Rattle.definitions.specs.Saved.{termTable};
 ghost use mathlib.Core.List.{List};
 ghost use mathlib.Core.Option.{some};
-ghost use Prim.Native.Nat.{_≤_};
+ghost use Prim.Native.Nat.{ℕ, _≤_};
 ghost use Rattle.definitions.specs.Calls.{recordTests, scriptTests, Parsed, readTests, Checked, check};
 ghost use Rattle.laws.specs.ReadAnswers.{isSome};
-ghost use Rattle.card.specs.Check.{numberOf, readyOf, refusedCard, cardOf, TablesOf};
+ghost use Rattle.table.specs.Hashes.{HashedEntries};
+ghost use Rattle.records.specs.Listing.{listedOf};
+ghost use Rattle.card.specs.Check.{numberOf, ReadyOf, refusedCard, cardOf, TablesOf};
 use crate::leasts::least_codes;
 use definitions::BAD_ENTRY;
 use definitions::BAD_SCRIPT;
 use definitions::BAD_TERM;
+use definitions::ENTRY_LIMIT;
 use definitions::OUT_OF_SCOPE;
 use definitions::PROPERTY_TWICE;
 use definitions::SCHEMA_WIDTH;
 use definitions::SCRIPT_LIMIT;
+use definitions::TERM_LIMIT;
 use definitions::TERM_TWICE;
-use definitions::VARIABLES;
+use definitions::VARIABLE_LIMIT;
 use fields::Counted;
 use reader::script::script_ok;
 use records::lists::count_entries;
-use records::lists::count_terms;
-use records::lists::properties_distinct;
-use records::lists::terms_distinct;
-use records::numbering::number_terms;
+use records::lists::entries_distinct;
+use records::lists::hashed_distinct;
+use records::numbering::add_properties;
+use records::numbering::list_terms;
+use records::schema::hash_entries;
 use scope::scope::in_scope;
 use table::Added;
 use typing::typer::work_out;
 
-// What a check finds: a refusal's number and zeros, or the number of terms and the reported type of each variable.
+// What a check finds: a refusal's number and zeros, or the number of terms and the reported type of each variable; and the hashes of the
+// schema's URIs, where nothing is refused.
 pub struct Card {
     pub refusal: u8,
     pub count: usize,
-    pub types: [u8; VARIABLES],
+    pub types: [u8; VARIABLE_LIMIT],
+    pub entries: [u16; ENTRY_LIMIT],
 }
 
-// A refusal's number, or how many terms loading numbers.
-pub enum Ready {
-    Refused(u8),
-    Terms(usize),
+// A refusal's number, or 0 and how many terms loading numbers; with the hashes of the schema's URIs.
+pub struct Ready {
+    pub refusal: u8,
+    pub count: usize,
+    pub entries: [u16; ENTRY_LIMIT],
 }
 
-// Refusals 2 to 5 of terms and schema, 0 for none. Ruled out: a bad schema told before bad terms; 3 for a property that is listed twice.
-pub fn records_refusal(terms: &[u8], schema: &[u8]) -> u8
-    ensures { λ r. ⌜ r ≡ numberOf (recordTests (now (terms .entry)) (now (schema .entry))) ⌝ }
+// A refusal's number, or 0; with the hashes of the schema's URIs, where it has no more than it may.
+pub struct Records {
+    pub refusal: u8,
+    pub entries: [u16; ENTRY_LIMIT],
+}
+
+// A number with no hashes.
+fn unhashed(refusal: u8) -> Records
+    ensures { λ r. ⌜ r .refusal ≡ refusal ⌝ }
 {
-    let Counted::Count(_) = count_terms(terms) else {
-        return BAD_TERM;
-    };
-    if !terms_distinct(terms) {
-        return TERM_TWICE;
+    Records {
+        refusal,
+        entries: [0; ENTRY_LIMIT],
+    }
+}
+
+// Refusals 4 and 5 of a schema after 2 and 3 of its terms, 0 for none. Ruled out: a bad schema told before bad terms; 3 for a property that is listed twice.
+pub fn records_refusal(first: u8, schema: &[u8]) -> Records
+    ensures { λ r. ⌜ ((terms : List ℕ) → first ≡ listedOf (readTerms terms) .refusal → r .refusal ≡ numberOf (recordTests terms (now (schema .entry)))) ⌝ }
+    ensures { λ r. ⌜ (r .refusal ≡ 0 → length (now (schema .entry)) ≤ schemaWidth → HashedEntries (now (schema .entry)) (r .entries)) ⌝ }
+{
+    if first != 0 {
+        return unhashed(first);
     }
     let Counted::Count(_) = count_entries(schema) else {
-        return BAD_ENTRY;
+        return unhashed(BAD_ENTRY);
     };
-    if !properties_distinct(schema) {
-        return PROPERTY_TWICE;
+    if SCHEMA_WIDTH < schema.len() {
+        if entries_distinct(schema) {
+            return unhashed(0);
+        }
+        return unhashed(PROPERTY_TWICE);
     }
-    0
+    let entries = hash_entries(schema);
+    if !hashed_distinct(schema, &entries) {
+        return unhashed(PROPERTY_TWICE);
+    }
+    Records {
+        refusal: 0,
+        entries,
+    }
 }
 
 // Refusals 6 and 7 of a good schema and a script, where so many terms are numbered, 0 for none.
@@ -90,30 +121,44 @@ pub fn script_refusal(terms: usize, schema: &[u8], script: &[u8]) -> u8
 // Ruled out: a script read before its terms are numbered; 513 terms accepted.
 pub fn read_card(terms: &[u8], schema: &[u8], script: &[u8], table: &mut [u8]) -> Ready
     requires { ⌜ now table ≡ replicate termTableWidth 0 ⌝ }
-    ensures { λ r. ⌜ (r ≡ readyOf (readTests (now (terms .entry)) (now (schema .entry)) (now (script .entry)))) × ((x : Parsed) → readTests (now (terms .entry)) (now (schema .entry)) (now (script .entry)) ≡ passed x → now (table .exit) ≡ termTable (x .terms)) ⌝ }
+    ensures { λ r. ⌜ r .refusal ≡ numberOf (readTests (now (terms .entry)) (now (schema .entry)) (now (script .entry))) ⌝ }
+    ensures { λ r. ⌜ ((x : Parsed) → readTests (now (terms .entry)) (now (schema .entry)) (now (script .entry)) ≡ passed x → ReadyOf x (now (schema .entry)) (now (table .exit)) r) ⌝ }
 {
-    let records = records_refusal(terms, schema);
-    if records != 0 {
-        return Ready::Refused(records);
-    }
-    let Added::Count(count) = number_terms(terms, schema, table) else {
-        return Ready::Refused(BAD_SCRIPT);
+    let mut hashes = [0u16; TERM_LIMIT];
+    let listed = list_terms(terms, table, &mut hashes);
+    let records = records_refusal(listed.refusal, schema);
+    let entries = records.entries;
+    let mut ready = Ready {
+        refusal: records.refusal,
+        count: 0,
+        entries,
     };
-    let refusal = script_refusal(count, schema, script);
-    if refusal != 0 {
-        return Ready::Refused(refusal);
+    if records.refusal != 0 {
+        return ready;
     }
-    Ready::Terms(count)
+    ready.refusal = BAD_SCRIPT;
+    let n = listed.count;
+    if TERM_LIMIT < n {
+        return ready;
+    }
+    let Added::Count(count) = add_properties(schema, table, n, &mut hashes) else {
+        return ready;
+    };
+    ready.count = count;
+    ready.refusal = script_refusal(count, schema, script);
+    ready
 }
 
 // A refusal's number and zeros.
-fn refused_card(refusal: u8) -> Card
-    ensures { λ r. ⌜ r ≡ refusedCard refusal ⌝ }
+fn refused_card(ready: Ready, refusal: u8) -> Card
+    ensures { λ r. ⌜ r ≡ refusedCard refusal (ready .entries) ⌝ }
 {
+    let entries = ready.entries;
     Card {
         refusal,
         count: 0,
-        types: [0; VARIABLES],
+        types: [0; VARIABLE_LIMIT],
+        entries,
     }
 }
 
@@ -128,23 +173,26 @@ pub fn check_card(
 ) -> Card
     requires { ⌜ now table ≡ replicate termTableWidth 0 ⌝ }
     requires { ⌜ length (now leasts) ≡ termLimit ⌝ }
-    ensures { λ r. ⌜ (r ≡ cardOf (check (now (terms .entry)) (now (schema .entry)) (now (script .entry)))) × ((c : Checked) → check (now (terms .entry)) (now (schema .entry)) (now (script .entry)) ≡ passed c → TablesOf c (now (table .exit)) (now (leasts .exit))) ⌝ }
+    ensures { λ r. ⌜ r ≡ cardOf (check (now (terms .entry)) (now (schema .entry)) (now (script .entry))) (r .entries) ⌝ }
+    ensures { λ r. ⌜ ((c : Checked) → check (now (terms .entry)) (now (schema .entry)) (now (script .entry)) ≡ passed c
+        → TablesOf c (now (schema .entry)) (now (table .exit)) (now (leasts .exit)) (r .entries)) ⌝ }
 {
     let ready = read_card(terms, schema, script, table);
-    match ready {
-        Ready::Refused(refusal) => refused_card(refusal),
-        Ready::Terms(count) => {
-            least_codes(table, count, schema, leasts);
-            let answer = work_out(script, &leasts[..count]);
-            if answer.refusal != 0 {
-                return refused_card(answer.refusal);
-            }
-            let types = answer.types;
-            Card {
-                refusal: 0,
-                count,
-                types,
-            }
-        }
+    if ready.refusal != 0 {
+        return refused_card(ready, ready.refusal);
+    }
+    let count = ready.count;
+    let entries = ready.entries;
+    least_codes(table, 0, count, schema, &entries, leasts);
+    let answer = work_out(script, &leasts[..count]);
+    if answer.refusal != 0 {
+        return refused_card(ready, answer.refusal);
+    }
+    let types = answer.types;
+    Card {
+        refusal: 0,
+        count,
+        types,
+        entries,
     }
 }

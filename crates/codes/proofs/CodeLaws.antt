@@ -55,7 +55,8 @@ module _ (k : ℕ) where
 
   pub other-code : (k < 2) ⊎ (6 ≤ k) → (1 ≡ datatypeCode (datatypeOf k)) × (1 < 8)
   other-code h = (
-    sym (ap datatypeCode (other-datatype k ((((tt, outside 2 (omega arith) (omega arith)), outside 3 (omega arith) (omega arith)), outside 4 (omega arith) (omega arith)), outside 5 (omega arith) (omega arith)))),
+    sym (ap datatypeCode (other-datatype k
+        ((((tt, outside 2 (omega arith) (omega arith)), outside 3 (omega arith) (omega arith)), outside 4 (omega arith) (omega arith)), outside 5 (omega arith) (omega arith)))),
     omega arith,
   )
     where

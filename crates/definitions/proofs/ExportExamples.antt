@@ -38,5 +38,6 @@ run-reports :
     ∷ ok (record { number = 10; saved = set (first .saved) 22 2; report = report })
     ∷ ok (record { number = 1; saved = take 485 (first .saved); report = report })
     ∷ []
-unfolding lent first loadedCard report opened Rattle.definitions.proofs.Season.card Rattle.definitions.proofs.Season.uri Rattle.definitions.proofs.Season.number Rattle.definitions.proofs.Season.withTables
+unfolding lent first loadedCard report opened Rattle.definitions.proofs.Season.card Rattle.definitions.proofs.Season.uri
+    Rattle.definitions.proofs.Season.number Rattle.definitions.proofs.Season.withTables
 run-reports = refl

@@ -13,7 +13,8 @@ use Rattle.definitions.specs.Reading.{parsed}
 use Rattle.definitions.specs.Scope.{inScope}
 use Rattle.definitions.specs.Typing.{verdict, writtenTypes, Verdict, noTyping}
 use Rattle.definitions.specs.Calls.{constantsOf}
-use Rattle.definitions.specs.Outcome.{Outcome, fault, graphNoURI, subjectNoURI, propertyNotInSchema, objectNotOfDatatype, fromNamedNoURI, textTestOnNoString, arithmeticOnNoNumber, nothingInCommon}
+use Rattle.definitions.specs.Outcome.{Outcome, fault, graphNoURI, subjectNoURI, propertyNotInSchema, objectNotOfDatatype, fromNamedNoURI, textTestOnNoString}
+use Rattle.definitions.specs.Outcome.{arithmeticOnNoNumber, nothingInCommon}
 use Rattle.definitions.specs.Machine.{Run, run, loaded, withProperties}
 use Rattle.definitions.proofs.Opened.{opened}
 
@@ -29,7 +30,7 @@ terms = withProperties schema (Term.uri (ascii "c:club") ∷ Term.integer (pos 3
 outcome : List ℕ → Option (Outcome Run × Verdict)
 outcome script =
     onward (parsed (length terms) script) (λ root. provided (inScope root) (some (
-      run schema (λ v. plain Datatype.anyURI) (pos 0) 10 (loaded terms root),
+      run (record { schema = schema; clock = pos 0 }) (λ v. plain Datatype.anyURI) 10 (loaded terms root),
       verdict (constantsOf schema terms) (writtenTypes root) root,
     )))
 

@@ -30,15 +30,18 @@ unfolding Ascii.ascii
 openAscii = tt
 
 unfoldable pub openTerms : Unit {0}
-unfolding Terms.fieldText Terms.uriText Terms.withinLimits Terms.termOfBody Terms.bodyOf Terms.slotOf Terms.bodyAt Terms.uriAt Terms.readTerm Terms.readEntry Terms.readTriple Terms.readTerms Terms.readSchema Terms.readPage Terms.sameNumber Terms.sameTerm Terms.datatypeIn Terms.sortOf
+unfolding Terms.fieldText Terms.uriText Terms.withinLimits Terms.termOfBody Terms.bodyOf Terms.slotOf Terms.bodyAt Terms.uriAt Terms.readTerm Terms.readEntry Terms.readTriple
+    Terms.readTerms Terms.readSchema Terms.readPage Terms.sameNumber Terms.sameTerm Terms.datatypeIn Terms.sortOf
 openTerms = tt
 
 unfoldable pub openText : Unit {0}
-unfolding Text.noLiteral Text.atomOf Text.piecesOf Text.patternOfText Text.patternOf Text.someCut Text.isAtom Text.oneByte Text.madeOf Text.accepts Text.withoutStar Text.rangeOfText Text.languageRangeOf Text.goesOn Text.matches
+unfolding Text.noLiteral Text.atomOf Text.piecesOf Text.patternOfText Text.patternOf Text.someCut Text.isAtom Text.oneByte Text.madeOf Text.accepts Text.withoutStar
+    Text.rangeOfText Text.languageRangeOf Text.goesOn Text.matches
 openText = tt
 
 unfoldable pub openReading : Unit {0}
-unfolding Reading.andThen Reading.oneOf Reading.twoOf Reading.fourOf Reading.readName Reading.readExpr Reading.withBody Reading.readCond Reading.readQuery Reading.writtenOf Reading.binderAt Reading.bindersAt Reading.withBinders Reading.readScript Reading.parsed
+unfolding Reading.andThen Reading.oneOf Reading.twoOf Reading.fourOf Reading.readName Reading.readExpr Reading.withBody Reading.readCond Reading.readQuery Reading.writtenOf
+    Reading.binderAt Reading.bindersAt Reading.withBinders Reading.readScript Reading.parsed
 openReading = tt
 
 unfoldable pub openScope : Unit {0}
@@ -46,7 +49,8 @@ unfolding Scope.inName Scope.inExpr Scope.inCond Scope.inQuery Scope.isFree Scop
 openScope = tt
 
 unfoldable pub openTyping : Unit {0}
-unfolding Typing.nameHas Typing.exprHas Typing.condTyped Typing.propertyTyped Typing.queryTyped Typing.scriptTyped Typing.writtenIn Typing.writtenTypes Typing.eachWith Typing.assignments Typing.those Typing.typings Typing.above Typing.firstAbove Typing.judge Typing.verdict
+unfolding Typing.nameHas Typing.exprHas Typing.condTyped Typing.propertyTyped Typing.queryTyped Typing.scriptTyped Typing.writtenIn Typing.writtenTypes Typing.eachWith
+    Typing.assignments Typing.those Typing.typings Typing.above Typing.firstAbove Typing.judge Typing.verdict
 openTyping = tt
 
 unfoldable pub openCalendar : Unit {0}
@@ -58,7 +62,9 @@ unfolding Outcome._>>=_ Outcome._>>_ Outcome.demand
 openOutcome = tt
 
 unfoldable pub openValues : Unit {0}
-unfolding Values.valueOf Values.numberIn Values.lifted Values.lifted₂ Values.sum Values.difference Values.absolute Values.shortDigits Values.naturalText Values.signText Values.integerText Values.fractionText Values.decimalText Values.textOf Values.ranks Values.rankIn Values.before Values.stringBefore Values.paired Values.present Values.sameTagged Values.equalPair Values.lessPair Values.stringIn Values.holdsOf
+unfolding Values.valueOf Values.numberIn Values.lifted Values.lifted₂ Values.sum Values.difference Values.absolute Values.shortDigits Values.naturalText Values.signText
+    Values.integerText Values.fractionText Values.decimalText Values.textOf Values.ranks Values.rankIn Values.before Values.stringBefore Values.paired Values.present
+    Values.sameTagged Values.equalPair Values.lessPair Values.stringIn Values.holdsOf
 openValues = tt
 
 unfoldable pub openEvaluate : Unit {0}
@@ -70,15 +76,17 @@ unfolding Search.fitting Search.eachInFront Search.tuples Search.after Search.fi
 openSearch = tt
 
 unfoldable pub openMachine : Unit {0}
-unfolding Machine.loaded Machine.enterNamed Machine.enterOnce Machine.enterEach Machine.act Machine.nextOf Machine.goOn Machine.look Machine.run Machine.numbered Machine.withProperties Machine.store Machine.wellTyped Machine.takeOne Machine.takeAll Machine.joined Machine.taken Machine.withPage Machine.inLimits
+unfolding Machine.loaded Machine.enterNamed Machine.enterOnce Machine.enterEach Machine.act Machine.nextOf Machine.goOn Machine.look Machine.run Machine.numbered
+    Machine.withProperties Machine.store Machine.wellTyped Machine.takeOne Machine.takeAll Machine.joined Machine.taken Machine.withPage Machine.inLimits
 openMachine = tt
 
 unfoldable pub openSaved : Unit {0}
-unfolding Saved.slots Saved.termTable Saved.slotTerm Saved.termsFrom Saved.termsIn Saved.quadBytes Saved.quadTable Saved.quadsFrom Saved.quadsIn Saved.placeFrom Saved.placeIn Saved.lastTuple Saved.stackFrom Saved.savedItem Saved.savedItems Saved.bindingsIn Saved.held Saved.savedOf
+unfolding Saved.slots Saved.termTable Saved.slotTerm Saved.termsFrom Saved.termsIn Saved.quadBytes Saved.quadTable Saved.quadsFrom Saved.quadsIn Saved.placeFrom Saved.placeIn
+    Saved.lastTuple Saved.stackFrom Saved.savedItem Saved.savedItems Saved.bindingsIn Saved.heldControl Saved.heldStore Saved.savedControl Saved.savedStore Saved.held
 openSaved = tt
 
 unfoldable pub openSound : Unit {0}
-unfolding Sound.beginsWith Sound.quadSound Sound.freeBound Sound.lastSound Sound.itemSound Sound.stackSound Sound.stateSound
+unfolding Sound.beginsWith Sound.quadSound Sound.freeBound Sound.lastSound Sound.itemSound Sound.stackSound Sound.storeSound Sound.controlSound Sound.stateSound
 openSound = tt
 
 unfoldable pub openResult : Unit {0}
@@ -86,7 +94,9 @@ unfolding Result._>>=_ Result._>>_ Result.require Result.given
 openResult = tt
 
 unfoldable pub openCalls : Unit {0}
-unfolding Calls.recordTests Calls.sizesFit Calls.scriptTests Calls.readTests Calls.constantsOf Calls.typesOf Calls.typeTests Calls.check Calls.reportedTypes Calls.tablesFit Calls.loadTests Calls.loadResult Calls.load Calls.checkedOf Calls.soundIn Calls.runIn Calls.runTests Calls.ranOf Calls.runResult Calls.runCall Calls.pageIn Calls.takeIn Calls.pageTests Calls.pageResult Calls.pageCall
+unfolding Calls.recordTests Calls.sizesFit Calls.scriptTests Calls.readTests Calls.constantsOf Calls.typesOf Calls.typeTests Calls.check Calls.reportedTypes Calls.tablesFit
+    Calls.loadTests Calls.loadResult Calls.load Calls.checkedOf Calls.soundIn Calls.entryTests Calls.runIn Calls.runTests Calls.ranOf Calls.runResult Calls.runCall Calls.pageIn
+    Calls.takeIn Calls.pageTests Calls.pageResult Calls.pageCall
 openCalls = tt
 
 unfoldable pub openCallList : Unit {0}
@@ -94,13 +104,16 @@ unfolding CallList.runDone CallList.pageDone CallList.machineCall CallList.machi
 openCallList = tt
 
 unfoldable pub openExports : Unit {0}
-unfolding Exports.words Exports.itemsBytes Exports.savedBytes Exports.wordsFrom Exports.itemsFrom Exports.itemsGood Exports.savedFrom Exports.runReport Exports.pageReport Exports.loadExport Exports.runExport Exports.pageExport
+unfolding Exports.words Exports.itemsBytes Exports.savedBytes Exports.wordsFrom Exports.itemsFrom Exports.itemsGood Exports.savedFrom Exports.runReport Exports.pageReport
+    Exports.loadExport Exports.runExport Exports.pageExport
 openExports = tt
 
 unfoldable pub openPrinter : Unit {0}
-unfolding Printer.entryBody Printer.endFrom Printer.termsEnd Printer.schemaEnd Printer.line Printer.datatypeName Printer.typeName Printer.typeLines Printer.boundCount Printer.printedResult Printer.printed
+unfolding Printer.entryBody Printer.endFrom Printer.termsEnd Printer.schemaEnd Printer.line Printer.datatypeName Printer.typeName Printer.typeLines Printer.boundCount
+    Printer.printedResult Printer.printed
 openPrinter = tt
 
 unfoldable pub opened : Unit {0}
-unfolding openBytes openAscii openTerms openText openReading openScope openTyping openCalendar openOutcome openValues openEvaluate openSearch openMachine openSaved openSound openResult openCalls openCallList openExports openPrinter
+unfolding openBytes openAscii openTerms openText openReading openScope openTyping openCalendar openOutcome openValues openEvaluate openSearch openMachine openSaved openSound
+    openResult openCalls openCallList openExports openPrinter
 opened = tt

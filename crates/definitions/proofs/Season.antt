@@ -152,17 +152,7 @@ with64 : Left → Left
 with64 x = record { answers = []; lent = x .lent; saved = fetch64 (x .saved) }
   where
     fetch64 : SavedRun → SavedRun
-    fetch64 r =
-        record {
-          height = r .height;
-          quads = r .quads;
-          graphs = 64;
-          types = r .types;
-          bound = r .bound;
-          bindings = r .bindings;
-          fetched = below 64;
-          items = r .items;
-        }
+    fetch64 r = record { control = r .control; store = record { quads = r .store .quads; graphs = 64; fetched = below 64 } }
 
 sixtyFifth :
     afterCalls (take 64 [] ∷ []) (with64 (afterLoad graphCard)) .answers ≡ paged (PageAnswers.Refused 14) ∷ []

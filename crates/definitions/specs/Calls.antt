@@ -19,7 +19,7 @@ use Rattle.definitions.specs.Outcome as Outcomes
 use Rattle.definitions.specs.Outcome.{Outcome, ok}
 use Rattle.definitions.specs.Machine.{State, Run, run, lastOf, loaded, withProperties, Taken, taken, withPage, inLimits}
 use Rattle.definitions.specs.Saved.{termTable, quadTable, held, savedOf, noRun}
-use Rattle.definitions.specs.Evaluate.{isURI}
+use Rattle.definitions.specs.Evaluate.{Setting, isURI}
 use Rattle.definitions.specs.Sound.{stateSound}
 use Rattle.definitions.specs.Result.{Result, refused, passed, _>>=_, _>>_, require, given}
 use Rattle.definitions.specs.declared.SavedRun.{SavedRun}
@@ -172,16 +172,26 @@ checkedOf (passed c) = some c
 unfoldable pub soundIn : Lent → SavedRun → Option Sound
 soundIn l saved =
     onward (checkedOf (check (l .terms) (l .schema) (l .script))) (λ c.
-    provided (sameBytes (saved .types) (reported c)) (onward (held (c .root) (l .termTable) (l .quadTable) saved) (λ s.
+    provided (sameBytes (saved .control .types) (reported c)) (onward (held (c .root) (l .termTable) (l .quadTable) saved) (λ s.
     provided (stateSound (c .schema) (c .types) (c .terms) (c .root) s) (some (record { checked = c; state = s })))))
 
+-- what a call on a saved run begins with: 1, 10
+unfoldable pub entryTests : Lent → SavedRun → Result Sound
+entryTests l saved = do
+  require 1 (lengthsFit l)
+  given 10 (soundIn l saved)
+
 -- ── run: 1, 10, 11 ──────────────────────────────────────────────────────────────────────────
+
+-- what a run's tuples are tried under
+abbrev pub settingOf : Checked → (now : ℤ) → Setting
+settingOf c now = record { schema = c .schema; clock = now }
 
 -- the machine's part of a run call
 unfoldable pub runIn : Checked → (budget : ℕ) → (now : ℤ) → State → Result (Outcome Run)
 runIn c budget now s = do
   require 11 (leb budget budgetLimit && isDateTime now)
-  passed (run (c .schema) (typeAt (c .types)) now budget s)
+  passed (run (settingOf c now) (typeAt (c .types)) budget s)
 
 -- where the machine runs: what loading finds, the state before, and the run
 pub record Running : Type 0 where
@@ -191,8 +201,7 @@ pub record Running : Type 0 where
 
 unfoldable pub runTests : Lent → SavedRun → (budget : ℕ) → (now : ℤ) → Result Running
 runTests l saved budget now = do
-  require 1 (lengthsFit l)
-  x ← given 10 (soundIn l saved)
+  x ← entryTests l saved
   r ← runIn (x .checked) budget now (x .state)
   passed (record { checked = x .checked; state = x .state; run = r })
 
@@ -241,8 +250,7 @@ pub record Taking : Type 0 where
 
 unfoldable pub pageTests : Lent → SavedRun → (graph : ℕ) → (page : List ℕ) → Result Taking
 pageTests l saved g page = do
-  require 1 (lengthsFit l)
-  x ← given 10 (soundIn l saved)
+  x ← entryTests l saved
   k ← takeIn (x .checked) g page (x .state)
   passed (record { checked = x .checked; taken = k })
 

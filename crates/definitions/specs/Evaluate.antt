@@ -72,13 +72,18 @@ propertyDatatype S (Term.integer n) = fault propertyNotInSchema
 propertyDatatype S (Term.decimal n) = fault propertyNotInSchema
 propertyDatatype S (Term.dateTime n) = fault propertyNotInSchema
 
--- over the schema, now, the terms by number, the quads and the bindings
-module _ (S : Schema) (clock : ℤ) (terms : List Term) (quads : List Quad) (β : Bindings) where
+-- what a tuple is tried under: the schema, and the value of now
+pub record Setting : Type 0 where
+  pub schema : Schema
+  pub clock : ℤ
+
+-- over the terms by number, the quads and the bindings
+module _ (σ : Setting) (terms : List Term) (quads : List Quad) (β : Bindings) where
   unfoldable pub expression : Expr → Outcome Value
   expression (Expr.name n) = do
     t ← named terms β n
     ok (valueOf (t .term))
-  expression Expr.now = ok (Value.dateTime clock)
+  expression Expr.now = ok (Value.dateTime (σ .clock))
   expression (Expr.str e) = do
     a ← expression e
     ok (Value.string (textOf a))
@@ -136,8 +141,8 @@ module _ (S : Schema) (clock : ℤ) (terms : List Term) (quads : List Quad) (β 
     O ← named terms β o
     demand (isURI (G .term)) graphNoURI
     demand (isURI (X .term)) subjectNoURI
-    d ← propertyDatatype S (P .term)
-    demand (hasType S (O .term) (plain d)) objectNotOfDatatype
+    d ← propertyDatatype (σ .schema) (P .term)
+    demand (hasType (σ .schema) (O .term) (plain d)) objectNotOfDatatype
     ok (stored (record { graph = G .number; subject = X .number; property = P .number; object = O .number }) quads)
   query (Query.both q r) = do
     a ← query q

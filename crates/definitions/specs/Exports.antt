@@ -1,5 +1,5 @@
 -- The calls on bytes, as other programs link them: saved run and report are lent as bytes too, and count as lent tables.
-use Prim.Native.Nat.{ℕ, zero, suc, _+_, _*_}
+use Prim.Native.Nat.{ℕ, zero, suc, _+_}
 use mathlib.Core.List.{List, [], _∷_, _++_, map}
 use mathlib.Core.Bool.{Bool, true, false, _&&_}
 use mathlib.Core.Option.{Option, none, some}
@@ -42,8 +42,10 @@ itemsBytes (i ∷ is) = itemBytes i ++ itemsBytes is
 
 unfoldable pub savedBytes : SavedRun → List ℕ
 savedBytes r =
-    words (r .height ∷ r .quads ∷ r .graphs ∷ [])
-    ++ (r .types ++ (map markOf (r .bound) ++ (words (r .bindings) ++ (words (r .fetched) ++ itemsBytes (r .items)))))
+    let c = r .control in
+    let s = r .store in
+    words (c .height ∷ s .quads ∷ s .graphs ∷ [])
+    ++ (c .types ++ (map markOf (c .bound) ++ (words (c .bindings) ++ (words (s .fetched) ++ itemsBytes (c .items)))))
 
 -- ── and back ────────────────────────────────────────────────────────────────────────────────
 
@@ -72,14 +74,14 @@ savedFrom b =
     let height = word b 0 in
     provided (leb height depthLimit && (every (λ m. leb m 1) (part b boundOffset variableLimit) && itemsGood height b itemsOffset))
     (some (record {
-      height = height;
-      quads = word b 2;
-      graphs = word b 4;
-      types = part b typesOffset variableLimit;
-      bound = map (eqb 1) (part b boundOffset variableLimit);
-      bindings = wordsFrom variableLimit b bindingsOffset;
-      fetched = wordsFrom graphLimit b fetchedOffset;
-      items = itemsFrom depthLimit height b itemsOffset;
+      control = record {
+        height = height;
+        types = part b typesOffset variableLimit;
+        bound = map (eqb 1) (part b boundOffset variableLimit);
+        bindings = wordsFrom variableLimit b bindingsOffset;
+        items = itemsFrom depthLimit height b itemsOffset;
+      };
+      store = record { quads = word b 2; graphs = word b 4; fetched = wordsFrom graphLimit b fetchedOffset };
     }))
 
 -- ── reports ─────────────────────────────────────────────────────────────────────────────────

@@ -5,7 +5,6 @@ use mathlib.Core.Bool.{Bool, true, false, cond, not, _&&_}
 use mathlib.Core.Option.{Option, none, some}
 use lib.Dec.{eqb, leb}
 use lib.ListN.{length}
-use lib.IntN.{ℤ}
 use Rattle.definitions.specs.Limits.{termLimit, quadLimit, graphLimit}
 use Rattle.definitions.specs.Lists.{keep, isIn}
 use Rattle.definitions.specs.Types.{Datatype, plain}
@@ -13,7 +12,7 @@ use Rattle.definitions.specs.Terms.{Term, Schema, Triple, datatypeIn, ha
 use Rattle.definitions.specs.Tree.{Query, Script, success, fromNamed, block, sequence}
 use Rattle.definitions.specs.Scope.{variablesOf}
 use Rattle.definitions.specs.Outcome.{Outcome, ok, _>>=_, _>>_, demand, fromNamedNoURI}
-use Rattle.definitions.specs.Evaluate.{Bindings, Quad, stored, Named, named, isURI}
+use Rattle.definitions.specs.Evaluate.{Setting, Bindings, Quad, stored, Named, named, isURI}
 use Rattle.definitions.specs.Search.{Typing, Tuple, bind, answer}
 use Rattle.definitions.specs.declared.RunState.{RunState}
 use Rattle.definitions.specs.declared.RunState.the-variants.{Ended, Wanted, Waiting, Spent}
@@ -78,10 +77,10 @@ unfoldable pub enterEach : State → (variables : List ℕ) → (rest : List Ite
 enterEach s vs rest stack none = step (withStack s rest)
 enterEach s vs rest stack (some t) = step (withAnswer s vs t (stack t))
 
-module _ (S : Schema) (Γ : Typing) (clock : ℤ) where
+module _ (σ : Setting) (Γ : Typing) where
   -- answers are looked for in the store of that moment
   abbrev pub answerNow : State → (variables : List ℕ) → Query → (last : Option Tuple) → Outcome (Option Tuple)
-  answerNow s vs q last = answer S Γ clock (s .store .terms) (s .store .quads) (s .control .bindings) vs q last
+  answerNow s vs q last = answer σ Γ (s .store .terms) (s .store .quads) (s .control .bindings) vs q last
 
   -- the top item acts on the rest
   unfoldable pub act : State → (rest : List Item) → (last : Option Tuple) → Script → Outcome Next
@@ -137,14 +136,14 @@ goOn more (step s) = do
   ok (preceded s r)
 goOn more (stand r) = ok (still r)
 
-module _ (S : Schema) (Γ : Typing) (clock : ℤ) where
+module _ (σ : Setting) (Γ : Typing) where
   -- with no budget left the machine looks whether it stands; an each block always has a step to take, and is not searched
   unfoldable pub look : State → List Item → Outcome RunState
   look s [] = ok Ended
   look s (i ∷ rest) =
       elim (isEachBlock (i .script)) [
         | true ↦ ok Spent
-        | false ↦ act S Γ clock s rest (i .last) (i .script) >>= λ n. ok (endingOf n)
+        | false ↦ act σ Γ s rest (i .last) (i .script) >>= λ n. ok (endingOf n)
       ]
 
   unfoldable pub run : (budget : ℕ) → State → Outcome Run
@@ -152,7 +151,7 @@ module _ (S : Schema) (Γ : Typing) (clock : ℤ) where
     r ← look s (s .control .stack)
     ok (still r)
   run (suc budget) s = do
-    n ← next S Γ clock s
+    n ← next σ Γ s
     goOn (run budget) n
 
 -- the state after a list of states passed

@@ -13,8 +13,10 @@ use Rattle.definitions.specs.Tree.{Script, success, fromNamed, block, se
 use Rattle.definitions.specs.Scope.{variables}
 use Rattle.definitions.specs.Evaluate.{Quad, Bindings}
 use Rattle.definitions.specs.Search.{Tuple}
-use Rattle.definitions.specs.Machine.{Item, State}
+use Rattle.definitions.specs.Machine.{Item, Control, Store, State}
 use Rattle.definitions.specs.declared.SavedItem.{SavedItem}
+use Rattle.definitions.specs.declared.SavedControl.{SavedControl}
+use Rattle.definitions.specs.declared.SavedStore.{SavedStore}
 use Rattle.definitions.specs.declared.SavedRun.{SavedRun}
 
 -- ── the term table: a record and zeros in each 49 bytes, zeros after the last ───────────────
@@ -139,7 +141,7 @@ zeroItem = record { «at» = 0; started = false; last = filled pairLimit [] }
 
 -- ── bindings ────────────────────────────────────────────────────────────────────────────────
 
-unfoldable pub bindingsIn : SavedRun → Bindings
+unfoldable pub bindingsIn : SavedControl → Bindings
 bindingsIn saved v = cond (ltb v variableLimit && getD (saved .bound) v false) (some (getD (saved .bindings) v 0)) none
 
 abbrev pub isBound : Option ℕ → Bool
@@ -150,47 +152,58 @@ abbrev pub numberOrZero : Option ℕ → ℕ
 numberOrZero none = 0
 numberOrZero (some i) = i
 
+-- ── control and store ───────────────────────────────────────────────────────────────────────
+
+-- the control that a saved control holds; none where it holds none
+unfoldable pub heldControl : (root : Script) → SavedControl → Option Control
+heldControl root saved =
+    provided (leb (saved .height) depthLimit) (onward (stackFrom root (saved .height) (saved .items)) (λ stack.
+    some (record { stack = stack; bindings = bindingsIn saved })))
+
+-- the store that tables and saved store hold; none where they hold none
+unfoldable pub heldStore : (termTable quadTable : List ℕ) → SavedStore → Option Store
+heldStore tt qt saved =
+    onward (termsIn tt) (λ terms.
+    onward (quadsIn (saved .quads) qt) (λ quads.
+    provided (leb (saved .graphs) graphLimit) (some (record { terms = terms; quads = quads; fetched = take (saved .graphs) (saved .fetched) }))))
+
+-- with the reported types by their codes
+unfoldable pub savedControl : (types : List ℕ) → Control → SavedControl
+savedControl types c =
+    let items = savedItems (c .stack) in
+    record {
+      height = length (c .stack);
+      types = types;
+      bound = map (λ v. isBound (c .bindings v)) variables;
+      bindings = map (λ v. numberOrZero (c .bindings v)) variables;
+      items = items ++ replicate (depthLimit - length items) zeroItem;
+    }
+
+unfoldable pub savedStore : Store → SavedStore
+savedStore s = record { quads = length (s .quads); graphs = length (s .fetched); fetched = filled graphLimit (s .fetched) }
+
 -- ── the whole ───────────────────────────────────────────────────────────────────────────────
 
 -- the state that saved run and tables hold; none where they hold none
 unfoldable pub held : (root : Script) → (termTable quadTable : List ℕ) → SavedRun → Option State
 held root tt qt saved =
-    onward (termsIn tt) (λ terms.
-    onward (quadsIn (saved .quads) qt) (λ quads.
-    provided (leb (saved .graphs) graphLimit && leb (saved .height) depthLimit) (onward (stackFrom root (saved .height) (saved .items)) (λ stack.
-    some (record {
-      control = record { stack = stack; bindings = bindingsIn saved };
-      store = record { terms = terms; quads = quads; fetched = take (saved .graphs) (saved .fetched) };
-    })))))
+    onward (heldStore tt qt (saved .store)) (λ store.
+    onward (heldControl root (saved .control)) (λ control. some (record { control = control; store = store })))
 
--- the saved run of a state, with the reported types by their codes
-unfoldable pub savedOf : (types : List ℕ) → State → SavedRun
-savedOf types s =
-    let stack = s .control .stack in
-    let β = s .control .bindings in
-    let fetched = s .store .fetched in
-    let items = savedItems stack in
-    record {
-      height = length stack;
-      quads = length (s .store .quads);
-      graphs = length fetched;
-      types = types;
-      bound = map (λ v. isBound (β v)) variables;
-      bindings = map (λ v. numberOrZero (β v)) variables;
-      fetched = filled graphLimit fetched;
-      items = items ++ replicate (depthLimit - length items) zeroItem;
-    }
+-- the saved run of a state
+abbrev pub savedOf : (types : List ℕ) → State → SavedRun
+savedOf types s = record { control = savedControl types (s .control); store = savedStore (s .store) }
 
 -- the saved run of a refused load
 abbrev pub noRun : SavedRun
 noRun =
     record {
-      height = 0;
-      quads = 0;
-      graphs = 0;
-      types = replicate variableLimit 0;
-      bound = replicate variableLimit false;
-      bindings = replicate variableLimit 0;
-      fetched = replicate graphLimit 0;
-      items = replicate depthLimit zeroItem;
+      control = record {
+        height = 0;
+        types = replicate variableLimit 0;
+        bound = replicate variableLimit false;
+        bindings = replicate variableLimit 0;
+        items = replicate depthLimit zeroItem;
+      };
+      store = record { quads = 0; graphs = 0; fetched = replicate graphLimit 0 };
     }

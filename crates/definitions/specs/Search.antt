@@ -4,14 +4,13 @@ use mathlib.Core.List.{List, [], _∷_, _++_, map}
 use mathlib.Core.Bool.{Bool, true, false, cond}
 use mathlib.Core.Option.{Option, none, some}
 use lib.Dec.{eqb}
-use lib.IntN.{ℤ}
 use Rattle.definitions.specs.Lists.{keep}
 use Rattle.definitions.specs.Types.{Ty}
 use Rattle.definitions.specs.Terms.{Term, Schema, hasType}
 use Rattle.definitions.specs.Tree.{Query}
 use Rattle.definitions.specs.Outcome.{Outcome, ok, _>>=_}
 use Rattle.definitions.specs.Values.{before}
-use Rattle.definitions.specs.Evaluate.{Bindings, Quad, query}
+use Rattle.definitions.specs.Evaluate.{Setting, Bindings, Quad, query}
 
 -- the type of each variable
 abbrev pub Typing : Type 0
@@ -59,5 +58,5 @@ bind (v ∷ vs) [] β = β
 bind (v ∷ vs) (i ∷ t) β = λ x. cond (eqb x v) (some i) (bind vs t β x)
 
 -- a block's first answer, after the tuple last used
-unfoldable pub answer : Schema → Typing → (clock : ℤ) → List Term → List Quad → Bindings → (variables : List ℕ) → Query → (last : Option Tuple) → Outcome (Option Tuple)
-answer S Γ clock terms quads β vs q last = first (λ t. query S clock terms quads (bind vs t β) q) (after last (tuples S Γ terms vs))
+unfoldable pub answer : Setting → Typing → List Term → List Quad → Bindings → (variables : List ℕ) → Query → (last : Option Tuple) → Outcome (Option Tuple)
+answer σ Γ terms quads β vs q last = first (λ t. query σ terms quads (bind vs t β) q) (after last (tuples (σ .schema) Γ terms vs))

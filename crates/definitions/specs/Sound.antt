@@ -13,7 +13,7 @@ use Rattle.definitions.specs.Scope.{variables, variablesOf, isFree, bind
 use Rattle.definitions.specs.Typing.{typeAt}
 use Rattle.definitions.specs.Evaluate.{Quad, sameQuad, Bindings}
 use Rattle.definitions.specs.Search.{Tuple}
-use Rattle.definitions.specs.Machine.{Item, State, objectFits, inLimits}
+use Rattle.definitions.specs.Machine.{Item, Control, Store, State, objectFits, inLimits}
 use Rattle.definitions.specs.Saved.{Place, placeIn, offsetOf, isBound}
 
 -- terms begin as loading numbers them
@@ -90,19 +90,22 @@ bindingSound S Γ terms bound v (some i) = isIn v bound && numberHas S terms i (
 
 -- ── the state ───────────────────────────────────────────────────────────────────────────────
 
--- over the schema, the reported types, the terms as loading numbers them and the script
+-- terms, quads and fetched graphs, over the schema and the terms as loading numbers them
+unfoldable pub storeSound : Schema → (known : List Term) → Store → Bool
+storeSound S known s =
+    distinct sameTerm (s .terms)
+    && (beginsWith known (s .terms)
+    && (distinct sameQuad (s .quads)
+    && (every (quadSound S (s .terms) (s .fetched)) (s .quads)
+    && (distinct eqb (s .fetched)
+    && (every (isURINumber S (s .terms)) (s .fetched)
+    && inLimits s)))))
+
+-- stack and bindings, over the schema, the reported types, the script and the store's terms
+unfoldable pub controlSound : Schema → List Ty → (root : Script) → List Term → Control → Bool
+controlSound S Γ root terms c =
+    stackSound root (length terms) (c .bindings) (c .stack)
+    && every (λ v. bindingSound S Γ terms (variablesOf (bindersOf root)) v (c .bindings v)) variables
+
 unfoldable pub stateSound : Schema → List Ty → (known : List Term) → (root : Script) → State → Bool
-stateSound S Γ known root s =
-    let terms = s .store .terms in
-    let quads = s .store .quads in
-    let fetched = s .store .fetched in
-    let β = s .control .bindings in
-    distinct sameTerm terms
-    && (beginsWith known terms
-    && (distinct sameQuad quads
-    && (every (quadSound S terms fetched) quads
-    && (distinct eqb fetched
-    && (every (isURINumber S terms) fetched
-    && (inLimits (s .store)
-    && (stackSound root (length terms) β (s .control .stack)
-    && every (λ v. bindingSound S Γ terms (variablesOf (bindersOf root)) v (β v)) variables)))))))
+stateSound S Γ known root s = storeSound S known (s .store) && controlSound S Γ root (s .store .terms) (s .control)

@@ -64,7 +64,7 @@ pub const BUDGET_LIMIT: u64 = 60000;
 
 pub const PAGE_LIMIT: usize = 65536;
 
-pub const VARIABLES: usize = 16;
+pub const VARIABLE_LIMIT: usize = 16;
 
 pub const INTEGER_LIMIT: u64 = 1000000000000;
 
@@ -89,11 +89,11 @@ pub const QUAD_NUMBERS: usize = 4 * QUAD_LIMIT;
 // The saved run as bytes: three counts, then its parts, each from its offset on.
 pub const TYPES_OFFSET: usize = 6;
 
-pub const BOUND_OFFSET: usize = TYPES_OFFSET + VARIABLES;
+pub const BOUND_OFFSET: usize = TYPES_OFFSET + VARIABLE_LIMIT;
 
-pub const BINDINGS_OFFSET: usize = BOUND_OFFSET + VARIABLES;
+pub const BINDINGS_OFFSET: usize = BOUND_OFFSET + VARIABLE_LIMIT;
 
-pub const FETCHED_OFFSET: usize = BINDINGS_OFFSET + 2 * VARIABLES;
+pub const FETCHED_OFFSET: usize = BINDINGS_OFFSET + 2 * VARIABLE_LIMIT;
 
 pub const ITEMS_OFFSET: usize = FETCHED_OFFSET + 2 * GRAPH_LIMIT;
 
@@ -147,17 +147,26 @@ pub struct SavedItem {
     pub last: [u16; PAIR_LIMIT],
 }
 
-// The saved run (document 01's term): the machine's stack from the bottom, its bindings and its fetched list, the
-// reported types by document 01's codes, and the number of quads in use.
-pub struct SavedRun {
+// The saved run (document 01's term), in the parts of the machine's state. The control: the stack from the bottom and the
+// bindings, with the reported types by document 01's codes.
+pub struct SavedControl {
     pub height: u16,
+    pub types: [u8; VARIABLE_LIMIT],
+    pub bound: [bool; VARIABLE_LIMIT],
+    pub bindings: [u16; VARIABLE_LIMIT],
+    pub items: [SavedItem; ITEM_LIMIT],
+}
+
+// The store, beside its tables: the number of quads in use, and the fetched list.
+pub struct SavedStore {
     pub quads: u16,
     pub graphs: u16,
-    pub types: [u8; VARIABLES],
-    pub bound: [bool; VARIABLES],
-    pub bindings: [u16; VARIABLES],
     pub fetched: [u16; GRAPH_LIMIT],
-    pub items: [SavedItem; ITEM_LIMIT],
+}
+
+pub struct SavedRun {
+    pub control: SavedControl,
+    pub store: SavedStore,
 }
 
 // How a run call ends; the wanted graph goes by its term number.

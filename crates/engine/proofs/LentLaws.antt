@@ -1,42 +1,19 @@
--- Laws of what a call is lent: lengths, the least types of terms, and what a sound saved run is of.
+-- Laws of what a call is lent: arrays of structs, and graphs by the least types of terms.
 use Prim.Native.Nat.{ℕ, _≤_}
-use native.Mathlib.Omega.{arith}
 use mathlib.Core.Path.{_≡_, refl, sym, _∙_}
 use mathlib.Core.List.{List, map}
-use mathlib.Core.Bool.{Bool, true, false, _&&_}
+use mathlib.Core.Bool.{Bool, true, false}
 use mathlib.Core.Option.{Option, none, some}
-use lib.Dec.{eqb}
 use lib.ListN.{length, getElem?, length-map}
 use Rattle.definitions.specs.Types.{Datatype, plain}
 use Rattle.definitions.specs.Terms.{Term, Schema, datatypeIn, Sort, has, sortOf, hasType}
 use Rattle.definitions.specs.Evaluate.{isURI}
 use Rattle.definitions.specs.Sound.{termHas}
-use Rattle.definitions.specs.Limits.{termTableWidth, quadTableWidth}
-use Rattle.definitions.specs.Calls.{isGraph, Lent, lengthsFit, tablesFit}
-use borrow.Author.Tests.{eqb-true, le-ltb}
-use Rattle.laws.specs.ReadAnswers.{isSome}
-use Rattle.soundness.specs.Store.{LeastOf, uriNumber}
+use Rattle.definitions.specs.Calls.{isGraph}
+use borrow.Author.Tests.{le-ltb}
+use Rattle.laws.specs.Sorts.{LeastOf}
+use Rattle.soundness.specs.Store.{uriNumber}
 use Rattle.soundness.proofs.TermTests.{uri-number}
-
--- ── two tests ───────────────────────────────────────────────────────────────────────────────
-
-pub and-left : (a b : Bool) → a && b ≡ true → a ≡ true
-and-left true b e = refl
-and-left false b e = e
-
-pub and-right : (a b : Bool) → a && b ≡ true → b ≡ true
-and-right true b e = e
-and-right false b e = absurd (let z : _≡_ {A = ℕ} 0 1 = cc in omega arith)
-
--- ── what is there ───────────────────────────────────────────────────────────────────────────
-
-pub some-of : {A : Type 0} (o : Option A) → isSome o ≡ true → (a : A) × (o ≡ some a)
-some-of none e = absurd (let z : _≡_ {A = ℕ} 0 1 = cc in omega arith)
-some-of (some a) e = (a, refl)
-
-pub none-of : {A : Type 0} (o : Option A) → isSome o ≡ false → o ≡ none
-none-of none e = refl
-none-of (some a) e = absurd (let z : _≡_ {A = ℕ} 0 1 = cc in omega arith)
 
 -- an array of structs has the length of what is made of each
 pub length-mapped : (A B : Type 0) (f : A → B) (l : List A) (n : ℕ) → length (map f l) ≡ n → length l ≡ n
@@ -67,14 +44,3 @@ module _ (leasts : List ℕ) (count g : ℕ) where
   pub graph-past : count ≤ g → false ≡ uriNumber leasts count g
   unfolding uriNumber
   graph-past h = rw (le-ltb g count h) refl
-
--- ── lengths ─────────────────────────────────────────────────────────────────────────────────
-
-module _ (l : Lent) (fit : lengthsFit l ≡ true) where
-  pub fit-terms : length (l .termTable) ≡ termTableWidth
-  unfolding tablesFit
-  fit-terms = eqb-true (length (l .termTable)) termTableWidth (and-left (eqb (length (l .termTable)) termTableWidth) (eqb (length (l .quadTable)) quadTableWidth) fit)
-
-  pub fit-quads : length (l .quadTable) ≡ quadTableWidth
-  unfolding tablesFit
-  fit-quads = eqb-true (length (l .quadTable)) quadTableWidth (and-right (eqb (length (l .termTable)) termTableWidth) (eqb (length (l .quadTable)) quadTableWidth) fit)

@@ -1,7 +1,6 @@
 pub mod LoadLaws
 pub mod LentLaws
 pub mod ClockLaws
-pub mod SoundLaws
 pub mod PassedLaws
 pub mod PageLaws
 pub mod TakeLaws

@@ -5,16 +5,15 @@ use mathlib.Core.Path.{_≡_, sym, ap, _∙_}
 use mathlib.Core.List.{List, [], _++_}
 use mathlib.Core.Bool.{Bool, true, false, _&&_}
 use mathlib.Core.Option.{some}
-use borrow.Author.Tests.{eq-eqb, ne-eqb}
 use lib.Dec.{eqb, leb, leb→le}
 use lib.ListN.{length, take, drop}
-use Rattle.definitions.specs.Limits.{depthLimit, termLimit, entryLimit, scriptLimit, termTableWidth, quadTableWidth}
+use Rattle.definitions.specs.Limits.{depthLimit, termLimit, entryLimit, scriptLimit, termTableWidth}
 use Rattle.definitions.specs.Bytes.{filled, provided}
 use Rattle.definitions.specs.Terms.{Term}
 use Rattle.definitions.specs.Tree.{Script, success, fromNamed, block, sequence}
 use Rattle.definitions.specs.Reading.{readScript, parsed}
 use Rattle.definitions.specs.Machine.{loaded}
-use Rattle.definitions.specs.Saved.{termTable, quadTable, quadBytes, offsetOf, savedItem, savedItems, savedOf}
+use Rattle.definitions.specs.Saved.{termTable, quadTable, quadBytes, offsetOf, savedItem, savedItems, savedControl, savedStore, savedOf}
 use Rattle.definitions.specs.Result.{Result, refused, passed}
 use Rattle.definitions.specs.Calls.{Checked, Lent, LoadResult, tablesFit, loadTests, loadResult, check, sizesFit, reported}
 use Rattle.definitions.specs.Calls as Calls
@@ -30,8 +29,10 @@ use Rattle.laws.proofs.Tests.{andLeft, trueIs}
 use Rattle.laws.proofs.Valid.{check-valid}
 use Rattle.laws.proofs.Writing.{copied}
 use Rattle.card.specs.Check.{numberOf, cardOf, TablesOf}
-use Rattle.engine.specs.BareRun.{bareRun, refusedLoad, acceptedLoad}
+use Rattle.store.specs.Bare.{bareRun}
+use Rattle.engine.specs.Refused.{refusedLoad, acceptedLoad}
 use Rattle.card.specs.declared.refusals.Card.{Card}
+use Rattle.entry.proofs.EntryLaws.{fit-both}
 use Rattle.card.proofs.RefusalNumbers.{refused-number, passed-number}
 use Rattle.card.proofs.CheckLaws.{card-number, check-not-zero}
 
@@ -52,7 +53,7 @@ parsed-offset terms s c e =
 
 -- the saved run of a state that was just loaded
 saved-fresh : (types : List ℕ) (terms : List Term) (root : Script) → offsetOf root ≡ 0 → bareRun 1 types ≡ savedOf types (loaded terms root)
-unfolding savedOf loaded savedItems savedItem filled
+unfolding savedControl savedStore loaded savedItems savedItem filled
 saved-fresh types terms root e = rw e
 
 -- ── the tests ───────────────────────────────────────────────────────────────────────────────
@@ -72,34 +73,24 @@ module _ (l : Lent) where
       let k = load-is e in
       (f ∙ sym (ap (λ (x : LoadResult). x .returned) k), sym (ap (λ (x : LoadResult). x .termTable) k), sym (ap (λ (x : LoadResult). x .quadTable) k))
 
-  pub term-bytes : (length (l .termTable) ≡ termTableWidth → ⊥) → loadTests l ≡ refused 1
-  unfolding loadTests tablesFit
-  term-bytes h = require-refused 1 _ (ap (λ (b : Bool). b && eqb (length (l .quadTable)) quadTableWidth) (ne-eqb (length (l .termTable)) termTableWidth h))
+  module _ {a : Bool} (ea : a ≡ tablesFit (length (l .termTable)) (length (l .quadTable))) where
+    pub other-length : a ≡ false → loadTests l ≡ refused 1
+    unfolding loadTests
+    other-length e = require-refused 1 _ (sym ea ∙ e)
 
-  module _ (ht : length (l .termTable) ≡ termTableWidth) where
-    pub quad-bytes : (length (l .quadTable) ≡ quadTableWidth → ⊥) → loadTests l ≡ refused 1
-    unfolding loadTests tablesFit
-    quad-bytes h =
-        let no : tablesFit (length (l .termTable)) (length (l .quadTable)) ≡ false =
-        rw (eq-eqb (length (l .termTable)) termTableWidth ht) (ne-eqb (length (l .quadTable)) quadTableWidth h) in
-        require-refused 1 _ no
-
-    module _ (hq : length (l .quadTable) ≡ quadTableWidth) {card : Card} (ec : card ≡ cardOf (check (l .terms) (l .schema) (l .script))) where
+    module _ (fit : a ≡ true) {card : Card} (ec : card ≡ cardOf (check (l .terms) (l .schema) (l .script)) (card .entries)) where
       only-check : loadTests l ≡ check (l .terms) (l .schema) (l .script)
-      unfolding loadTests tablesFit
-      only-check =
-          let yes : tablesFit (length (l .termTable)) (length (l .quadTable)) ≡ true =
-          rw (eq-eqb (length (l .termTable)) termTableWidth ht) (eq-eqb (length (l .quadTable)) quadTableWidth hq) in
-          require-after 1 _ _ (trueIs _ yes)
+      unfolding loadTests
+      only-check = require-after 1 _ _ (trueIs _ (sym ea ∙ fit))
 
       number : card .refusal ≡ numberOf (check (l .terms) (l .schema) (l .script))
-      number = ap (λ (k : Card). k .refusal) ec ∙ card-number (check (l .terms) (l .schema) (l .script))
+      number = ap (λ (k : Card). k .refusal) ec ∙ card-number (check (l .terms) (l .schema) (l .script)) (card .entries)
 
       pub check-refused : (card .refusal ≡ 0 → ⊥) → loadTests l ≡ refused (card .refusal)
       check-refused h = only-check ∙ refused-number (check (l .terms) (l .schema) (l .script)) number h
 
       module _ (z : card .refusal ≡ 0) {table leasts : List ℕ}
-          (hc : (c : Checked) → check (l .terms) (l .schema) (l .script) ≡ passed c → TablesOf c table leasts) where
+          (hc : (c : Checked) → check (l .terms) (l .schema) (l .script) ≡ passed c → TablesOf c (l .schema) table leasts (card .entries)) where
         found : (c : Checked) × (check (l .terms) (l .schema) (l .script) ≡ passed c)
         found = passed-number (check (l .terms) (l .schema) (l .script)) (check-not-zero (l .terms) (l .schema) (l .script)) number z
 
@@ -123,12 +114,12 @@ module _ (l : Lent) where
             let c = found .0 in
             let k = load-is (only-check ∙ found .1) in
             let p = check-passed (l .terms) (l .schema) (l .script) c (found .1) in
-            let types : card .types ≡ reported c = ap (λ (k : Card). k .types) (ec ∙ ap cardOf (found .1)) in
+            let types : card .types ≡ reported c = ap (λ (k : Card). k .types) (ec ∙ ap (λ (m : Result Checked). cardOf m (card .entries)) (found .1)) in
             let root = parsed-offset (length (c .terms)) (l .script) (c .root) (p .reads .parses) in
-            let width : length empty ≡ length (l .quadTable) = ap length fe ∙ quad-table-length [] (omega arith) ∙ sym hq in (
+            let width : length empty ≡ length (l .quadTable) = ap length fe ∙ quad-table-length [] (omega arith) ∙ sym (fit-both l ea fit .1) in (
               f ∙ ap acceptedLoad types
                   ∙ ap (λ (s : SavedRun). record { answer = LoadAnswers.Accepted; saved = s }) (saved-fresh (reported c) (c .terms) (c .root) root)
                   ∙ sym (ap (λ (x : LoadResult). x .returned) k),
-              ft ∙ copied table (l .termTable) (table-width ∙ sym ht) ∙ slots ∙ sym (ap (λ (x : LoadResult). x .termTable) k),
+              ft ∙ copied table (l .termTable) (table-width ∙ sym (fit-both l ea fit .0)) ∙ slots ∙ sym (ap (λ (x : LoadResult). x .termTable) k),
               fq ∙ copied empty (l .quadTable) width ∙ fe ∙ sym (ap (λ (x : LoadResult). x .quadTable) k),
             )

@@ -15,10 +15,10 @@ use Rattle.definitions.specs.Machine.{State, Taken, taken, withPage, inLimits}
 use Rattle.definitions.specs.Saved.{termTable, quadTable}
 use Rattle.definitions.specs.Result.{Result, refused, passed, _>>=_, _>>_, require, given}
 use Rattle.definitions.specs.Calls as Calls
-use Rattle.definitions.specs.Calls.{Checked, Lent, lengthsFit, soundIn, isGraph, pageIn, PageTaken, pageTaken, takeIn, Taking, pageTests, PageResult, pageResult, pageCall}
+use Rattle.definitions.specs.Calls.{Checked, Lent, entryTests, isGraph, pageIn, PageTaken, pageTaken, takeIn, Taking, pageTests, PageResult, pageResult, pageCall}
 use Rattle.definitions.specs.declared.SavedRun.{SavedRun}
 use Rattle.definitions.specs.declared.Paged.{Paged}
-use Rattle.laws.proofs.Results.{given-bind, require-after, given-refused, require-refused}
+use Rattle.laws.proofs.Results.{given-bind, require-after, given-refused, require-refused, bind-refused, bind-passed}
 use Rattle.laws.specs.ReadAnswers.{isSome}
 use Rattle.fields.specs.Answers.{countOf}
 use Rattle.fields.specs.declared.Counted.{Counted}
@@ -60,57 +60,49 @@ module _ (l : Lent) (saved : SavedRun) (g : ℕ) (page : List ℕ) where
   abbrev after : Calls.Sound → Result Taking
   after x = takeIn (x .checked) g page (x .state) >>= λ k. passed (record { checked = x .checked; taken = k })
 
-  pub refused-1 : lengthsFit l ≡ false → {r : Paged} → r ≡ refusedPaged saved 1 → pageCall l saved g page ≡ keeping r
+  pub entry-refused : {n : ℕ} → entryTests l saved ≡ refused n → {r : Paged} → r ≡ refusedPaged saved n → pageCall l saved g page ≡ keeping r
   unfolding pageCall pageTests pageResult
-  refused-1 e k = ap (pageResult l saved) (require-refused 1 (given 10 (soundIn l saved) >>= after) e) ∙ ap keeping (sym k)
+  entry-refused e k = ap (pageResult l saved) (bind-refused after e) ∙ ap keeping (sym k)
 
-  module _ (fit : lengthsFit l ≡ true) where
-    tests : (r : Result Taking) → (given 10 (soundIn l saved) >>= after) ≡ r → pageCall l saved g page ≡ pageResult l saved r
+  module _ (x : Calls.Sound) (entered : entryTests l saved ≡ passed x) where
+    abbrev s : State
+    s = x .state
+
+    abbrev c : Checked
+    c = x .checked
+
+    abbrev result : Result PageTaken → PageResult
+    result r = pageResult l saved (r >>= λ k. passed (record { checked = c; taken = k }))
+
+    goes-on : (r : Result PageTaken) → takeIn c g page s ≡ r → pageCall l saved g page ≡ result r
     unfolding pageCall pageTests
-    tests r e = ap (pageResult l saved) (require-after 1 (lengthsFit l) (given 10 (soundIn l saved) >>= after) (trueIs (lengthsFit l) fit) ∙ e)
+    goes-on r e = ap (pageResult l saved) (bind-passed after entered) ∙ ap result e
 
-    pub refused-10 : soundIn l saved ≡ none → {r : Paged} → r ≡ refusedPaged saved 10 → pageCall l saved g page ≡ keeping r
-    unfolding pageResult
-    refused-10 e k = tests (refused 10) (given-refused 10 after e) ∙ ap keeping (sym k)
+    abbrev from14 : List Triple → Result PageTaken
+    from14 rs = require 14 (inLimits (withPage g (taken (c .schema) g rs (s .store)) (s .store))) >> passed (pageTaken g (taken (c .schema) g rs (s .store)) s)
 
-    module _ (x : Calls.Sound) (sound : soundIn l saved ≡ some x) where
-      abbrev s : State
-      s = x .state
+    pub refused-12 : isGraph (getElem? (s .store .terms) g) ≡ false → {r : Paged} → r ≡ refusedPaged saved 12 → pageCall l saved g page ≡ keeping r
+    unfolding takeIn pageResult _>>=_
+    refused-12 e k = goes-on (refused 12) (require-refused 12 (given 13 (pageIn page) >>= from14) e) ∙ ap keeping (sym k)
 
-      abbrev c : Checked
-      c = x .checked
+    module _ (graph : isGraph (getElem? (s .store .terms) g) ≡ true) where
+      taking : (r : Result PageTaken) → (given 13 (pageIn page) >>= from14) ≡ r → pageCall l saved g page ≡ result r
+      unfolding takeIn
+      taking r e = goes-on r (require-after 12 (isGraph (getElem? (s .store .terms) g)) (given 13 (pageIn page) >>= from14) (trueIs (isGraph (getElem? (s .store .terms) g)) graph) ∙ e)
 
-      abbrev result : Result PageTaken → PageResult
-      result r = pageResult l saved (r >>= λ k. passed (record { checked = c; taken = k }))
+      pub refused-13 : pageIn page ≡ none → {r : Paged} → r ≡ refusedPaged saved 13 → pageCall l saved g page ≡ keeping r
+      unfolding pageResult _>>=_
+      refused-13 e k = taking (refused 13) (given-refused 13 from14 e) ∙ ap keeping (sym k)
 
-      goes-on : (r : Result PageTaken) → takeIn c g page s ≡ r → pageCall l saved g page ≡ result r
-      goes-on r e = tests (after x) (given-bind 10 after sound) ∙ ap result e
+      module _ (rs : List Triple) (reads : pageIn page ≡ some rs) where
+        abbrev k : Taken
+        k = taken (c .schema) g rs (s .store)
 
-      abbrev from14 : List Triple → Result PageTaken
-      from14 rs = require 14 (inLimits (withPage g (taken (c .schema) g rs (s .store)) (s .store))) >> passed (pageTaken g (taken (c .schema) g rs (s .store)) s)
-
-      pub refused-12 : isGraph (getElem? (s .store .terms) g) ≡ false → {r : Paged} → r ≡ refusedPaged saved 12 → pageCall l saved g page ≡ keeping r
-      unfolding takeIn pageResult _>>=_
-      refused-12 e k = goes-on (refused 12) (require-refused 12 (given 13 (pageIn page) >>= from14) e) ∙ ap keeping (sym k)
-
-      module _ (graph : isGraph (getElem? (s .store .terms) g) ≡ true) where
-        taking : (r : Result PageTaken) → (given 13 (pageIn page) >>= from14) ≡ r → pageCall l saved g page ≡ result r
-        unfolding takeIn
-        taking r e = goes-on r (require-after 12 (isGraph (getElem? (s .store .terms) g)) (given 13 (pageIn page) >>= from14) (trueIs (isGraph (getElem? (s .store .terms) g)) graph) ∙ e)
-
-        pub refused-13 : pageIn page ≡ none → {r : Paged} → r ≡ refusedPaged saved 13 → pageCall l saved g page ≡ keeping r
+        pub refused-14 : inLimits (withPage g k (s .store)) ≡ false → pageCall l saved g page ≡ keeping (refusedPaged saved 14)
         unfolding pageResult _>>=_
-        refused-13 e k = taking (refused 13) (given-refused 13 from14 e) ∙ ap keeping (sym k)
+        refused-14 e = taking (refused 14) (given-bind 13 from14 reads ∙ require-refused 14 (passed (pageTaken g k s)) e)
 
-        module _ (rs : List Triple) (reads : pageIn page ≡ some rs) where
-          abbrev k : Taken
-          k = taken (c .schema) g rs (s .store)
-
-          pub refused-14 : inLimits (withPage g k (s .store)) ≡ false → pageCall l saved g page ≡ keeping (refusedPaged saved 14)
-          unfolding pageResult _>>=_
-          refused-14 e = taking (refused 14) (given-bind 13 from14 reads ∙ require-refused 14 (passed (pageTaken g k s)) e)
-
-          pub taken-in : inLimits (withPage g k (s .store)) ≡ true → pageCall l saved g page ≡ result (passed (pageTaken g k s))
-          taken-in e =
-              taking (passed (pageTaken g k s))
-              (given-bind 13 from14 reads ∙ require-after 14 (inLimits (withPage g k (s .store))) (passed (pageTaken g k s)) (trueIs (inLimits (withPage g k (s .store))) e))
+        pub taken-in : inLimits (withPage g k (s .store)) ≡ true → pageCall l saved g page ≡ result (passed (pageTaken g k s))
+        taken-in e =
+            taking (passed (pageTaken g k s))
+            (given-bind 13 from14 reads ∙ require-after 14 (inLimits (withPage g k (s .store))) (passed (pageTaken g k s)) (trueIs (inLimits (withPage g k (s .store))) e))

@@ -2,25 +2,28 @@
 use Prim.Native.Nat.{ℕ, _≤_}
 use mathlib.Core.Path.{_≡_, ap, _∙_}
 use mathlib.Core.List.{List}
-use mathlib.Core.Option.{some}
 use lib.Dec.{leb→le}
 use lib.ListN.{length}
 use Rattle.definitions.specs.Limits.{depthLimit, graphLimit, variableLimit}
-use Rattle.definitions.specs.Saved.{savedOf}
+use Rattle.definitions.specs.Saved.{savedControl, savedStore}
 use Rattle.definitions.specs.Calls as Calls
-use Rattle.definitions.specs.Calls.{reported, soundIn}
+use Rattle.definitions.specs.Calls.{reported, entryTests}
+use Rattle.definitions.specs.Result.{passed}
+use Rattle.definitions.specs.declared.SavedControl.{SavedControl}
+use Rattle.definitions.specs.declared.SavedStore.{SavedStore}
 use Rattle.definitions.specs.declared.SavedRun.{SavedRun}
 use Rattle.laws.proofs.Check.{Passed, check-passed}
 use Rattle.laws.specs.Sound.{Accepted}
-use Rattle.laws.proofs.SoundIn.{SoundIn, sound-in, is-accepted}
-use Rattle.laws.proofs.Saved.{Holding, held-inv}
-use Rattle.store.specs.Canonical.{canonicalOf}
-use Rattle.machine.proofs.StartLaws.{types-here, saved-here}
-use Rattle.engine.specs.BareRun.{lentOf}
+use Rattle.laws.proofs.SoundIn as Sounds
+use Rattle.laws.proofs.SoundIn.{SoundIn, sound-in, is-accepted, entry-inv}
+use Rattle.laws.proofs.Saved.{Holding}
+use Rattle.store.specs.Canonical.{canonicalControl, canonicalStore}
+use Rattle.machine.proofs.StartLaws.{store-here, types-here, control-here}
+use Rattle.entry.specs.Entry.{lentOf}
 
-module _ (terms schema script table store : List ℕ) (saved : SavedRun) (x : Calls.Sound) (sound : soundIn (lentOf terms schema script table store) saved ≡ some x) where
+module _ (terms schema script table store : List ℕ) (saved : SavedRun) (x : Calls.Sound) (entered : entryTests (lentOf terms schema script table store) saved ≡ passed x) where
   pub passed-10 : SoundIn (lentOf terms schema script table store) saved x
-  passed-10 = sound-in (lentOf terms schema script table store) saved x sound
+  passed-10 = sound-in (lentOf terms schema script table store) saved x (entry-inv (lentOf terms schema script table store) saved entered .1)
 
   pub accepted : Accepted (x .checked)
   accepted = is-accepted (lentOf terms schema script table store) saved x passed-10
@@ -29,16 +32,19 @@ module _ (terms schema script table store : List ℕ) (saved : SavedRun) (x : Ca
   loads = check-passed terms schema script (x .checked) (passed-10 .loads)
 
   pub holding : Holding (x .checked .root) table store saved (x .state)
-  holding = held-inv (x .checked .root) table store saved (x .state) (passed-10 .holds)
+  holding = Sounds.holding (lentOf terms schema script table store) saved x passed-10
 
-  pub stack-low : saved .height ≤ depthLimit
-  stack-low = leb→le (saved .height) depthLimit (holding .height)
+  pub stack-low : saved .control .height ≤ depthLimit
+  stack-low = leb→le (saved .control .height) depthLimit (holding .control .height)
 
-  pub graphs-low : saved .graphs ≤ graphLimit
-  graphs-low = leb→le (saved .graphs) graphLimit (holding .graphs)
+  pub graphs-low : saved .store .graphs ≤ graphLimit
+  graphs-low = leb→le (saved .store .graphs) graphLimit (holding .store .graphs)
 
-  pub is-saved : length (saved .bound) ≡ variableLimit → length (saved .fetched) ≡ graphLimit → length (saved .items) ≡ depthLimit
-      → {clean : SavedRun} → clean ≡ canonicalOf script saved → clean ≡ savedOf (reported (x .checked)) (x .state)
-  is-saved sixteen places levels {clean} e =
-      saved-here (lentOf terms schema script table store) saved x passed-10 clean e sixteen places levels
-      ∙ ap (λ (ts : List ℕ). savedOf ts (x .state)) (types-here (lentOf terms schema script table store) saved x passed-10 clean e ∙ passed-10 .types)
+  pub control-saved : length (saved .control .bound) ≡ variableLimit → length (saved .control .items) ≡ depthLimit
+      → {clean : SavedControl} → clean ≡ canonicalControl script (saved .control) → clean ≡ savedControl (reported (x .checked)) (x .state .control)
+  control-saved sixteen levels {clean} e =
+      control-here (lentOf terms schema script table store) saved x passed-10 clean e sixteen levels
+      ∙ ap (λ (ts : List ℕ). savedControl ts (x .state .control)) (types-here (lentOf terms schema script table store) saved x passed-10 clean e ∙ passed-10 .types)
+
+  pub store-saved : length (saved .store .fetched) ≡ graphLimit → {kept : SavedStore} → kept ≡ canonicalStore (saved .store) → kept ≡ savedStore (x .state .store)
+  store-saved = store-here (lentOf terms schema script table store) saved x passed-10

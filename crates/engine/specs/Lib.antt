@@ -1,4 +1,2 @@
-pub mod BareRun
 pub mod Refused
-pub mod Lending
 pub mod Paging

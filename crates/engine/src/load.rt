@@ -1,47 +1,24 @@
 // The load call: refusals 1 to 9, or both tables and the saved run.
 ghost use mathlib.Core.Path.{_≡_};
 ghost use Rattle.definitions.specs.Calls as Calls;
-ghost use Rattle.engine.specs.BareRun.{bareRun, refusedLoad, acceptedLoad, lentOf};
+ghost use Rattle.engine.specs.Refused.{refusedLoad, acceptedLoad};
+ghost use Rattle.entry.specs.Entry.{lentOf};
 use card::refusals::check_card;
-use definitions::GRAPH_LIMIT;
-use definitions::ITEM_LIMIT;
 use definitions::LoadAnswer;
 use definitions::Loaded;
-use definitions::PAIR_LIMIT;
 use definitions::QUAD_TABLE_WIDTH;
-use definitions::SavedItem;
-use definitions::SavedRun;
 use definitions::TERM_LIMIT;
 use definitions::TERM_TABLE_WIDTH;
-use definitions::VARIABLES;
+use definitions::VARIABLE_LIMIT;
 use definitions::WRONG_LENGTH;
-
-// A saved run in which nothing is bound, fetched or stored: only so many of the stack's items count.
-fn bare_run(height: u16, types: [u8; VARIABLES]) -> SavedRun
-    ensures { λ r. ⌜ r ≡ bareRun height types ⌝ }
-{
-    let item = SavedItem {
-        at: 0,
-        started: false,
-        last: [0; PAIR_LIMIT],
-    };
-    SavedRun {
-        height,
-        quads: 0,
-        graphs: 0,
-        types,
-        bound: [false; VARIABLES],
-        bindings: [0; VARIABLES],
-        fetched: [0; GRAPH_LIMIT],
-        items: [item; ITEM_LIMIT],
-    }
-}
+use entry::tables_fit;
+use store::bare::bare_run;
 
 // What a refused load hands back.
 fn refused(refusal: u8) -> Loaded
     ensures { λ r. ⌜ r ≡ refusedLoad refusal ⌝ }
 {
-    let saved = bare_run(0, [0; VARIABLES]);
+    let saved = bare_run(0, [0; VARIABLE_LIMIT]);
     Loaded {
         answer: LoadAnswer::Refused(refusal),
         saved,
@@ -49,7 +26,7 @@ fn refused(refusal: u8) -> Loaded
 }
 
 // What an accepted load hands back: the root alone on the stack, an item at offset 0.
-fn accepted(types: [u8; VARIABLES]) -> Loaded
+fn accepted(types: [u8; VARIABLE_LIMIT]) -> Loaded
     ensures { λ r. ⌜ r ≡ acceptedLoad types ⌝ }
 {
     let saved = bare_run(1, types);
@@ -68,12 +45,11 @@ pub fn load(
     table: &mut [u8],
     store: &mut [u8],
 ) -> Loaded
-    ensures { λ r. ⌜ (r ≡ Calls.load (lentOf (now (terms .entry)) (now (schema .entry)) (now (script .entry)) (now (table .entry)) (now (store .entry))) .returned) × (now (table .exit) ≡ Calls.load (lentOf (now (terms .entry)) (now (schema .entry)) (now (script .entry)) (now (table .entry)) (now (store .entry))) .termTable) × (now (store .exit) ≡ Calls.load (lentOf (now (terms .entry)) (now (schema .entry)) (now (script .entry)) (now (table .entry)) (now (store .entry))) .quadTable) ⌝ }
+    ensures { λ r. ⌜ (r ≡ Calls.load (lentOf (now (terms .entry)) (now (schema .entry)) (now (script .entry)) (now (table .entry)) (now (store .entry))) .returned)
+        × (now (table .exit) ≡ Calls.load (lentOf (now (terms .entry)) (now (schema .entry)) (now (script .entry)) (now (table .entry)) (now (store .entry))) .termTable)
+        × (now (store .exit) ≡ Calls.load (lentOf (now (terms .entry)) (now (schema .entry)) (now (script .entry)) (now (table .entry)) (now (store .entry))) .quadTable) ⌝ }
 {
-    if table.len() != TERM_TABLE_WIDTH {
-        return refused(WRONG_LENGTH);
-    }
-    if store.len() != QUAD_TABLE_WIDTH {
+    if !tables_fit(table, store) {
         return refused(WRONG_LENGTH);
     }
     let mut work = [0u8; TERM_TABLE_WIDTH];

@@ -5,13 +5,12 @@ ghost use Prim.Native.Nat.{_≤_};
 ghost use lib.ListN.{length, getElem?};
 ghost use Rattle.definitions.specs.Limits.{termLimit};
 ghost use Rattle.definitions.specs.Terms.{Term, Schema};
-ghost use Rattle.definitions.specs.Calls.{tablesFit, isGraph, pageIn, pageCall};
+ghost use Rattle.definitions.specs.Calls.{isGraph, pageIn, pageCall};
 ghost use Rattle.laws.specs.ReadAnswers.{isSome};
 ghost use Rattle.engine.specs.Refused.{refusedPaged};
-ghost use Rattle.engine.specs.BareRun.{lentOf};
-ghost use Rattle.soundness.specs.Store.{LeastOf};
+ghost use Rattle.entry.specs.Entry.{lentOf};
+ghost use Rattle.laws.specs.Sorts.{LeastOf};
 ghost use Rattle.engine.specs.Paging.{Passed};
-use crate::sound::sound;
 use definitions::BAD_PAGE;
 use definitions::NO_GRAPH;
 use definitions::NO_ROOM;
@@ -19,17 +18,15 @@ use definitions::PAGE_LIMIT;
 use definitions::PageAnswer;
 use definitions::Paged;
 use definitions::QUAD_NUMBERS;
-use definitions::QUAD_TABLE_WIDTH;
 use definitions::SavedRun;
 use definitions::TERM_LIMIT;
-use definitions::TERM_TABLE_WIDTH;
-use definitions::UNSOUND;
-use definitions::WRONG_LENGTH;
+use entry::enter;
 use fields::Counted;
 use pages::intake::take_in;
 use records::lists::count_triples;
 use soundness::graphs::is_uri;
-use store::canonical::canonical;
+use store::canonical::canonical_control;
+use store::canonical::canonical_store;
 
 fn refused(saved: SavedRun, number: u8) -> Paged
     ensures { λ r. ⌜ r ≡ refusedPaged saved number ⌝ }
@@ -38,13 +35,6 @@ fn refused(saved: SavedRun, number: u8) -> Paged
         answer: PageAnswer::Refused(number),
         saved,
     }
-}
-
-// Whether both tables have their lengths.
-pub fn tables_fit(table: &[u8], store: &[u8]) -> bool
-    ensures { λ r. ⌜ r ≡ tablesFit (length (now (table .entry))) (length (now (store .entry))) ⌝ }
-{
-    (table.len() == TERM_TABLE_WIDTH) & (store.len() == QUAD_TABLE_WIDTH)
 }
 
 // Whether a number is that of a URI among the terms in use.
@@ -81,19 +71,40 @@ fn take(
     store: &mut [u8],
     saved: SavedRun,
     count: usize,
+    entries: &[u16],
     graph: u64,
     page: &[u8],
 ) -> Paged
-    requires { ⌜ Passed (lentOf (now terms) (now schema) (now script) (now table) (now store)) saved count graph (now page) ⌝ }
-    ensures { λ r. ⌜ pageCall (lentOf (now (terms .entry)) (now (schema .entry)) (now (script .entry)) (now (table .entry)) (now (store .entry))) saved graph (now (page .entry)) ≡ record { returned = r; termTable = now (table .exit); quadTable = now (store .exit) } ⌝ }
+    requires { ⌜ Passed (lentOf (now terms) (now schema) (now script) (now table) (now store)) saved count (now entries) graph (now page) ⌝ }
+    ensures { λ r. ⌜ pageCall (lentOf (now (terms .entry)) (now (schema .entry)) (now (script .entry)) (now (table .entry)) (now (store .entry))) saved graph (now (page .entry))
+        ≡ record { returned = r; termTable = now (table .exit); quadTable = now (store .exit) } ⌝ }
 {
-    let clean = canonical(saved, script);
-    let done = take_in(clean, graph as u16, count, schema, page, table, store);
+    let control = saved.control;
+    let clean = canonical_control(control, script);
+    let saved_store = saved.store;
+    let kept = canonical_store(saved_store);
+    let done = take_in(
+        kept,
+        graph as u16,
+        count,
+        schema,
+        entries,
+        page,
+        table,
+        store,
+    );
     let answer = done.answer;
     let PageAnswer::Taken(_) = answer else {
         return refused(saved, NO_ROOM);
     };
-    done
+    let after = done.store;
+    Paged {
+        answer,
+        saved: SavedRun {
+            control: clean,
+            store: after,
+        },
+    }
 }
 
 // The page call. Ruled out: a page that keeps the graph's old quads; a refused page that leaves new terms behind.
@@ -107,14 +118,12 @@ pub fn page(
     graph: u64,
     page: &[u8],
 ) -> Paged
-    ensures { λ r. ⌜ pageCall (lentOf (now (terms .entry)) (now (schema .entry)) (now (script .entry)) (now (table .entry)) (now (store .entry))) saved graph (now (page .entry)) ≡ record { returned = r; termTable = now (table .exit); quadTable = now (store .exit) } ⌝ }
+    ensures { λ r. ⌜ pageCall (lentOf (now (terms .entry)) (now (schema .entry)) (now (script .entry)) (now (table .entry)) (now (store .entry))) saved graph (now (page .entry))
+        ≡ record { returned = r; termTable = now (table .exit); quadTable = now (store .exit) } ⌝ }
 {
-    if !tables_fit(table, store) {
-        return refused(saved, WRONG_LENGTH);
-    }
     let mut rows = [0u16; QUAD_NUMBERS];
     let mut leasts = [0u8; TERM_LIMIT];
-    let lent = sound(
+    let entered = enter(
         terms,
         schema,
         script,
@@ -124,10 +133,12 @@ pub fn page(
         &mut rows,
         &mut leasts,
     );
-    if !lent.sound {
-        return refused(saved, UNSOUND);
+    if entered.refusal != 0 {
+        return refused(saved, entered.refusal);
     }
-    if !is_graph(&leasts, lent.count, graph) {
+    let count = entered.count;
+    let entries = entered.entries;
+    if !is_graph(&leasts, count, graph) {
         return refused(saved, NO_GRAPH);
     }
     if !page_ok(page) {
@@ -140,7 +151,8 @@ pub fn page(
         table,
         store,
         saved,
-        lent.count,
+        count,
+        &entries,
         graph,
         page,
     )

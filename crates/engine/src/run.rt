@@ -8,9 +8,7 @@ ghost use Rattle.definitions.specs.Terms.{isDateTime};
 ghost use Rattle.definitions.specs.Outcome.{ok};
 ghost use Rattle.definitions.specs.Calls.{runCall};
 ghost use Rattle.engine.specs.Refused.{refusedRan};
-ghost use Rattle.engine.specs.BareRun.{lentOf};
-use crate::page::tables_fit;
-use crate::sound::sound;
+ghost use Rattle.entry.specs.Entry.{lentOf};
 use definitions::BAD_RUN;
 use definitions::BUDGET_LIMIT;
 use definitions::QUAD_NUMBERS;
@@ -20,11 +18,12 @@ use definitions::SECONDS_AFTER;
 use definitions::SECONDS_BEFORE;
 use definitions::SavedRun;
 use definitions::TERM_LIMIT;
-use definitions::UNSOUND;
-use definitions::WRONG_LENGTH;
+use entry::enter;
 use fields::numbers::within;
 use machine::run::run_steps;
-use store::canonical::canonical;
+use query::Context;
+use store::canonical::canonical_control;
+use store::canonical::canonical_store;
 
 fn refused(saved: SavedRun, number: u8) -> Ran
     ensures { λ r. ⌜ r ≡ refusedRan saved number ⌝ }
@@ -67,12 +66,9 @@ pub fn run(
 ) -> Ran
     ensures { λ r. ⌜ runCall (lentOf (now (terms .entry)) (now (schema .entry)) (now (script .entry)) (now (table .entry)) (now (store .entry))) saved budget clock ≡ ok r ⌝ }
 {
-    if !tables_fit(table, store) {
-        return refused(saved, WRONG_LENGTH);
-    }
     let mut rows = [0u16; QUAD_NUMBERS];
     let mut leasts = [0u8; TERM_LIMIT];
-    let lent = sound(
+    let entered = enter(
         terms,
         schema,
         script,
@@ -82,32 +78,33 @@ pub fn run(
         &mut rows,
         &mut leasts,
     );
-    if !lent.sound {
-        return refused(saved, UNSOUND);
+    if entered.refusal != 0 {
+        return refused(saved, entered.refusal);
     }
     let second = bits(clock);
     if !in_limits(budget, second) {
         return refused(saved, BAD_RUN);
     }
-    let clean = canonical(saved, script);
-    let known = lent.known;
-    let count = lent.count;
+    let control = saved.control;
+    let clean = canonical_control(control, script);
+    let saved_store = saved.store;
+    let kept = canonical_store(saved_store);
+    let quads = saved_store.quads as usize;
+    let context = Context {
+        loaded: entered.loaded,
+        count: entered.count,
+        quads,
+        clock: second,
+    };
     let steps = budget as u32;
-    let end = run_steps(
-        clean,
-        script,
-        known,
-        table,
-        count,
-        &rows,
-        &leasts,
-        second,
-        steps,
-    );
+    let end = run_steps(clean, kept, script, context, table, &rows, &leasts, steps);
     let ending = end.ending;
-    let after = end.saved;
+    let after = end.control;
     Ran {
         answer: RunAnswer::Ran(end.steps, ending),
-        saved: after,
+        saved: SavedRun {
+            control: after,
+            store: kept,
+        },
     }
 }

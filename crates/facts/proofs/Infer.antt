@@ -29,7 +29,8 @@ use Rattle.facts.specs.Infer.{allBelow, isOpen, chosen, ofFamily, made, 
 use Rattle.facts.proofs.Demands.{nameType, script-met}
 use Rattle.facts.proofs.Tables.{Environment, Satisfies, Open, Sound}
 use Rattle.facts.proofs.NotingLaws.{typeIn, tables-sound, tables-say}
-use Rattle.facts.proofs.Solve.{Choice, solution, Allowed, greatest as greatestChoice, ownGreatest, Settled, Tight, own-allowed, satisfied-apart, solution-satisfies, greatest-allowed, greatest-above, all-settled, all-tight}
+use Rattle.facts.proofs.Solve.{Choice, solution, Allowed, greatest as greatestChoice, ownGreatest, Settled, Tight, own-allowed, satisfied-apart, solution-satisfies}
+use Rattle.facts.proofs.Solve.{greatest-allowed, greatest-above, all-settled, all-tight}
 
 -- ── the tests on the tables ─────────────────────────────────────────────────────────────────
 

@@ -19,13 +19,15 @@ use Rattle.laws.proofs.Ranges.{split}
 use Rattle.codes.specs.Family.{family, ownDatatype}
 use Rattle.facts.specs.Demands.{Node, Demand, same, property}
 use Rattle.facts.specs.declared.noting.Tables.{Tables}
-use Rattle.facts.specs.Tables.{nodeLimit, edgeLimit, ownNode, rangeNode, fresh, merged, withLow, withHigh, withEdge, Place, variable, known, writtenPlace, placeNode, atMost, asProperty, atLeast, edge, impossible, related, place, nodeAt, noted, allNoted}
+use Rattle.facts.specs.Tables.{nodeLimit, edgeLimit, ownNode, rangeNode, fresh, merged, withLow, withHigh, withEdge, Place, variable, known, writtenPlace, placeNode, atMost}
+use Rattle.facts.specs.Tables.{asProperty, atLeast, edge, impossible, related, place, nodeAt, noted, allNoted}
 use Rattle.laws.specs.Lists.{flag}
 use Rattle.facts.specs.Infer.{root}
 use Rattle.facts.proofs.Family.{isRange, isProperty, property-any, family-below, leq-family, leq-at-most, leq-at-least}
 use Rattle.facts.proofs.Demands.{nameType, nodeDatatype, met, allMet}
 use Rattle.facts.proofs.UnionFind.{up-forest, up-root}
-use Rattle.facts.proofs.Tables.{Environment, ownOf, rangeOf, value, value-family, value-own, value-range, Low, High, Property, Edge, Satisfies, Open, Sound, Adds, adds-then, adds-as, adds-when, merged-joins, merged-adds, low-adds, high-adds, property-flag, property-adds, edge-adds}
+use Rattle.facts.proofs.Tables.{Environment, ownOf, rangeOf, value, value-family, value-own, value-range, Low, High, Property, Edge, Satisfies, Open, Sound, Adds}
+use Rattle.facts.proofs.Tables.{adds-then, adds-as, adds-when, merged-joins, merged-adds, low-adds, high-adds, property-flag, property-adds, edge-adds}
 
 -- ── one thing noted ─────────────────────────────────────────────────────────────────────────
 

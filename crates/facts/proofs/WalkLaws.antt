@@ -27,7 +27,8 @@ use Rattle.facts.specs.declared.Place as Codes
 use Rattle.facts.specs.declared.Place.the-variants.{Variable, Known}
 use Rattle.facts.specs.declared.noting.Tables.{Tables}
 use Rattle.facts.specs.Demands.{Node, Demand, same, property, isURI, exprNode, isNumber, isString, exprDemands, condDemands, queryDemands, scriptDemands}
-use Rattle.facts.specs.Tables.{familyLimit, nodeLimit, ownNode, rangeNode, merged, withLow, withHigh, when, atMost, asProperty, atLeast, edge, impossible, related, known, writtenPlace, placeNode, place, nodeAt, noted, allNoted}
+use Rattle.facts.specs.Tables.{familyLimit, nodeLimit, ownNode, rangeNode, merged, withLow, withHigh, when, atMost, asProperty, atLeast, edge, impossible, related, known}
+use Rattle.facts.specs.Tables.{writtenPlace, placeNode, place, nodeAt, noted, allNoted}
 use Rattle.codes.specs.TypeCodes.{datatypeOf, typeOf}
 use Rattle.facts.specs.Codes.{sortAbove, sortsIn, unboundCode, writtenAs, allWritten, placeOf, PlaceIn}
 use Rattle.facts.specs.Walk.{Joined, PlacedAs, Noted, ExprNoted, CondNoted, QueryNoted, ScriptNoted}

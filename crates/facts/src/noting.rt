@@ -2,7 +2,7 @@
 use crate::EDGES;
 use crate::FAMILIES;
 use crate::RANGE_NODES;
-use definitions::VARIABLES;
+use definitions::VARIABLE_LIMIT;
 ghost use mathlib.Core.Path.{_≡_};
 ghost use Prim.Native.Nat.{_<_};
 ghost use Rattle.definitions.specs.Limits.{variableLimit};
@@ -17,9 +17,9 @@ use crate::families::Families;
 // its type has to be a range. For each pair of variables: the first one is a property, and the second one its object.
 pub struct Tables {
     pub families: Families,
-    pub low: [bool; VARIABLES],
-    pub high: [bool; VARIABLES],
-    pub property: [bool; VARIABLES],
+    pub low: [bool; VARIABLE_LIMIT],
+    pub high: [bool; VARIABLE_LIMIT],
+    pub property: [bool; VARIABLE_LIMIT],
     pub edges: [bool; EDGES],
 }
 
@@ -30,9 +30,9 @@ impl Tables {
         ensures { λ r. ⌜ r ≡ fresh ⌝ }
     {
         let families = Families::fresh();
-        let low = [false; VARIABLES];
-        let high = [false; VARIABLES];
-        let property = [false; VARIABLES];
+        let low = [false; VARIABLE_LIMIT];
+        let high = [false; VARIABLE_LIMIT];
+        let property = [false; VARIABLE_LIMIT];
         let edges = [false; EDGES];
         Tables {
             families,
@@ -103,7 +103,7 @@ impl Tables {
         ensures { λ r. ⌜ r ≡ edge p x self ⌝ }
     {
         let mut tables = self.as_property(p).merged(RANGE_NODES + p, FAMILIES + x);
-        let at = VARIABLES * p + x;
+        let at = VARIABLE_LIMIT * p + x;
         tables.edges[at] = true;
         tables
     }

@@ -4,7 +4,7 @@ use crate::FAMILIES;
 use crate::RANGE_NODES;
 use definitions::NO_GREATEST;
 use definitions::NO_TYPING;
-use definitions::VARIABLES;
+use definitions::VARIABLE_LIMIT;
 ghost use mathlib.Core.Path.{_≡_};
 ghost use lib.ListN.{length, getD};
 ghost use Prim.Native.Nat.{_<_};
@@ -60,7 +60,7 @@ fn all_closed(t: Tables, written: &[u8]) -> bool
     ensures { λ r. ⌜ r ≡ allBelow variableLimit (λ x. not (isOpen (getD (allWritten (now (written .entry))) x unbound)) || settled t x) ⌝ }
 {
     let mut x = 0;
-    while x < VARIABLES {
+    while x < VARIABLE_LIMIT {
         if !closed(t, written, x) {
             return false;
         }
@@ -74,7 +74,7 @@ fn tight(t: Tables, p: usize, x: usize) -> bool
     requires { ⌜ Joined t × (p < variableLimit) × (x < variableLimit) ⌝ }
     ensures { λ r. ⌜ r ≡ tight t p x ⌝ }
 {
-    let at = VARIABLES * p + x;
+    let at = VARIABLE_LIMIT * p + x;
     if !t.edges[at] {
         return true;
     }
@@ -88,7 +88,7 @@ fn tight_with(t: Tables, p: usize) -> bool
     ensures { λ r. ⌜ r ≡ allBelow variableLimit (tight t p) ⌝ }
 {
     let mut x = 0;
-    while x < VARIABLES {
+    while x < VARIABLE_LIMIT {
         if !tight(t, p, x) {
             return false;
         }
@@ -102,7 +102,7 @@ fn all_tight(t: Tables) -> bool
     ensures { λ r. ⌜ r ≡ allBelow variableLimit (λ p. allBelow variableLimit (tight t p)) ⌝ }
 {
     let mut p = 0;
-    while p < VARIABLES {
+    while p < VARIABLE_LIMIT {
         if !tight_with(t, p) {
             return false;
         }
@@ -159,13 +159,13 @@ fn reported(t: Tables, written: &[u8], x: usize) -> u8
     codes::normal(code)
 }
 
-fn all_reported(t: Tables, written: &[u8]) -> [u8; VARIABLES]
+fn all_reported(t: Tables, written: &[u8]) -> [u8; VARIABLE_LIMIT]
     requires { ⌜ Joined t × (length (now written) ≡ variableLimit) ⌝ }
     ensures { λ r. ⌜ r ≡ reportedAll t (allWritten (now (written .entry))) ⌝ }
 {
-    let mut types = [0; VARIABLES];
+    let mut types = [0; VARIABLE_LIMIT];
     let mut x = 0;
-    while x < VARIABLES {
+    while x < VARIABLE_LIMIT {
         types[x] = reported(t, written, x);
         x += 1;
     }
@@ -178,7 +178,7 @@ pub fn read_off(t: Tables, written: &[u8]) -> Answer
     requires { ⌜ Joined t × (length (now written) ≡ variableLimit) ⌝ }
     ensures { λ r. ⌜ r ≡ answerOf (allWritten (now (written .entry))) (readOff t (allWritten (now (written .entry)))) ⌝ }
 {
-    let none = [0; VARIABLES];
+    let none = [0; VARIABLE_LIMIT];
     if !apart(t) {
         return Answer {
             refusal: NO_TYPING,

@@ -4,9 +4,10 @@ use mathlib.Core.List.{List}
 use mathlib.Core.Path.{_≡_, ap, _∙_}
 use native.Mathlib.Nat.{suc-sub-suc, sub-zero}
 use native.Mathlib.Omega.{arith}
-use lib.ListN.{length, drop, replicate, length-take, length-drop}
+use lib.ListN.{length, drop, replicate, length-drop}
 use lib.Seq.{take-all}
 use Rattle.definitions.specs.Bytes.{part}
+use Rattle.laws.proofs.Bytes.{part-length}
 
 -- `&s[at..]`
 pub rest-part : (s : List ℕ) (at : ℕ) → part s at (length s - at) ≡ drop at s
@@ -15,9 +16,6 @@ rest-part s at = take-all (length s - at) (drop at s) (omega (arith, length-drop
 -- `&s[at..at + n]`
 pub some-part : (s : List ℕ) (at n : ℕ) → part s at (at + n - at) ≡ part s at n
 some-part s at n = let e : at + n - at ≡ n = omega arith in rw e
-
-pub part-length : (s : List ℕ) (at n : ℕ) → at + n ≤ length s → length (part s at n) ≡ n
-part-length s at n h = omega (arith, length-take n (drop at s), length-drop at s)
 
 pub part-long : (s : List ℕ) (at n : ℕ) → at + n ≤ length s → length (part s at (at + n - at)) ≡ n
 part-long s at n h = ap length (some-part s at n) ∙ part-length s at n h

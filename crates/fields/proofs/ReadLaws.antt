@@ -99,7 +99,9 @@ module _ (s : List ℕ) (at : ℕ) {w : ℕ} {room : Bool} (e : room ≡ hasRoom
     body-next (some d) q f g =
         let fits : leb (at + bodyWidth d) (length s) ≡ true = rw q at (sym e ∙ not-false room h) in
         let t = is-some (termOfBody d (part s at (bodyWidth d))) (body-test d q f ∙ not-false r g) in
-        ap (λ n. Next (at + n)) q ∙ leaf-ends {a = t .0} (provided-yes (onward (termOfBody d (part s at (bodyWidth d))) (λ t. some (t, at + bodyWidth d))) fits ∙ onward-some (λ t. some (t, at + bodyWidth d)) (t .1))
+        ap (λ n. Next (at + n)) q
+        ∙ leaf-ends {a = t .0}
+        (provided-yes (onward (termOfBody d (part s at (bodyWidth d))) (λ t. some (t, at + bodyWidth d))) fits ∙ onward-some (λ t. some (t, at + bodyWidth d)) (t .1))
 
 -- ── a term record ───────────────────────────────────────────────────────────────────────────
 
@@ -120,7 +122,14 @@ pub code-some : (k : ℕ) → 1 ≤ k → k ≤ 5 → (d : Datatype) × (datatyp
 code-some k l h = is-some (datatypeOfCode k) (isTrue (isSome (datatypeOfCode k)) (every-in (λ j. isSome (datatypeOfCode j)) 1 5 tt k l (omega arith)))
 
 pub code-none : (k : ℕ) → (k < 1) ⊎ (5 < k) → datatypeOfCode k ≡ none
-code-none k h = rw (other 1 (omega arith) (omega arith), other 2 (omega arith) (omega arith), other 3 (omega arith) (omega arith), other 4 (omega arith) (omega arith), other 5 (omega arith) (omega arith))
+code-none k h = rw (
+  other 1 (omega arith) (omega arith),
+  other 2 (omega arith) (omega arith),
+  other 3 (omega arith) (omega arith),
+  other 4 (omega arith) (omega arith),
+  other 5
+      (omega arith) (omega arith),
+)
   where
     other : (n : ℕ) → 1 ≤ n → n ≤ 5 → eqb k n ≡ false
     other n l u = ne-eqb k n (λ e. ⊎-elim (λ a. omega arith) (λ a. omega arith) h)
@@ -175,7 +184,14 @@ object-kind k h = rw (this 0x11, this 0x12, this 0x13, this 0x14, this 0x15)
 
 page-none : (k : ℕ) → (k < 0x81) ⊎ (0x85 < k) → ofPageKind k ≡ none
 page-none k h =
-    rw (other 0x81 (omega arith) (omega arith), other 0x82 (omega arith) (omega arith), other 0x83 (omega arith) (omega arith), other 0x84 (omega arith) (omega arith), other 0x85 (omega arith) (omega arith))
+    rw (
+      other 0x81 (omega arith) (omega arith),
+      other 0x82 (omega arith) (omega arith),
+      other 0x83 (omega arith) (omega arith),
+      other 0x84 (omega arith) (omega arith),
+      other 0x85
+          (omega arith) (omega arith),
+    )
   where
     other : (n : ℕ) → 0x81 ≤ n → n ≤ 0x85 → eqb k n ≡ false
     other n l u = ne-eqb k n (λ e. ⊎-elim (λ a. omega arith) (λ a. omega arith) h)

@@ -15,7 +15,7 @@ use Rattle.definitions.specs.Bytes.{byte, part, sameBytes, filled}
 use Rattle.definitions.specs.Terms.{Text, Term, Entry, datatype, termKind, bodyWidth, uriText, ofTermKind, recordOf, slotOf, readTerm, readEntry, sameTerm, sameProperty}
 use Rattle.laws.proofs.Tests.{decide, isTrue, isFalse, trueIs}
 use Rattle.laws.proofs.Options.{some-is}
-use Rattle.laws.proofs.Bytes.{AreBytes, part-bytes}
+use Rattle.laws.proofs.Bytes.{AreBytes, part-bytes, part-length}
 use Rattle.laws.proofs.Equality.{same-bytes, bytes-refl, same-term, term-refl}
 use Rattle.laws.proofs.Valid.{term-valid, uri-inv}
 use Rattle.laws.proofs.Slots.{body-inv, kind-inv, slot-one, width-fits}
@@ -25,7 +25,7 @@ use Rattle.definitions.specs.declared.Read.the-variants.{Next}
 use Rattle.laws.specs.ReadAnswers.{isSome, nextOf}
 use Rattle.fields.specs.Answers.{widthOf, sameIn}
 use Rattle.laws.proofs.ReadAnswers.{is-some, next-got}
-use Rattle.fields.proofs.PartLaws.{some-part, part-length}
+use Rattle.fields.proofs.PartLaws.{some-part}
 
 -- a test that holds where another does
 pub test-is : (r b : Bool) → (r ≡ true → T b) → (T b → r ≡ true) → r ≡ b

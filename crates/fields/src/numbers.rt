@@ -6,6 +6,20 @@ ghost use Rattle.definitions.specs.Limits.{numberWidth};
 ghost use Rattle.definitions.specs.Bytes.{byte, part, word, little, signed, allZero, sameBytes};
 ghost use Rattle.definitions.specs.Terms.{withinLimits};
 
+// A byte as an index. Ruled out: a byte that becomes another number; an index above 255.
+pub fn index(x: u8) -> usize
+    ensures { λ r. ⌜ r ≡ x ⌝ }
+{
+    x as usize
+}
+
+// A 16-bit number as an index. Ruled out: its low byte alone; an index above 65,535.
+pub fn number_index(x: u16) -> usize
+    ensures { λ r. ⌜ r ≡ x ⌝ }
+{
+    x as usize
+}
+
 fn wide(s: &[u8], at: usize) -> u64
     requires { ⌜ at < length (now s) ⌝ }
     ensures { λ r. ⌜ (r ≡ byte (now (s .entry)) at) × (r < 256) ⌝ }

@@ -7,7 +7,6 @@ use mathlib.Core.Bool.{Bool, true, false, cond, not, _&&_, _||_}
 use mathlib.Core.Option.{Option, none, some}
 use lib.Dec.{T, eqb, eqb→eq}
 use lib.ListN.{length}
-use lib.IntN.{ℤ}
 use Rattle.definitions.specs.Lists.{isIn}
 use Rattle.definitions.specs.Types.{Ty}
 use Rattle.definitions.specs.Terms.{Term, Schema, hasType}
@@ -15,7 +14,7 @@ use Rattle.definitions.specs.Tree.{Query}
 use Rattle.definitions.specs.Scope.{inQuery}
 use Rattle.definitions.specs.Typing.{queryTyped}
 use Rattle.definitions.specs.Outcome.{Outcome, ok}
-use Rattle.definitions.specs.Evaluate.{Bindings, Quad, query}
+use Rattle.definitions.specs.Evaluate.{Setting, Bindings, Quad, query}
 use Rattle.definitions.specs.Search.{Typing, Tuple, fitting, eachInFront, tuples, earlier, after, first, bind, answer}
 use Rattle.definitions.specs.Calls.{constantsOf}
 use Rattle.laws.proofs.Tests.{andMake}
@@ -139,13 +138,13 @@ module _ (S : Schema) (Γ : Typing) (terms : List Term) (β : Bindings) where
 
 -- ── the search ──────────────────────────────────────────────────────────────────────────────
 
-module _ (S : Schema) (Γ : Typing) (clock : ℤ) (known terms : List Term) (extends : Extends known terms)
-    (quads : List Quad) (β : Bindings) (wellBound : WellBound S Γ terms β) where
-  pub answer-fine : (vs : List ℕ) (q : Query) → QueryBounded (length known) q → BoundIn β (λ v. not (isIn v vs) && inQuery v q)
-      → T (queryTyped (constantsOf S known) Γ q) → (last : Option Tuple) → Fine (IfSome (Fits S Γ terms vs)) (answer S Γ clock terms quads β vs q last)
+module _ (σ : Setting) (Γ : Typing) (loaded terms : List Term) (extends : Extends loaded terms)
+    (quads : List Quad) (β : Bindings) (wellBound : WellBound (σ .schema) Γ terms β) where
+  pub answer-fine : (vs : List ℕ) (q : Query) → QueryBounded (length loaded) q → BoundIn β (λ v. not (isIn v vs) && inQuery v q)
+      → T (queryTyped (constantsOf (σ .schema) loaded) Γ q) → (last : Option Tuple) → Fine (IfSome (Fits (σ .schema) Γ terms vs)) (answer σ Γ terms quads β vs q last)
   unfolding answer
   answer-fine vs q k i h last =
-      first-fine (Fits S Γ terms vs) (λ t. query S clock terms quads (bind vs t β) q)
-      (λ t fits. query-fine S Γ clock known terms extends quads (bind vs t β) (bind-typed S Γ terms β vs t fits wellBound) q k
-      (bound-reached S Γ terms β vs t fits (λ v. inQuery v q) i) h)
-      (after last (tuples S Γ terms vs)) (after-fit S Γ terms vs last)
+      first-fine (Fits (σ .schema) Γ terms vs) (λ t. query σ terms quads (bind vs t β) q)
+      (λ t fits. query-fine σ Γ loaded terms extends quads (bind vs t β) (bind-typed (σ .schema) Γ terms β vs t fits wellBound) q k
+      (bound-reached (σ .schema) Γ terms β vs t fits (λ v. inQuery v q) i) h)
+      (after last (tuples (σ .schema) Γ terms vs)) (after-fit (σ .schema) Γ terms vs last)

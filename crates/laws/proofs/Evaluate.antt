@@ -14,7 +14,7 @@ use Rattle.definitions.specs.Scope.{inName, inExpr, inCond, inQuery}
 use Rattle.definitions.specs.Typing.{allows, nameHas, exprHas, condTyped, propertyTyped, queryTyped}
 use Rattle.definitions.specs.Outcome.{ok, _>>=_, graphNoURI, subjectNoURI, objectNotOfDatatype}
 use Rattle.definitions.specs.Values.{Value, valueOf, Number, whole, millionths, numberIn, combine, distance, sum, difference, absolute, Pair, paired, stringIn, equalPair, lessPair}
-use Rattle.definitions.specs.Evaluate.{Bindings, Quad, Named, named, termOfNumber, isURI, inSchema, propertyDatatype, expression, condition, query}
+use Rattle.definitions.specs.Evaluate.{Setting, Bindings, Quad, Named, named, termOfNumber, isURI, inSchema, propertyDatatype, expression, condition, query}
 use Rattle.definitions.specs.Search.{Typing}
 use Rattle.definitions.specs.Calls.{constantsOf}
 use Rattle.laws.proofs.Tests.{andLeft, andRight, implies, apply}
@@ -205,26 +205,26 @@ given : (S : Schema) (terms : List Term) (τ : Ty) (o : Option ℕ) (i : ℕ) �
 given S terms τ o i e h = rw (e, h .there) (fine (record { there = h .there; typed = h .typed }))
 
 -- over the terms that loading numbers, those of the moment, and bindings of the variables' types
-module _ (S : Schema) (Γ : Typing) (clock : ℤ) (known terms : List Term) (extends : Extends known terms)
-    (quads : List Quad) (β : Bindings) (wellBound : WellBound S Γ terms β) where
+module _ (σ : Setting) (Γ : Typing) (loaded terms : List Term) (extends : Extends loaded terms)
+    (quads : List Quad) (β : Bindings) (wellBound : WellBound (σ .schema) Γ terms β) where
   abbrev constants : ℕ → Sort
-  constants = constantsOf S known
+  constants = constantsOf (σ .schema) loaded
 
-  pub named-fine : (n : Name) (τ : Ty) → NameBounded (length known) n → BoundIn β (λ v. inName v n) → T (nameHas constants Γ n τ)
-      → Fine (Given S terms τ) (named terms β n)
+  pub named-fine : (n : Name) (τ : Ty) → NameBounded (length loaded) n → BoundIn β (λ v. inName v n) → T (nameHas constants Γ n τ)
+      → Fine (Given (σ .schema) terms τ) (named terms β n)
   unfolding named inName nameHas
   named-fine (var v) τ k i h =
       let b = i v (eqb-refl v) in
       let x = wellBound v (b .number) (b .is) in
-      given S terms τ (β v) (b .number) (b .is) (record { term = x .term; there = x .there; typed = has-above (sortOf S (x .term)) (Γ v) τ (x .typed) h })
+      given (σ .schema) terms τ (β v) (b .number) (b .is) (record { term = x .term; there = x .there; typed = has-above (sortOf (σ .schema) (x .term)) (Γ v) τ (x .typed) h })
   named-fine (const c) τ k i h =
-      let t = there-is known c k in
-      given S terms τ (some c) c refl (record { term = t .0; there = extends c (t .0) (t .1); typed = rw (constant-sort S known c (t .0) (t .1)) at h })
+      let t = there-is loaded c k in
+      given (σ .schema) terms τ (some c) c refl (record { term = t .0; there = extends c (t .0) (t .1); typed = rw (constant-sort (σ .schema) loaded c (t .0) (t .1)) at h })
 
-  expression-fine : (e : Expr) (d : Datatype) → ExprBounded (length known) e → BoundIn β (λ v. inExpr v e) → T (exprHas constants Γ e d)
-      → Fine (HasKind d) (expression S clock terms quads β e)
+  expression-fine : (e : Expr) (d : Datatype) → ExprBounded (length loaded) e → BoundIn β (λ v. inExpr v e) → T (exprHas constants Γ e d)
+      → Fine (HasKind d) (expression σ terms quads β e)
   unfolding expression inExpr exprHas
-  expression-fine (Expr.name n) d k i h = fine-then (named-fine n (plain d) k i h) λ t p. fine (value-kind S (t .term) d (p .typed))
+  expression-fine (Expr.name n) d k i h = fine-then (named-fine n (plain d) k i h) λ t p. fine (value-kind (σ .schema) (t .term) d (p .typed))
   expression-fine Expr.now d k i h = fine (same-above d Datatype.dateTime h)
   expression-fine (Expr.str e) d k i h =
       let isString = sameDatatype d Datatype.string in
@@ -253,9 +253,9 @@ module _ (S : Schema) (Γ : Typing) (clock : ℤ) (known terms : List Term) (ext
       difference-fine d (andLeft isNumber (has₁ && has₂) h) a b p q
 
   -- two expressions with a common datatype
-  compared-fine : (e f : Expr) → ExprBounded (length known) e → ExprBounded (length known) f → BoundIn β (λ v. inExpr v e || inExpr v f)
+  compared-fine : (e f : Expr) → ExprBounded (length loaded) e → ExprBounded (length loaded) f → BoundIn β (λ v. inExpr v e || inExpr v f)
       → T (someDatatype (λ d. exprHas constants Γ e d && exprHas constants Γ f d)) → (test : Pair → Bool)
-      → Fine Any (expression S clock terms quads β e >>= λ a. expression S clock terms quads β f >>= λ b. paired a b >>= λ p. ok (test p))
+      → Fine Any (expression σ terms quads β e >>= λ a. expression σ terms quads β f >>= λ b. paired a b >>= λ p. ok (test p))
   compared-fine e f k₁ k₂ i h test =
       let r = some-datatype (λ d. exprHas constants Γ e d && exprHas constants Γ f d) h in
       let has₁ = exprHas constants Γ e (r .0) in
@@ -264,8 +264,8 @@ module _ (S : Schema) (Γ : Typing) (clock : ℤ) (known terms : List Term) (ext
       fine-then (expression-fine f (r .0) k₂ (in-right β (λ v. inExpr v e) (λ v. inExpr v f) i) (andRight has₁ has₂ (r .1))) λ b q.
       fine-then (paired-fine (r .0) a b p q) λ x y. fine tt
 
-  condition-fine : (c : Cond) → CondBounded (length known) c → BoundIn β (λ v. inCond v c) → T (condTyped constants Γ c)
-      → Fine Any (condition S clock terms quads β c)
+  condition-fine : (c : Cond) → CondBounded (length loaded) c → BoundIn β (λ v. inCond v c) → T (condTyped constants Γ c)
+      → Fine Any (condition σ terms quads β c)
   unfolding condition inCond condTyped
   condition-fine Cond.no k i h = fine tt
   condition-fine Cond.yes k i h = fine tt
@@ -287,8 +287,8 @@ module _ (S : Schema) (Γ : Typing) (clock : ℤ) (known terms : List Term) (ext
   condition-fine (Cond.equal e f) k i h = compared-fine e f (k .0) (k .1) i h equalPair
   condition-fine (Cond.less e f) k i h = compared-fine e f (k .0) (k .1) i h lessPair
 
-  pub query-fine : (q : Query) → QueryBounded (length known) q → BoundIn β (λ v. inQuery v q) → T (queryTyped constants Γ q)
-      → Fine Any (query S clock terms quads β q)
+  pub query-fine : (q : Query) → QueryBounded (length loaded) q → BoundIn β (λ v. inQuery v q) → T (queryTyped constants Γ q)
+      → Fine Any (query σ terms quads β q)
   unfolding query inQuery queryTyped
   query-fine (Query.pattern g s p o) k i h =
       let any = plain Datatype.anyURI in
@@ -304,10 +304,10 @@ module _ (S : Schema) (Γ : Typing) (clock : ℤ) (known terms : List Term) (ext
       fine-then (named-fine s any (k .1) (in-left β (λ v. inName v s) (λ v. inName v p || inName v o) i₁) (andLeft hasS hasP h₁)) λ X hX.
       fine-then (named-fine p (range (r .0)) (k .2) (in-left β (λ v. inName v p) (λ v. inName v o) i₂) (r .1)) λ P hP.
       fine-then (named-fine o (plain (r .0)) (k .3) (in-right β (λ v. inName v p) (λ v. inName v o) i₂) (r .2)) λ O hO.
-      fine-and (fine-demand (isURI (G .term)) graphNoURI (is-uri S (G .term) (hG .typed)))
-      (fine-and (fine-demand (isURI (X .term)) subjectNoURI (is-uri S (X .term) (hX .typed)))
-      (fine-then (property-fine S (P .term) (r .0) (hP .typed)) λ d hd.
-      fine-and (fine-demand (hasType S (O .term) (plain d)) objectNotOfDatatype (has-above (sortOf S (O .term)) (plain (r .0)) (plain d) (hO .typed) hd))
+      fine-and (fine-demand (isURI (G .term)) graphNoURI (is-uri (σ .schema) (G .term) (hG .typed)))
+      (fine-and (fine-demand (isURI (X .term)) subjectNoURI (is-uri (σ .schema) (X .term) (hX .typed)))
+      (fine-then (property-fine (σ .schema) (P .term) (r .0) (hP .typed)) λ d hd.
+      fine-and (fine-demand (hasType (σ .schema) (O .term) (plain d)) objectNotOfDatatype (has-above (sortOf (σ .schema) (O .term)) (plain (r .0)) (plain d) (hO .typed) hd))
       (fine tt)))
   query-fine (Query.both q r) k i h =
       let typed₁ = queryTyped constants Γ q in

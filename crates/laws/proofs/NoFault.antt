@@ -1,5 +1,7 @@
 -- No fault: an outcome that is a value with a property.
-use mathlib.Core.Path.{_≡_, refl}
+use Prim.Native.Nat.{ℕ}
+use native.Mathlib.Omega.{arith}
+use mathlib.Core.Path.{_≡_, refl, sym, subst, _∙_}
 use mathlib.Core.Bool.{Bool, true, false}
 use lib.Dec.{T}
 use Rattle.definitions.specs.Outcome.{Outcome, ok, fault, _>>=_, _>>_, demand, Fault}
@@ -26,6 +28,33 @@ module _ {A : Type 0} {P : A → Type 0} where
   -- the value
   pub fine-ok : {m : Outcome A} → Fine P m → (a : A) × (m ≡ ok a) × P a
   fine-ok (fine {a} p) = (a, refl, p)
+
+-- ── an outcome that is a value: what its parts gave ─────────────────────────────────────────
+
+pub ok-is : {A : Type 0} {a b : A} → ok a ≡ ok b → a ≡ b
+ok-is e = cc
+
+pub no-fault : {A : Type 0} {x : Fault} {a : A} → fault x ≡ ok a → ⊥
+no-fault e = let z : _≡_ {A = ℕ} 0 1 = cc in omega arith
+
+pub then-ok : {A B : Type 0} {m : Outcome A} {f : A → Outcome B} {b : B} → m >>= f ≡ ok b → (a : A) × (m ≡ ok a) × (f a ≡ ok b)
+unfolding _>>=_
+then-ok {A} {B} {m} {f} {b} e = go m e
+  where
+    go : (m : Outcome A) → m >>= f ≡ ok b → (a : A) × (m ≡ ok a) × (f a ≡ ok b)
+    go (ok a) e = (a, refl, e)
+    go (fault x) e = absurd (no-fault e)
+
+pub and-ok : {A B : Type 0} (m : Outcome A) {n : Outcome B} {b : B} → m >> n ≡ ok b → n ≡ ok b
+unfolding _>>_
+and-ok {A} {B} m {n} {b} e = go m e
+  where
+    go : (m : Outcome A) → m >> n ≡ ok b → n ≡ ok b
+    go (ok a) e = e
+    go (fault x) e = absurd (no-fault e)
+
+pub fine-at : {A : Type 0} {P : A → Type 0} {m : Outcome A} (a : A) → m ≡ ok a → Fine P m → P a
+fine-at {A} {P} a e h = let f = fine-ok h in subst P (ok-is (sym (f .1) ∙ e)) (f .2)
 
 -- ── with or without a fault ─────────────────────────────────────────────────────────────────
 

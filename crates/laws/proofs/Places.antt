@@ -29,7 +29,7 @@ pub data At (root : Script) : ℕ → Script → Type 0 where
 
 -- ── offsets ─────────────────────────────────────────────────────────────────────────────────
 
-in-range : (lo hi : ℕ) (c : Script) → Placed lo hi c → (lo ≤ offsetOf c) × (offsetOf c < hi)
+pub in-range : (lo hi : ℕ) (c : Script) → Placed lo hi c → (lo ≤ offsetOf c) × (offsetOf c < hi)
 in-range lo hi (success at) h = h
 in-range lo hi (fromNamed at n c) h = let r = in-range (suc at) hi c (h .1) in (h .0, omega (arith, r .0, r .1))
 in-range lo hi (block at each bs q c) h = let r = in-range (suc at) hi c (h .1) in (h .0, omega (arith, r .0, r .1))

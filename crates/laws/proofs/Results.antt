@@ -36,6 +36,15 @@ module _ {A B : Type 0} where
   after-inv (refused n) k e = absurd (not-refused e)
   after-inv (passed a) k e = (a, refl, e)
 
+  -- what goes on after a refusal, and after what has passed
+  pub bind-refused : {m : Result A} (f : A → Result B) {n : ℕ} → m ≡ refused n → (m >>= f) ≡ refused n
+  unfolding _>>=_
+  bind-refused f e = rw e
+
+  pub bind-passed : {m : Result A} (f : A → Result B) {a : A} → m ≡ passed a → (m >>= f) ≡ f a
+  unfolding _>>=_
+  bind-passed f e = rw e
+
 -- what is given, and what goes on with it
 pub given-bind-inv : {A B : Type 0} (n : ℕ) (o : Option A) (f : A → Result B) {b : B} → (given n o >>= f) ≡ passed b → (a : A) × (o ≡ some a) × (f a ≡ passed b)
 given-bind-inv n o f e = let i = bind-inv (given n o) f e in (i .0, given-inv n o (i .1), i .2)

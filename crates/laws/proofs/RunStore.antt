@@ -5,13 +5,11 @@ use mathlib.Core.List.{List, [], _∷_}
 use mathlib.Core.Option.{Option, none, some}
 use mathlib.Core.Path.{_≡_, refl, subst, _∙_}
 use native.Mathlib.Omega.{arith}
-use lib.IntN.{ℤ}
 use Rattle.definitions.specs.Lists.{isIn}
-use Rattle.definitions.specs.Terms.{Schema}
 use Rattle.definitions.specs.Tree.{Script, success, fromNamed, block, sequence}
 use Rattle.definitions.specs.Scope.{variablesOf}
 use Rattle.definitions.specs.Outcome.{Outcome, ok, fault, _>>=_, _>>_, demand, fromNamedNoURI}
-use Rattle.definitions.specs.Evaluate.{Named, named, isURI}
+use Rattle.definitions.specs.Evaluate.{Setting, Named, named, isURI}
 use Rattle.definitions.specs.Search.{Typing, Tuple}
 use Rattle.definitions.specs.Machine.{Item, State, Store, Next, step, stand, fresh, withStack, enterNamed, enterOnce, enterEach, answerNow, act, nextOf, next}
 use Rattle.definitions.specs.Machine.{Run, still, preceded, goOn, look, run, lastOf}
@@ -63,8 +61,8 @@ unfolding enterEach
 each-keeps s vs rest stack none = refl
 each-keeps s vs rest stack (some t) = refl
 
-module _ (S : Schema) (Γ : Typing) (clock : ℤ) where
-  act-keeps : (s : State) (rest : List Item) (last : Option Tuple) (c : Script) → Gives (Keeps s) (act S Γ clock s rest last c)
+module _ (σ : Setting) (Γ : Typing) where
+  act-keeps : (s : State) (rest : List Item) (last : Option Tuple) (c : Script) → Gives (Keeps s) (act σ Γ s rest last c)
   unfolding act
   act-keeps s rest last (success at) = ok-gives (Keeps s) (step (withStack s rest)) refl
   act-keeps s rest last (fromNamed at n c) =
@@ -73,31 +71,31 @@ module _ (S : Schema) (Γ : Typing) (clock : ℤ) where
       after-gives (Keeps s) (demand (isURI (g .term)) fromNamedNoURI) (ok (enterNamed s (fresh c ∷ rest) g))
       (ok-gives (Keeps s) (enterNamed s (fresh c ∷ rest) g) (named-keeps s (fresh c ∷ rest) g)))
   act-keeps s rest last (block at false bs q c) =
-      let found = answerNow S Γ clock s (variablesOf bs) q none in
+      let found = answerNow σ Γ s (variablesOf bs) q none in
       let enter : Option Tuple → Next = enterOnce s (variablesOf bs) (fresh c ∷ rest) in
       bind-gives (λ t. Unit {0}) (Keeps s) found (λ t. ok (enter t)) (any found) (λ t u.
       ok-gives (Keeps s) (enter t) (once-keeps s (variablesOf bs) (fresh c ∷ rest) t))
   act-keeps s rest last (block at true bs q c) =
-      let found = answerNow S Γ clock s (variablesOf bs) q last in
+      let found = answerNow σ Γ s (variablesOf bs) q last in
       let stack : Tuple → List Item = λ u. fresh c ∷ record { script = block at true bs q c; last = some u } ∷ rest in
       let enter : Option Tuple → Next = enterEach s (variablesOf bs) rest stack in
       bind-gives (λ t. Unit {0}) (Keeps s) found (λ t. ok (enter t)) (any found) (λ t u.
       ok-gives (Keeps s) (enter t) (each-keeps s (variablesOf bs) rest stack t))
   act-keeps s rest last (sequence at c d) = ok-gives (Keeps s) (step (withStack s (fresh c ∷ fresh d ∷ rest))) refl
 
-  next-keeps-go : (s : State) (stack : List Item) → Gives (Keeps s) (nextOf S Γ clock s stack)
+  next-keeps-go : (s : State) (stack : List Item) → Gives (Keeps s) (nextOf σ Γ s stack)
   unfolding nextOf
   next-keeps-go s [] = ok-gives (Keeps s) (stand Ended) tt
   next-keeps-go s (i ∷ rest) = act-keeps s rest (i .last) (i .script)
 
-  pub next-keeps : (s : State) → Gives (Keeps s) (next S Γ clock s)
+  pub next-keeps : (s : State) → Gives (Keeps s) (next σ Γ s)
   next-keeps s = next-keeps-go s (s .control .stack)
 
   -- ── a run ───────────────────────────────────────────────────────────────────────────────────
 
   -- every state passed has the store
   abbrev pub Same : Store → Run → Type 0
-  Same σ r = All (λ x. x .store ≡ σ) (r .passed)
+  Same store r = All (λ x. x .store ≡ store) (r .passed)
 
   go-keeps : (more : State → Outcome Run) → ((s : State) → Gives (Same (s .store)) (more s)) → (s : State) (n : Next)
       → Keeps s n → Gives (Same (s .store)) (goOn more n)
@@ -107,14 +105,14 @@ module _ (S : Schema) (Γ : Typing) (clock : ℤ) where
       ok-gives (Same (s .store)) (preceded x r) (k, all-weaken (λ y. y .store ≡ x .store) (λ y. y .store ≡ s .store) (λ y e. e ∙ k) (r .passed) f))
   go-keeps more h s (stand r) k = ok-gives (Same (s .store)) (still r) tt
 
-  pub run-keeps : (budget : ℕ) (s : State) → Gives (Same (s .store)) (run S Γ clock budget s)
+  pub run-keeps : (budget : ℕ) (s : State) → Gives (Same (s .store)) (run σ Γ budget s)
   unfolding run
   run-keeps zero s =
-      bind-gives (λ r. Unit {0}) (Same (s .store)) (look S Γ clock s (s .control .stack)) (λ r. ok (still r))
-      (any (look S Γ clock s (s .control .stack))) (λ r u. ok-gives (Same (s .store)) (still r) tt)
+      bind-gives (λ r. Unit {0}) (Same (s .store)) (look σ Γ s (s .control .stack)) (λ r. ok (still r))
+      (any (look σ Γ s (s .control .stack))) (λ r u. ok-gives (Same (s .store)) (still r) tt)
   run-keeps (suc budget) s =
-      bind-gives (Keeps s) (Same (s .store)) (next S Γ clock s) (goOn (run S Γ clock budget)) (next-keeps s)
-      (go-keeps (run S Γ clock budget) (λ x. run-keeps budget x) s)
+      bind-gives (Keeps s) (Same (s .store)) (next σ Γ s) (goOn (run σ Γ budget)) (next-keeps s)
+      (go-keeps (run σ Γ budget) (λ x. run-keeps budget x) s)
 
 -- what holds before a run and of every state passed holds after it
 pub last-all : (P : State → Type 0) (s : State) (passed : List State) → P s → All P passed → P (lastOf s passed)

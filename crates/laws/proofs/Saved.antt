@@ -1,28 +1,31 @@
 -- The saved run: what it holds of a sound state is that state again (stack, last tuples, bindings, fetched graphs).
-use Prim.Native.Nat.{ℕ, zero, suc, _+_, _-_, _≤_, _<_}
+use Prim.Native.Nat.{ℕ, zero, suc, _+_, _-_, _*_, _≤_, _<_}
 use mathlib.Core.Bool.{Bool, true, false, cond, _&&_}
 use mathlib.Core.List.{List, [], _∷_, _++_, append-assoc}
 use mathlib.Core.Option.{Option, none, some}
-use mathlib.Core.Path.{_≡_, refl, ap, subst, fun-ext, _∙_}
+use mathlib.Core.Path.{_≡_, refl, ap, sym, subst, fun-ext, _∙_}
 use mathlib.Core.Logic.{⊎-elim}
 use native.Mathlib.Omega.{arith}
 use lib.Dec.{T, eqb, leb, ltb, leb→le, le→leb, eqb→eq}
-use lib.ListN.{length, getD, take, replicate, length-append, length-replicate}
+use lib.ListN.{length, getD, take, drop, replicate, length-append, length-replicate}
 use lib.Seq.{take-at, getD-at}
 use borrow.Author.Tests.{lt-ltb, le-ltb, ltb-true}
-use Rattle.definitions.specs.Limits.{termLimit, quadLimit, graphLimit, depthLimit, variableLimit, pairLimit}
+use Rattle.definitions.specs.Limits.{termLimit, quadLimit, graphLimit, depthLimit, variableLimit, pairLimit, quadWidth}
 use Rattle.definitions.specs.Lists.{every}
-use Rattle.definitions.specs.Bytes.{filled, provided, onward}
+use Rattle.definitions.specs.Bytes.{allZero, filled, provided, onward}
 use Rattle.definitions.specs.Terms.{Term}
 use Rattle.definitions.specs.Tree.{Script, success, fromNamed, block, sequence}
 use Rattle.definitions.specs.Evaluate.{Quad, Bindings}
 use Rattle.definitions.specs.Search.{Tuple}
-use Rattle.definitions.specs.Machine.{Item, State, inLimits}
+use Rattle.definitions.specs.Machine.{Item, Control, Store, State, inLimits}
 use Rattle.definitions.specs.Saved.{termTable, quadTable, termsIn, quadsIn, Place, offsetOf, placeIn, lastTuple, noItem, stackFrom}
-use Rattle.definitions.specs.Saved.{savedItem, savedItems, zeroItem, lastNumbers, bindingsIn, isBound, numberOrZero, held, savedOf}
+use Rattle.definitions.specs.Saved.{savedItem, savedItems, zeroItem, lastNumbers, bindingsIn, isBound, numberOrZero, quadsFrom}
+use Rattle.definitions.specs.Saved.{heldControl, heldStore, held, savedControl, savedStore, savedOf}
 use Rattle.definitions.specs.Sound.{lastSound, stateSound}
 use Rattle.definitions.specs.Calls.{Checked}
 use Rattle.definitions.specs.declared.SavedItem.{SavedItem}
+use Rattle.definitions.specs.declared.SavedControl.{SavedControl}
+use Rattle.definitions.specs.declared.SavedStore.{SavedStore}
 use Rattle.definitions.specs.declared.SavedRun.{SavedRun}
 use Rattle.laws.proofs.Tests.{andLeft, andRight, isTrue}
 use Rattle.laws.proofs.Ranges.{split}
@@ -106,7 +109,7 @@ bound-again none = refl
 bound-again (some i) = refl
 
 -- only the 16 variables are bound
-pub bindings-few : (saved : SavedRun) (v i : ℕ) → bindingsIn saved v ≡ some i → v < variableLimit
+pub bindings-few : (saved : SavedControl) (v i : ℕ) → bindingsIn saved v ≡ some i → v < variableLimit
 unfolding bindingsIn
 bindings-few saved v i e = go (ltb v variableLimit) refl e
   where
@@ -114,15 +117,15 @@ bindings-few saved v i e = go (ltb v variableLimit) refl e
     go true t e = ltb-true v variableLimit t
     go false t e = absurd (some-not-none e refl)
 
-pub bindings-again : (types : List ℕ) (s : State) → ((v i : ℕ) → s .control .bindings v ≡ some i → v < variableLimit)
-    → bindingsIn (savedOf types s) ≡ s .control .bindings
-unfolding bindingsIn savedOf
-bindings-again types s few = fun-ext (λ v. ⊎-elim (outside v) (within v) (split variableLimit v))
+pub bindings-again : (types : List ℕ) (c : Control) → ((v i : ℕ) → c .bindings v ≡ some i → v < variableLimit)
+    → bindingsIn (savedControl types c) ≡ c .bindings
+unfolding bindingsIn savedControl
+bindings-again types c few = fun-ext (λ v. ⊎-elim (outside v) (within v) (split variableLimit v))
   where
     β : Bindings
-    β = s .control .bindings
+    β = c .bindings
 
-    within : (v : ℕ) → v < variableLimit → bindingsIn (savedOf types s) v ≡ β v
+    within : (v : ℕ) → v < variableLimit → bindingsIn (savedControl types c) v ≡ β v
     within v l =
         rw (lt-ltb v variableLimit l, at-variable (λ v. isBound (β v)) false v l, at-variable (λ v. numberOrZero (β v)) 0 v l) (bound-again (β v))
 
@@ -130,58 +133,89 @@ bindings-again types s few = fun-ext (λ v. ⊎-elim (outside v) (within v) (spl
     nothing v h none e = refl
     nothing v h (some i) e = absurd (omega (arith, few v i e))
 
-    outside : (v : ℕ) → variableLimit ≤ v → bindingsIn (savedOf types s) v ≡ β v
+    outside : (v : ℕ) → variableLimit ≤ v → bindingsIn (savedControl types c) v ≡ β v
     outside v h = rw (le-ltb v variableLimit h) (nothing v h (β v) refl)
 
 -- ── what is held, part by part ──────────────────────────────────────────────────────────────
 
--- the parts of the state that tables and saved run hold
-pub record Holding (root : Script) (termBytes quadBytes : List ℕ) (saved : SavedRun) (s : State) : Type 0 where
-  pub terms : termsIn termBytes ≡ some (s .store .terms)
-  pub quads : quadsIn (saved .quads) quadBytes ≡ some (s .store .quads)
-  pub graphs : T (leb (saved .graphs) graphLimit)
+pub record HoldsControl (root : Script) (saved : SavedControl) (c : Control) : Type 0 where
   pub height : T (leb (saved .height) depthLimit)
-  pub stack : stackFrom root (saved .height) (saved .items) ≡ some (s .control .stack)
-  pub bindings : bindingsIn saved ≡ s .control .bindings
-  pub fetched : take (saved .graphs) (saved .fetched) ≡ s .store .fetched
+  pub stack : stackFrom root (saved .height) (saved .items) ≡ some (c .stack)
+  pub bindings : bindingsIn saved ≡ c .bindings
+
+module _ (root : Script) (saved : SavedControl) (c : Control) where
+  control-of : HoldsControl root saved c → heldControl root saved ≡ some c
+  unfolding heldControl onward provided
+  control-of h =
+      rw (isTrue (leb (saved .height) depthLimit) (h .height), h .stack) (λ i. some (record { stack = c .stack; bindings = h .bindings i }))
+
+  control-inv : heldControl root saved ≡ some c → HoldsControl root saved c
+  unfolding heldControl
+  control-inv e =
+      let made : List Item → Control = λ stack. record { stack = stack; bindings = bindingsIn saved } in
+      let stacked = stackFrom root (saved .height) (saved .items) in
+      let p = provided-inv (leb (saved .height) depthLimit) (onward stacked (λ stack. some (made stack))) e in
+      let x = onward-inv stacked (λ stack. some (made stack)) (p .1) in
+      subst (HoldsControl root saved) {x = made (x .0)} (some-is {a = made (x .0)} (x .2)) (record { height = p .0; stack = x .1; bindings = refl })
+
+pub record HoldsStore (termBytes quadBytes : List ℕ) (saved : SavedStore) (s : Store) : Type 0 where
+  pub terms : termsIn termBytes ≡ some (s .terms)
+  pub quads : quadsIn (saved .quads) quadBytes ≡ some (s .quads)
+  pub graphs : T (leb (saved .graphs) graphLimit)
+  pub fetched : take (saved .graphs) (saved .fetched) ≡ s .fetched
+
+module _ (termBytes quadBytes : List ℕ) (saved : SavedStore) (s : Store) where
+  store-of : HoldsStore termBytes quadBytes saved s → heldStore termBytes quadBytes saved ≡ some s
+  unfolding heldStore onward provided
+  store-of h =
+      rw (h .terms, h .quads, isTrue (leb (saved .graphs) graphLimit) (h .graphs))
+      (λ i. some (record { terms = s .terms; quads = s .quads; fetched = h .fetched i }))
+
+  pub store-inv : heldStore termBytes quadBytes saved ≡ some s → HoldsStore termBytes quadBytes saved s
+  unfolding heldStore
+  store-inv e =
+      let fits = leb (saved .graphs) graphLimit in
+      let made : List Term → List Quad → Store = λ terms quads. record { terms = terms; quads = quads; fetched = take (saved .graphs) (saved .fetched) } in
+      let counted : List Term → Option Store = λ terms. onward (quadsIn (saved .quads) quadBytes) (λ quads. provided fits (some (made terms quads))) in
+      let x = onward-inv (termsIn termBytes) counted e in
+      let y = onward-inv (quadsIn (saved .quads) quadBytes) (λ quads. provided fits (some (made (x .0) quads))) (x .2) in
+      let held = made (x .0) (y .0) in
+      let p = provided-inv fits (some held) (y .2) in
+      subst (HoldsStore termBytes quadBytes saved) {x = held} (some-is {a = held} (p .1))
+      (record { terms = x .1; quads = y .1; graphs = p .0; fetched = refl })
+
+-- as many quads as are counted
+pub quads-from-count : (n : ℕ) (table : List ℕ) (at : ℕ) → length (quadsFrom n table at) ≡ n
+unfolding quadsFrom
+quads-from-count zero table at = refl
+quads-from-count (suc n) table at = ap suc (quads-from-count n table (at + quadWidth))
+
+pub quads-in-are : (n : ℕ) (table : List ℕ) (qs : List Quad) → quadsIn n table ≡ some qs → quadsFrom n table 0 ≡ qs
+unfolding quadsIn
+quads-in-are n table qs e = some-is (provided-inv (leb n quadLimit && allZero (drop (quadWidth * n) table)) (some (quadsFrom n table 0)) e .1)
+
+pub quads-in-count : (n : ℕ) (table : List ℕ) (qs : List Quad) → quadsIn n table ≡ some qs → length qs ≡ n
+quads-in-count n table qs e = ap length (sym (quads-in-are n table qs e)) ∙ quads-from-count n table 0
+
+pub record Holding (root : Script) (termBytes quadBytes : List ℕ) (saved : SavedRun) (s : State) : Type 0 where
+  pub control : HoldsControl root (saved .control) (s .control)
+  pub store : HoldsStore termBytes quadBytes (saved .store) (s .store)
 
 module _ (root : Script) (termBytes quadBytes : List ℕ) (saved : SavedRun) (s : State) where
   pub held-of : Holding root termBytes quadBytes saved s → held root termBytes quadBytes saved ≡ some s
-  unfolding held onward provided
+  unfolding held onward
   held-of h =
-      rw (h .terms, h .quads, isTrue (leb (saved .graphs) graphLimit) (h .graphs), isTrue (leb (saved .height) depthLimit) (h .height), h .stack)
-      (λ i. some (record {
-        control = record { stack = s .control .stack; bindings = h .bindings i };
-        store = record { terms = s .store .terms; quads = s .store .quads; fetched = h .fetched i };
-      }))
+      rw (store-of termBytes quadBytes (saved .store) (s .store) (h .store), control-of root (saved .control) (s .control) (h .control)) refl
 
   pub held-inv : held root termBytes quadBytes saved ≡ some s → Holding root termBytes quadBytes saved s
   unfolding held
   held-inv e =
-      let fits = leb (saved .graphs) graphLimit in
-      let low = leb (saved .height) depthLimit in
-      let made : List Term → List Quad → List Item → State = λ terms quads stack.
-      record {
-        control = record { stack = stack; bindings = bindingsIn saved };
-        store = record { terms = terms; quads = quads; fetched = take (saved .graphs) (saved .fetched) };
-      } in
-      let stacked : List Term → List Quad → Option State = λ terms quads.
-      onward (stackFrom root (saved .height) (saved .items)) (λ stack. some (made terms quads stack)) in
-      let x = onward-inv (termsIn termBytes) (λ terms. onward (quadsIn (saved .quads) quadBytes) (λ quads. provided (fits && low) (stacked terms quads))) e in
-      let y = onward-inv (quadsIn (saved .quads) quadBytes) (λ quads. provided (fits && low) (stacked (x .0) quads)) (x .2) in
-      let p = provided-inv (fits && low) (stacked (x .0) (y .0)) (y .2) in
-      let z = onward-inv (stackFrom root (saved .height) (saved .items)) (λ stack. some (made (x .0) (y .0) stack)) (p .1) in
-      let held = made (x .0) (y .0) (z .0) in
-      subst (Holding root termBytes quadBytes saved) {x = held} (some-is {a = held} (z .2))
-      (record {
-        terms = x .1;
-        quads = y .1;
-        graphs = andLeft fits low (p .0);
-        height = andRight fits low (p .0);
-        stack = z .1;
-        bindings = refl;
-        fetched = refl;
-      })
+      let made : Store → Control → State = λ store control. record { control = control; store = store } in
+      let x = onward-inv (heldStore termBytes quadBytes (saved .store)) (λ store. onward (heldControl root (saved .control)) (λ control. some (made store control))) e in
+      let y = onward-inv (heldControl root (saved .control)) (λ control. some (made (x .0) control)) (x .2) in
+      let held = made (x .0) (y .0) in
+      subst (Holding root termBytes quadBytes saved) {x = held} (some-is {a = held} (y .2))
+      (record { control = control-inv root (saved .control) (y .0) (y .1); store = store-inv termBytes quadBytes (saved .store) (x .0) (x .1) })
 
 -- an item that is held is the record of the script at its offset
 stack-own : (root : Script) (n : ℕ) (items : List SavedItem) (stack : List Item) → stackFrom root n items ≡ some stack → Own root stack
@@ -200,11 +234,11 @@ stack-own root (suc n) items stack e =
 pub held-sound : (c : Checked) (termBytes quadBytes : List ℕ) (saved : SavedRun) (s : State) → held (c .root) termBytes quadBytes saved ≡ some s
     → T (stateSound (c .schema) (c .types) (c .terms) (c .root) s) → Sound c s
 held-sound c termBytes quadBytes saved s e t =
-    let h = held-inv (c .root) termBytes quadBytes saved s e in
+    let h = held-inv (c .root) termBytes quadBytes saved s e .control in
     record {
       test = t;
-      few = λ v i b. bindings-few saved v i (ap (λ (β : Bindings). β v) (h .bindings) ∙ b);
-      own = stack-own (c .root) (saved .height) (saved .items) (s .control .stack) (h .stack);
+      few = λ v i b. bindings-few (saved .control) v i (ap (λ (β : Bindings). β v) (h .bindings) ∙ b);
+      own = stack-own (c .root) (saved .control .height) (saved .control .items) (s .control .stack) (h .stack);
     }
 
 -- ── the whole, written and read ─────────────────────────────────────────────────────────────
@@ -252,34 +286,46 @@ module _ (c : Checked) (accepted : Accepted c) (s : State) (sound : Sound c s) w
         object = number-small (q .object) (is-below terms (q .object) (f .object .term) (f .object .there));
       }) (s .store .quads) (all-facts .quads)
 
+  -- the saved control of a sound state holds its control
+  pub control-again : (types : List ℕ) → HoldsControl (c .root) (savedControl types (s .control)) (s .control)
+  unfolding savedControl
+  control-again types =
+      let stack = s .control .stack in
+      let after = replicate (depthLimit - length (savedItems stack)) zeroItem in
+      record {
+        height = le→leb (length stack) depthLimit stack-low;
+        stack = stack-again (c .root) (length (s .store .terms)) (s .control .bindings) stack after (all-facts .stack) (sound .own);
+        bindings = bindings-again types (s .control) (sound .few);
+      }
+
+  -- and whatever tables hold its terms and quads, they hold its store with its saved store
+  pub store-again : (termBytes quadBytes : List ℕ) → termsIn termBytes ≡ some (s .store .terms)
+      → quadsIn (length (s .store .quads)) quadBytes ≡ some (s .store .quads) → HoldsStore termBytes quadBytes (savedStore (s .store)) (s .store)
+  unfolding savedStore
+  store-again termBytes quadBytes terms quads =
+      let fetched = s .store .fetched in
+      record { terms = terms; quads = quads; graphs = limits .1; fetched = take-filled (length fetched) graphLimit fetched refl }
+
   -- tables and saved run of a sound state hold it
   pub held-again : ValidIn s → (types : List ℕ) → held (c .root) (termTable (s .store .terms)) (quadTable (s .store .quads)) (savedOf types s) ≡ some s
-  unfolding savedOf
   held-again valid types =
-      let stack = s .control .stack in
-      let β = s .control .bindings in
-      let after = replicate (depthLimit - length (savedItems stack)) zeroItem in
-      held-of (c .root) (termTable (s .store .terms)) (quadTable (s .store .quads)) (savedOf types s) s
+      let σ = s .store in
+      held-of (c .root) (termTable (σ .terms)) (quadTable (σ .quads)) (savedOf types s) s
       (record {
-        terms = terms-of (s .store .terms) valid terms-few;
-        quads = quads-of (s .store .quads) quads-small quads-few;
-        graphs = limits .1;
-        height = le→leb (length stack) depthLimit stack-low;
-        stack = stack-again (c .root) (length (s .store .terms)) β stack after (all-facts .stack) (sound .own);
-        bindings = bindings-again types s (sound .few);
-        fetched = take-filled (length (s .store .fetched)) graphLimit (s .store .fetched) refl;
+        control = control-again types;
+        store = store-again (termTable (σ .terms)) (quadTable (σ .quads)) (terms-of (σ .terms) valid terms-few) (quads-of (σ .quads) quads-small quads-few);
       })
 
 -- ── the places of the saved run ─────────────────────────────────────────────────────────────
 
 -- 16 types, 16 variables, 64 graphs and 24 items with four numbers each
 pub record Shaped (saved : SavedRun) : Type 0 where
-  pub types : length (saved .types) ≡ variableLimit
-  pub bound : length (saved .bound) ≡ variableLimit
-  pub bindings : length (saved .bindings) ≡ variableLimit
-  pub fetched : length (saved .fetched) ≡ graphLimit
-  pub items : length (saved .items) ≡ depthLimit
-  pub lasts : All (λ i. length (i .last) ≡ pairLimit) (saved .items)
+  pub types : length (saved .control .types) ≡ variableLimit
+  pub bound : length (saved .control .bound) ≡ variableLimit
+  pub bindings : length (saved .control .bindings) ≡ variableLimit
+  pub fetched : length (saved .store .fetched) ≡ graphLimit
+  pub items : length (saved .control .items) ≡ depthLimit
+  pub lasts : All (λ i. length (i .last) ≡ pairLimit) (saved .control .items)
 
 last-shaped : (terms : ℕ) (c : Script) (last : Option Tuple) → PairsFit c → T (lastSound terms c last) → length (lastNumbers last) ≡ pairLimit
 unfolding lastSound
@@ -307,7 +353,7 @@ zero-items (suc n) = (filled-length pairLimit [] (omega arith), zero-items n)
 
 pub saved-shaped : (c : Checked) → Accepted c → PairsFit (c .root) → (s : State) → Sound c s → (types : List ℕ)
     → length types ≡ variableLimit → Shaped (savedOf types s)
-unfolding savedOf
+unfolding savedControl savedStore
 saved-shaped c accepted pairs s sound types n =
     let stack = s .control .stack in
     let after = depthLimit - length (savedItems stack) in

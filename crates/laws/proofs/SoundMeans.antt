@@ -19,7 +19,8 @@ use Rattle.definitions.specs.Evaluate.{Bindings, Quad, sameQuad}
 use Rattle.definitions.specs.Search.{Typing, Tuple}
 use Rattle.definitions.specs.Machine.{Item, State, objectFits, inLimits}
 use Rattle.definitions.specs.Saved.{Place, placeIn, offsetOf, isBound}
-use Rattle.definitions.specs.Sound.{beginsWith, isURINumber, numberHas, pairFits, quadSound, deepEnough, freeBound, lastSound, itemSound, stackSound, bindingSound, stateSound}
+use Rattle.definitions.specs.Sound.{beginsWith, isURINumber, numberHas, pairFits, quadSound, deepEnough, freeBound, lastSound, itemSound, stackSound, bindingSound}
+use Rattle.definitions.specs.Sound.{storeSound, controlSound, stateSound}
 use Rattle.definitions.specs.Calls.{Checked}
 use Rattle.laws.proofs.Tests.{andLeft, andRight, andMake, orCases, orLeft, orRight, decide}
 use Rattle.laws.specs.Lists.{All}
@@ -35,20 +36,20 @@ use Rattle.laws.specs.Quads.{QuadFacts}
 
 -- ── terms that go on ────────────────────────────────────────────────────────────────────────
 
-begins-extends : (known terms : List Term) → T (beginsWith known terms) → Extends known terms
+begins-extends : (loaded terms : List Term) → T (beginsWith loaded terms) → Extends loaded terms
 unfolding beginsWith
 begins-extends [] terms h i t e = absurd (Option·none-ne-some t e)
-begins-extends (k ∷ known) [] h i t e = absurd h
-begins-extends (k ∷ known) (x ∷ terms) h zero t e = rw (← (same-term k x (andLeft (sameTerm k x) (beginsWith known terms) h))) e
-begins-extends (k ∷ known) (x ∷ terms) h (suc i) t e = begins-extends known terms (andRight (sameTerm k x) (beginsWith known terms) h) i t e
+begins-extends (k ∷ loaded) [] h i t e = absurd h
+begins-extends (k ∷ loaded) (x ∷ terms) h zero t e = rw (← (same-term k x (andLeft (sameTerm k x) (beginsWith loaded terms) h))) e
+begins-extends (k ∷ loaded) (x ∷ terms) h (suc i) t e = begins-extends loaded terms (andRight (sameTerm k x) (beginsWith loaded terms) h) i t e
 
-extends-begins : (known terms : List Term) → Extends known terms → T (beginsWith known terms)
+extends-begins : (loaded terms : List Term) → Extends loaded terms → T (beginsWith loaded terms)
 unfolding beginsWith
 extends-begins [] terms h = tt
-extends-begins (k ∷ known) [] h = absurd (Option·none-ne-some k (h 0 k refl))
-extends-begins (k ∷ known) (x ∷ terms) h =
-    andMake (sameTerm k x) (beginsWith known terms) (rw (Option·some-injective x k (h 0 k refl)) (term-refl k))
-    (extends-begins known terms (λ i t e. h (suc i) t e))
+extends-begins (k ∷ loaded) [] h = absurd (Option·none-ne-some k (h 0 k refl))
+extends-begins (k ∷ loaded) (x ∷ terms) h =
+    andMake (sameTerm k x) (beginsWith loaded terms) (rw (Option·some-injective x k (h 0 k refl)) (term-refl k))
+    (extends-begins loaded terms (λ i t e. h (suc i) t e))
 
 abbrev any : Ty
 any = plain Datatype.anyURI
@@ -184,8 +185,8 @@ abbrev itemTests : (root : Script) → (terms : ℕ) → Bindings → (place : �
 itemTests root terms β place i =
     deepEnough place (placeIn root (offsetOf (i .script))) ∷ freeBound β (i .script) ∷ lastSound terms (i .script) (i .last) ∷ []
 
-module _ (root : Script) (known terms : ℕ) (β : Bindings) where
-  item-facts : ScriptBounded known root → (place : ℕ) (i : Item) (depth : ℕ)
+module _ (root : Script) (loaded terms : ℕ) (β : Bindings) where
+  item-facts : ScriptBounded loaded root → (place : ℕ) (i : Item) (depth : ℕ)
       → placeIn root (offsetOf (i .script)) ≡ some (record { depth = depth; script = i .script })
       → T (itemSound root terms β place i) → ItemFacts root terms β place i
   unfolding itemSound
@@ -198,11 +199,11 @@ module _ (root : Script) (known terms : ℕ) (β : Bindings) where
         depth = depth;
         inRoot = inRoot;
         deep = leb→le place depth far;
-        bound = free-facts β known (i .script) (bounded-at inRoot known b) free;
+        bound = free-facts β loaded (i .script) (bounded-at inRoot loaded b) free;
         last = last;
       }
 
-  stack-facts : ScriptBounded known root → (stack : List Item) → Own root stack → T (stackSound root terms β stack) → StackFacts root terms β stack
+  stack-facts : ScriptBounded loaded root → (stack : List Item) → Own root stack → T (stackSound root terms β stack) → StackFacts root terms β stack
   unfolding stackSound
   stack-facts b [] o h = tt
   stack-facts b (i ∷ rest) o h =
@@ -274,30 +275,41 @@ pub record Facts (c : Checked) (s : State) : Type 0 where
   pub bindings : (v i : ℕ) → s .control .bindings v ≡ some i → BindingFacts (c .schema) (typeAt (c .types)) (s .store .terms) (c .root) v i
 
 -- the tests of refusal 10, in their order
-abbrev stateTests : Checked → State → List Bool
-stateTests c s =
-    let terms = s .store .terms in
-    let fetched = s .store .fetched in
-    distinct sameTerm terms
-    ∷ beginsWith (c .terms) terms
-    ∷ distinct sameQuad (s .store .quads)
-    ∷ every (quadSound (c .schema) terms fetched) (s .store .quads)
-    ∷ distinct eqb fetched
-    ∷ every (isURINumber (c .schema) terms) fetched
-    ∷ inLimits (s .store)
-    ∷ stackSound (c .root) (length terms) (s .control .bindings) (s .control .stack)
-    ∷ every (bindingTest (c .schema) (c .types) terms (c .root) (s .control .bindings)) variables
-    ∷ []
+module _ (c : Checked) (s : State) where
+  abbrev storeTests : List Bool
+  storeTests =
+      let terms = s .store .terms in
+      let fetched = s .store .fetched in
+      distinct sameTerm terms
+      ∷ beginsWith (c .terms) terms
+      ∷ distinct sameQuad (s .store .quads)
+      ∷ every (quadSound (c .schema) terms fetched) (s .store .quads)
+      ∷ distinct eqb fetched
+      ∷ every (isURINumber (c .schema) terms) fetched
+      ∷ inLimits (s .store)
+      ∷ []
+
+  abbrev controlTests : List Bool
+  controlTests =
+      let terms = s .store .terms in
+      stackSound (c .root) (length terms) (s .control .bindings) (s .control .stack)
+      ∷ every (bindingTest (c .schema) (c .types) terms (c .root) (s .control .bindings)) variables
+      ∷ []
+
+  abbrev halves : List Bool
+  halves = storeSound (c .schema) (c .terms) (s .store) ∷ controlSound (c .schema) (c .types) (c .root) (s .store .terms) (s .control) ∷ []
 
 module _ (c : Checked) (accepted : Accepted c) (s : State) where
   pub facts : Sound c s → Facts c s
-  unfolding stateSound
+  unfolding storeSound controlSound stateSound
   facts h =
       let S = c .schema in
       let terms = s .store .terms in
       let fetched = s .store .fetched in
       let β = s .control .bindings in
-      let (termsApart, (begins, (quadsApart, (quads, (fetchedApart, (uris, (limits, (stack, (bindings, u))))))))) = conj-all (stateTests c s) (h .test) in
+      let (store, (control, u)) = conj-all (halves c s) (h .test) in
+      let (termsApart, (begins, (quadsApart, (quads, (fetchedApart, (uris, (limits, v))))))) = conj-all (storeTests c s) store in
+      let (stack, (bindings, w)) = conj-all (controlTests c s) control in
       record {
         termsApart = termsApart;
         extends = begins-extends (c .terms) terms begins;
@@ -311,7 +323,7 @@ module _ (c : Checked) (accepted : Accepted c) (s : State) where
       }
 
   pub sound : Facts c s → Sound c s
-  unfolding stateSound
+  unfolding storeSound controlSound stateSound
   sound h =
       let S = c .schema in
       let terms = s .store .terms in
@@ -323,8 +335,10 @@ module _ (c : Checked) (accepted : Accepted c) (s : State) where
       let stack = stack-test (c .root) 0 scriptLimit (accepted .placed) (length terms) β (s .control .stack) (h .stack) in
       let bindings = bindings-test S (c .types) terms (c .root) β (h .bindings) in
       record {
-        test = all-conj (stateTests c s)
-            (h .termsApart, (begins, (h .quadsApart, (quads, (h .fetchedApart, (uris, (h .limits, (stack, (bindings, tt)))))))));
+        test = all-conj (halves c s) (
+          all-conj (storeTests c s) (h .termsApart, (begins, (h .quadsApart, (quads, (h .fetchedApart, (uris, (h .limits, tt))))))),
+          (all-conj (controlTests c s) (stack, (bindings, tt)), tt),
+        );
         few = λ v i e. h .bindings v i e .below;
         own = stack-own (c .root) 0 scriptLimit (accepted .placed) (length terms) β (s .control .stack) (h .stack);
       }

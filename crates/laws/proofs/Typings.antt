@@ -11,7 +11,8 @@ use Rattle.definitions.specs.Lists.{every, some?}
 use Rattle.definitions.specs.Types.{Ty, leq, sameType, allTypes}
 use Rattle.definitions.specs.Terms.{Sort}
 use Rattle.definitions.specs.Tree.{Script}
-use Rattle.definitions.specs.Typing.{scriptTyped, Written, unbound, undecided, fixed, choices, eachWith, assignments, typeAt, typings, above, Verdict, noTyping, noGreatest, greatest, firstAbove, judge, verdict}
+use Rattle.definitions.specs.Typing.{scriptTyped, Written, unbound, undecided, fixed, choices, eachWith, assignments, typeAt, typings, above, Verdict, noTyping, noGreatest}
+use Rattle.definitions.specs.Typing.{greatest, firstAbove, judge, verdict}
 use Rattle.laws.proofs.Tests.{andLeft, andRight, andMake, notBoth, by-test}
 use Rattle.laws.specs.Lists.{_∈_}
 use Rattle.laws.proofs.Lists.{here, there, by-cons, by-append, every-at, every-of, some-at, keep-at, keep-of, elim-is-cond, those-is-keep}

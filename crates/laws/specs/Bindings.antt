@@ -13,7 +13,7 @@ use Rattle.definitions.specs.Search.{Typing, Tuple}
 
 -- a table goes on with more terms, or with none
 abbrev pub Extends : List Term → List Term → Type 0
-Extends known terms = (i : ℕ) (t : Term) → getElem? known i ≡ some t → getElem? terms i ≡ some t
+Extends loaded terms = (i : ℕ) (t : Term) → getElem? loaded i ≡ some t → getElem? terms i ≡ some t
 
 -- number i of the table is a term of type τ
 pub record Holds (S : Schema) (terms : List Term) (i : ℕ) (τ : Ty) : Type 0 where

@@ -13,9 +13,9 @@ isSome none = false
 isSome (some a) = true
 
 -- whether there is something that passes a test
-abbrev pub holdsOf : {A : Type 0} → (A → Bool) → Option A → Bool
-holdsOf test none = false
-holdsOf test (some a) = test a
+unfoldable pub passes : {A : Type 0} → (A → Bool) → Option A → Bool
+passes test none = false
+passes test (some a) = test a
 
 -- the offset after what was read
 unfoldable pub nextOf : {A : Type 0} → Got A → Read

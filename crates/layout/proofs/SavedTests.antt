@@ -11,15 +11,19 @@ use Rattle.definitions.specs.Lists.{every}
 use Rattle.definitions.specs.Bytes.{word, part, provided}
 use Rattle.definitions.specs.Limits.{boundOffset, itemsOffset}
 use Rattle.definitions.specs.Exports.{itemsGood, savedFrom}
-use Rattle.layout.specs.ReadSaved.{fieldsIn}
+use Rattle.definitions.specs.declared.SavedRun.{SavedRun}
+use Rattle.layout.specs.ReadSaved.{controlIn, storeIn}
 
 module _ (b : List ℕ) (height : ℕ) (e : height ≡ word b 0) where
+  abbrev pub whole : SavedRun
+  whole = record { control = controlIn b; store = storeIn b }
+
   abbrev pub marksGood : Bool
   marksGood = every (λ m. leb m 1) (part b boundOffset variableLimit)
 
-  tests : savedFrom b ≡ provided (leb height depthLimit && (marksGood && itemsGood height b itemsOffset)) (some (fieldsIn b))
+  tests : savedFrom b ≡ provided (leb height depthLimit && (marksGood && itemsGood height b itemsOffset)) (some whole)
   unfolding savedFrom
-  tests = ap (λ (n : ℕ). provided (leb n depthLimit && (marksGood && itemsGood n b itemsOffset)) (some (fieldsIn b))) (sym e)
+  tests = ap (λ (n : ℕ). provided (leb n depthLimit && (marksGood && itemsGood n b itemsOffset)) (some whole)) (sym e)
 
   pub too-high : depthLimit < height → savedFrom b ≡ none
   unfolding provided
@@ -34,6 +38,6 @@ module _ (b : List ℕ) (height : ℕ) (e : height ≡ word b 0) where
     unfolding provided
     bad-items m i = tests ∙ rw (le-leb height depthLimit low, m, i)
 
-    pub all-good : marksGood ≡ true → itemsGood height b itemsOffset ≡ true → savedFrom b ≡ some (fieldsIn b)
+    pub all-good : marksGood ≡ true → itemsGood height b itemsOffset ≡ true → savedFrom b ≡ some whole
     unfolding provided
     all-good m i = tests ∙ rw (le-leb height depthLimit low, m, i)

@@ -9,22 +9,24 @@ use Rattle.definitions.specs.Bytes.{word, part}
 use Rattle.definitions.specs.Saved.{noRun}
 use Rattle.definitions.specs.Limits.{typesOffset, boundOffset, bindingsOffset, fetchedOffset, itemsOffset}
 use Rattle.definitions.specs.Exports.{wordsFrom, itemsFrom}
+use Rattle.definitions.specs.declared.SavedControl.{SavedControl}
+use Rattle.definitions.specs.declared.SavedStore.{SavedStore}
 use Rattle.definitions.specs.declared.SavedRun.{SavedRun}
 use Rattle.layout.specs.declared.SavedRead.{SavedRead}
 
--- the fields, as `savedFrom` gives them where the bytes are a saved run's
-abbrev pub fieldsIn : List ℕ → SavedRun
-fieldsIn b =
+-- the parts, as `savedFrom` gives them where the bytes are a saved run's
+abbrev pub controlIn : List ℕ → SavedControl
+controlIn b =
     record {
       height = word b 0;
-      quads = word b 2;
-      graphs = word b 4;
       types = part b typesOffset variableLimit;
       bound = map (eqb 1) (part b boundOffset variableLimit);
       bindings = wordsFrom variableLimit b bindingsOffset;
-      fetched = wordsFrom graphLimit b fetchedOffset;
       items = itemsFrom depthLimit (word b 0) b itemsOffset;
     }
+
+abbrev pub storeIn : List ℕ → SavedStore
+storeIn b = record { quads = word b 2; graphs = word b 4; fetched = wordsFrom graphLimit b fetchedOffset }
 
 -- the saved run, where there is one
 abbrev pub readOf : Option SavedRun → SavedRead

@@ -9,8 +9,7 @@ ghost use Rattle.definitions.specs.Bytes.{word};
 ghost use mathlib.Core.Option.{none};
 ghost use Rattle.definitions.specs.Limits.{savedWidth, itemsOffset, itemWidth, depthLimit};
 ghost use Rattle.definitions.specs.Exports.{wordsFrom, itemAt, itemsFrom, itemsGood, savedFrom};
-ghost use Rattle.definitions.specs.Saved.{zeroItem};
-ghost use Rattle.layout.specs.ReadSaved.{fieldsIn, readOf};
+ghost use Rattle.layout.specs.ReadSaved.{controlIn, storeIn, readOf};
 use crate::SavedRead;
 use definitions::BINDINGS_OFFSET;
 use definitions::BOUND_OFFSET;
@@ -20,11 +19,15 @@ use definitions::ITEM_LIMIT;
 use definitions::ITEM_WIDTH;
 use definitions::ITEMS_OFFSET;
 use definitions::PAIR_LIMIT;
+use definitions::SavedControl;
 use definitions::SavedItem;
 use definitions::SavedRun;
+use definitions::SavedStore;
 use definitions::TYPES_OFFSET;
-use definitions::VARIABLES;
+use definitions::VARIABLE_LIMIT;
 use fields::numbers::number_at;
+use store::bare::bare_run;
+use store::bare::zero_item;
 
 // As many 2-byte numbers from an offset on as there are places for them.
 fn read_words(b: &[u8], at: usize, out: &mut [u16])
@@ -97,17 +100,6 @@ fn items_good(b: &[u8], height: usize) -> bool
     true
 }
 
-// What stands in a place that is not in use.
-fn zero_item() -> SavedItem
-    ensures { λ r. ⌜ r ≡ zeroItem ⌝ }
-{
-    SavedItem {
-        at: 0,
-        started: false,
-        last: [0; PAIR_LIMIT],
-    }
-}
-
 // The items in use, and zeros in the places above them.
 fn read_items(b: &[u8], height: usize) -> [SavedItem; ITEM_LIMIT]
     requires { ⌜ height ≤ depthLimit ⌝ }
@@ -125,30 +117,37 @@ fn read_items(b: &[u8], height: usize) -> [SavedItem; ITEM_LIMIT]
     items
 }
 
-// The saved run's fields.
-fn read_fields(b: &[u8]) -> SavedRun
+fn read_control(b: &[u8]) -> SavedControl
     requires { ⌜ word (now b) 0 ≤ depthLimit ⌝ }
     requires { do ⌜ (← ⟦b.len()⟧) ≡ savedWidth ⌝ }
-    ensures { λ r. ⌜ r ≡ fieldsIn (now (b .entry)) ⌝ }
+    ensures { λ r. ⌜ r ≡ controlIn (now (b .entry)) ⌝ }
 {
-    let mut types = [0u8; VARIABLES];
+    let mut types = [0u8; VARIABLE_LIMIT];
     bytes::copy(&b[TYPES_OFFSET..BOUND_OFFSET], &mut types);
-    let mut bound = [false; VARIABLES];
+    let mut bound = [false; VARIABLE_LIMIT];
     read_marks(&b[BOUND_OFFSET..BINDINGS_OFFSET], &mut bound);
-    let mut bindings = [0u16; VARIABLES];
+    let mut bindings = [0u16; VARIABLE_LIMIT];
     read_words(b, BINDINGS_OFFSET, &mut bindings);
-    let mut fetched = [0u16; GRAPH_LIMIT];
-    read_words(b, FETCHED_OFFSET, &mut fetched);
     let height = number_at(b, 0);
-    SavedRun {
+    SavedControl {
         height,
-        quads: number_at(b, 2),
-        graphs: number_at(b, 4),
         types,
         bound,
         bindings,
-        fetched,
         items: read_items(b, height as usize),
+    }
+}
+
+fn read_store(b: &[u8]) -> SavedStore
+    requires { do ⌜ (← ⟦b.len()⟧) ≡ savedWidth ⌝ }
+    ensures { λ r. ⌜ r ≡ storeIn (now (b .entry)) ⌝ }
+{
+    let mut fetched = [0u16; GRAPH_LIMIT];
+    read_words(b, FETCHED_OFFSET, &mut fetched);
+    SavedStore {
+        quads: number_at(b, 2),
+        graphs: number_at(b, 4),
+        fetched,
     }
 }
 
@@ -156,17 +155,7 @@ fn read_fields(b: &[u8]) -> SavedRun
 fn unsound() -> SavedRead
     ensures { λ r. ⌜ r ≡ readOf none ⌝ }
 {
-    let empty = zero_item();
-    let saved = SavedRun {
-        height: 0,
-        quads: 0,
-        graphs: 0,
-        types: [0; VARIABLES],
-        bound: [false; VARIABLES],
-        bindings: [0; VARIABLES],
-        fetched: [0; GRAPH_LIMIT],
-        items: [empty; ITEM_LIMIT],
-    };
+    let saved = bare_run(0, [0; VARIABLE_LIMIT]);
     SavedRead { ok: false, saved }
 }
 
@@ -185,8 +174,10 @@ pub fn read_saved(b: &[u8]) -> SavedRead
     if !items_good(b, height as usize) {
         return unsound();
     }
+    let control = read_control(b);
+    let store = read_store(b);
     SavedRead {
         ok: true,
-        saved: read_fields(b),
+        saved: SavedRun { control, store },
     }
 }

@@ -101,12 +101,14 @@ pub fn write_saved(run: SavedRun, out: &mut [u8])
     requires { do ⌜ (← ⟦out.len()⟧) ≡ savedWidth ⌝ }
     ensures { λ r. ⌜ now (out .exit) ≡ savedBytes run ⌝ }
 {
-    let counts = [run.height, run.quads, run.graphs];
-    let types = run.types;
-    let bound = run.bound;
-    let bindings = run.bindings;
-    let fetched = run.fetched;
-    let items = run.items;
+    let control = run.control;
+    let store = run.store;
+    let counts = [control.height, store.quads, store.graphs];
+    let types = control.types;
+    let bound = control.bound;
+    let bindings = control.bindings;
+    let fetched = store.fetched;
+    let items = control.items;
     write_words(&counts, &mut out[0..TYPES_OFFSET]);
     bytes::copy(&types, &mut out[TYPES_OFFSET..BOUND_OFFSET]);
     write_marks(&bound, &mut out[BOUND_OFFSET..BINDINGS_OFFSET]);

@@ -6,33 +6,32 @@ use mathlib.Core.List.{List, [], _∷_, _++_, map}
 use mathlib.Core.Bool.{Bool, true, false, cond, _&&_}
 use mathlib.Core.Option.{Option, none, some}
 use mathlib.Core.Logic.{⊎-elim}
-use lib.IntN.{ℤ}
 use lib.Dec.{T, eqb, eqb→eq, eqb-refl, ltb, ltb→lt}
 use lib.ListN.{length, getD, take, replicate, List·getD-eq-default}
 use borrow.Author.Tests.{lt-ltb, le-ltb}
 use Rattle.definitions.specs.Limits.{variableLimit, pairLimit, termLimit}
 use Rattle.definitions.specs.Lists.{every, isIn}
-use Rattle.definitions.specs.Bytes.{byte, filled, onward, signed}
+use Rattle.definitions.specs.Bytes.{byte, filled, onward}
 use Rattle.definitions.specs.Types.{typeOfCode}
 use Rattle.definitions.specs.Terms.{Term, Schema}
 use Rattle.definitions.specs.Tree.{Script, block, Binder, Query}
 use Rattle.definitions.specs.Reading.{readQuery, binderAt, bindersAt, writtenOf}
 use Rattle.definitions.specs.Scope.{variables, variablesOf}
 use Rattle.definitions.specs.Typing.{typeAt}
-use Rattle.definitions.specs.Outcome.{Outcome, ok}
-use Rattle.definitions.specs.Evaluate.{Bindings, Quad}
+use Rattle.definitions.specs.Outcome.{ok}
+use Rattle.definitions.specs.Evaluate.{Setting, Bindings, Quad}
 use Rattle.definitions.specs.Search.{Typing, Tuple, answer}
-use Rattle.definitions.specs.Machine.{State, answerNow}
-use Rattle.definitions.specs.Saved.{isBound, numberOrZero, savedItem, savedOf, hasTuple, lastNumbers}
+use Rattle.definitions.specs.Machine.{Control, State, answerNow}
+use Rattle.definitions.specs.Saved.{isBound, numberOrZero, savedItem, savedControl, hasTuple, lastNumbers}
 use Rattle.definitions.specs.Sound.{lastSound}
 use Rattle.definitions.specs.Calls.{Checked}
 use Rattle.definitions.specs.declared.SavedItem.{SavedItem}
-use Rattle.definitions.specs.declared.SavedRun.{SavedRun}
+use Rattle.definitions.specs.declared.SavedControl.{SavedControl}
 use Rattle.laws.proofs.Tests.{andLeft, orLeft, orRight}
 use Rattle.laws.proofs.Options.{provided-inv, onward-inv}
 use Rattle.laws.specs.Lists.{All}
 use Rattle.laws.specs.Outcomes.{Fine}
-use Rattle.laws.proofs.NoFault.{fine-ok}
+use Rattle.laws.proofs.NoFault.{fine-at}
 use Rattle.laws.proofs.Ranges.{split}
 use Rattle.laws.specs.Bindings.{Fits}
 use Rattle.laws.proofs.Bindings.{is-below}
@@ -43,44 +42,40 @@ use Rattle.laws.proofs.Saved.{terms-few}
 use Rattle.laws.proofs.Levels.{query-more}
 use Rattle.laws.proofs.SoundMeans.{ItemFacts, Facts, facts}
 use Rattle.query.specs.Codes.{soughtCode, freeCode, numberAt, bindingsOf}
-use Rattle.laws.specs.Quads.{rowsFrom}
+use Rattle.query.specs.declared.Context.{Context}
 use Rattle.search.specs.Ready.{Ready}
-use Rattle.search.proofs.AtBlock.{block-ready, answer-now}
-use Rattle.search.specs.Finding.{numbersFrom, tupleOf, lastOf, Level, AnswerOf}
+use Rattle.search.proofs.AtBlock.{block-ready, world, answer-now}
+use Rattle.search.specs.Finding.{numbersFrom, tupleOf, lastOf, World, AnswerOf}
 use Rattle.search.specs.declared.Block.{Block}
 use Rattle.search.specs.declared.Found.{Found}
 use Rattle.laws.specs.Pairs.{pairVariables}
 use Rattle.store.specs.Stack.{topOf}
 use Rattle.machine.specs.Steps.{answerOf}
 use Rattle.machine.specs.Answers.{knownCode, knownOf, pairNumbers, typesOf, fourOf, blockOf, shortNumber, shortNumbers}
-use Rattle.machine.specs.Running.{Lends, Top, onTop, AnswersNow}
-use Rattle.store.proofs.RunStates.{saved-top}
-use Rattle.machine.proofs.StepLaws.{ok-is, run-is, room, item-facts, Blocked, blocked}
+use Rattle.machine.specs.Running.{Lends, Top, onTop, setting, typing, AnswersNow}
+use Rattle.store.proofs.ControlStates.{saved-top}
+use Rattle.machine.proofs.StepLaws.{run-is, room, item-facts, Blocked, blocked}
 use Rattle.laws.proofs.Reported.{type-reported}
 
 -- ── what is known of the variables ──────────────────────────────────────────────────────────
-
-pub known-length : (bound : List Bool) (bindings : List ℕ) → length (knownOf bound bindings) ≡ 16
-unfolding knownOf
-known-length bound bindings = refl
 
 number-again : (o : Option ℕ) → ((i : ℕ) → o ≡ some i → i < soughtCode) → numberAt (cond (isBound o) (numberOrZero o) freeCode) ≡ o
 number-again none h = refl
 number-again (some i) h = ap (λ (b : Bool). cond b (some i) none) (lt-ltb i soughtCode (h i refl))
 
 -- the state's own bindings
-known-is : (types : List ℕ) (s : State) (run : SavedRun) → run ≡ savedOf types s → ((v i : ℕ) → s .control .bindings v ≡ some i → v < variableLimit)
-    → ((v i : ℕ) → s .control .bindings v ≡ some i → i < soughtCode) → bindingsOf (knownOf (run .bound) (run .bindings)) ≡ s .control .bindings
-unfolding bindingsOf knownOf savedOf
-known-is types s run e few low =
+known-is : (types : List ℕ) (c : Control) (run : SavedControl) → run ≡ savedControl types c → ((v i : ℕ) → c .bindings v ≡ some i → v < variableLimit)
+    → ((v i : ℕ) → c .bindings v ≡ some i → i < soughtCode) → bindingsOf (knownOf (run .bound) (run .bindings)) ≡ c .bindings
+unfolding bindingsOf knownOf savedControl
+known-is types c run e few low =
     (λ z. λ x. numberAt (getD (map (knownCode (e z .bound) (e z .bindings)) variables) x freeCode))
     ∙ fun-ext (λ v. ⊎-elim (outside v) (within v) (split variableLimit v))
   where
     β : Bindings
-    β = s .control .bindings
+    β = c .bindings
 
-    saved : SavedRun
-    saved = savedOf types s
+    saved : SavedControl
+    saved = savedControl types c
 
     code : ℕ → ℕ
     code = knownCode (saved .bound) (saved .bindings)
@@ -241,9 +236,6 @@ found-is S Γ terms few vs n l r = go (r .found)
     go false h = refl
     go true h = ap some (shorts-are n l (r .tuple) (fits-low S Γ terms few vs (numbersFrom n (r .tuple) 0) h))
 
-fine-value : {A : Type 0} {P : A → Type 0} {m : Outcome A} {a : A} → Fine P m → m ≡ ok a → P a
-fine-value {P = P} f e = let r = fine-ok f in subst P (ok-is (sym (r .1) ∙ e)) (r .2)
-
 -- ── the block ───────────────────────────────────────────────────────────────────────────────
 
 pub block-made : (s : List ℕ) (at : ℕ) (types used : List ℕ) (size : ℕ) → size ≡ byte s (at + 2) → (vars : List ℕ) → vars ≡ pairNumbers s at
@@ -255,23 +247,23 @@ block-made s at types used size e vars v codes t last l =
 -- ── the search ──────────────────────────────────────────────────────────────────────────────
 
 -- what a ready search finds fits the variables
-ready-fits : (S : Schema) (Γ : Typing) (clock : ℤ) (terms : List Term) (quads : List Quad) (β : Bindings) (vs : List ℕ) (q : Query) → Ready S Γ terms β vs q
-    → (last : Option Tuple) → Fine (IfSome (Fits S Γ terms vs)) (answer S Γ clock terms quads β vs q last)
-ready-fits S Γ clock terms quads β vs q r last =
-    answer-fine S Γ clock (r .loaded) terms (r .extends) quads β (r .wellBound) vs q (r .bounded) (r .bound) (r .typed) last
+ready-fits : (σ : Setting) (Γ : Typing) (terms : List Term) (quads : List Quad) (β : Bindings) (vs : List ℕ) (q : Query) → Ready (σ .schema) Γ terms β vs q
+    → (last : Option Tuple) → Fine (IfSome (Fits (σ .schema) Γ terms vs)) (answer σ Γ terms quads β vs q last)
+ready-fits σ Γ terms quads β vs q r last =
+    answer-fine σ Γ (r .loaded) terms (r .extends) quads β (r .wellBound) vs q (r .bounded) (r .bound) (r .typed) last
 
 -- ── the block on top ────────────────────────────────────────────────────────────────────────
 
-module _ (script : List ℕ) (known : ℕ) (table : List ℕ) (count : ℕ) (quads leasts : List ℕ) (clock : ℕ) (run : SavedRun) (at : ℕ)
-    (w : Lends script known table count quads leasts clock run) (t : Top (w .here) at) (kind : byte script at ≡ 0x73) where
+module _ {script table quads leasts : List ℕ} {x : Context} {run : SavedControl} {at : ℕ} (w : Lends script table quads leasts x run) (t : Top (w .here) at)
+    (kind : byte script at ≡ 0x73) where
   abbrev c : Checked
   c = w .here .checked
 
   abbrev s : State
   s = w .here .state
 
-  abbrev b : Blocked script known run at (onTop (w .here) t)
-  b = blocked script known run at (onTop (w .here) t) kind
+  abbrev b : Blocked (onTop (w .here) t)
+  b = blocked (onTop (w .here) t) kind
 
   abbrev n : ℕ
   n = byte script (at + 2)
@@ -285,7 +277,7 @@ module _ (script : List ℕ) (known : ℕ) (table : List ℕ) (count : ℕ) (qua
       omega (arith, is-below (s .store .terms) i (h .term) (h .there), terms-few c (w .here .accepted) s (w .here .sound))
 
   pub known-now : bindingsOf (knownOf (run .bound) (run .bindings)) ≡ s .control .bindings
-  known-now = known-is (run .types) s run (w .here .saved) (λ v i e. state-facts .bindings v i e .below) low-number
+  known-now = known-is (run .types) (s .control) run (w .here .saved) (λ v i e. state-facts .bindings v i e .below) low-number
 
   pub block-small : (k : ℕ) → getD (pairNumbers script at) k 0 < 16
   block-small = pairs-low script at (pair-low 4 n script (at + 3) (b .reads .binders) (b .reads .reads .binders))
@@ -293,35 +285,18 @@ module _ (script : List ℕ) (known : ℕ) (table : List ℕ) (count : ℕ) (qua
   pub block-room : at + 11 ≤ length script
   block-room = b .reads .reads .room
 
-  -- the item as the saved run has it
+  -- the item as the saved control has it
   pub top-item : topOf run ≡ savedItem (t .item)
   top-item =
-      ap topOf (run-is script known run at (onTop (w .here) t))
-      ∙ saved-top (run .types) s (t .item) (t .rest) (room script known run at (onTop (w .here) t))
+      ap topOf (run-is (onTop (w .here) t))
+      ∙ saved-top (run .types) (s .control .bindings) (t .item) (t .rest) (room (onTop (w .here) t))
 
   module _ (used : List ℕ) where
     abbrev seen : Block
     seen = blockOf script at (run .types) used
 
-    pub block-level : Level script known seen table leasts (knownOf (run .bound) (run .bindings)) count clock quads (run .quads) 0
-    block-level =
-        let up = query-more script known (b .reads .left) 24 (at + 11) (b .reads .few) (b .reads .query) (b .reads .reads .next) (b .reads .reads .query) in
-        record {
-          loads = (b .reads .query, b .reads .reads .next, up);
-          lent = record {
-            terms = s .store .terms;
-            tabled = w .tabled;
-            counted = w .counted;
-            size = w .size;
-            variables = known-length (run .bound) (run .bindings);
-            clocked = w .clocked;
-          };
-          rows = w .rowRoom;
-          leastOfEach = w .leastRoom;
-          size = b .four;
-          within = omega arith;
-          small = block-small;
-        }
+    abbrev free : List ℕ
+    free = knownOf (run .bound) (run .bindings)
 
     module _ (each : Bool) (bs : List Binder) (q : Query) (d : Script) (is : t .item .script ≡ block at each bs q d) where
       same : (b .reads .binders ≡ bs) × (b .reads .query ≡ q)
@@ -336,11 +311,11 @@ module _ (script : List ℕ) (known : ℕ) (table : List ℕ) (count : ℕ) (qua
       item-here : ItemFacts (c .root) (length (s .store .terms)) (s .control .bindings) (suc (length (t .rest))) (record { script = block at each bs q d; last = t .item .last })
       item-here =
           subst (λ (e : Script). ItemFacts (c .root) (length (s .store .terms)) (s .control .bindings) (suc (length (t .rest))) (record { script = e; last = t .item .last })) is
-          (item-facts script known run at (onTop (w .here) t))
+          (item-facts (onTop (w .here) t))
 
-      read-here : readQuery script known 24 (at + 11) ≡ some (q, b .reads .reads .next)
+      read-here : readQuery script (x .loaded) 24 (at + 11) ≡ some (q, b .reads .reads .next)
       read-here =
-          query-more script known (b .reads .left) 24 (at + 11) (b .reads .few) (b .reads .query) (b .reads .reads .next) (b .reads .reads .query)
+          query-more script (x .loaded) (b .reads .left) 24 (at + 11) (b .reads .few) (b .reads .query) (b .reads .reads .next) (b .reads .reads .query)
           ∙ ap (λ (y : Query). some (y, b .reads .reads .next)) (same .1)
 
       typed-here : (k : ℕ) → k < n → typeOfCode (getD (typesOf (run .types) (pairNumbers script at)) k 0) ≡ some (typeAt (c .types) (getD (pairNumbers script at) k 0))
@@ -356,15 +331,19 @@ module _ (script : List ℕ) (known : ℕ) (table : List ℕ) (count : ℕ) (qua
       ready : Ready (c .schema) (typeAt (c .types)) (s .store .terms) (s .control .bindings) (variablesOf bs) q
       ready = block-ready c (w .here .accepted) s (w .here .sound) (item-here .inRoot) (item-here .bound)
 
-      -- the search promises it for what the bytes stand for
-      answered : (started : Bool) (r : Found) → AnswerOf script known seen table leasts (knownOf (run .bound) (run .bindings)) clock (rowsFrom (run .quads) quads 0) started r
-          → answerNow (c .schema) (typeAt (c .types)) (signed clock) s (variablesOf bs) q (lastOf started (fourOf used) 0 n) ≡ ok (tupleOf r 0 n)
+      -- what the bytes stand for, and what the search promises of it
+      abbrev world-here : World script table quads leasts x seen
+      world-here =
+          world c (w .here .accepted) s (w .here .sound) (w .scope) (t .stack) is script (w .told) (w .lent) seen (b .reads .reads .next) read-here (b .four) block-small typed-here
+
+      answered : (started : Bool) (r : Found) → AnswerOf world-here free started r
+          → answerNow (setting w) (typing w) s (variablesOf bs) q (lastOf started (fourOf used) 0 n) ≡ ok (tupleOf r 0 n)
       answered started r =
-          answer-now c (w .here .accepted) s (w .here .sound) (w .scope) (t .stack) is script known seen table leasts (knownOf (run .bound) (run .bindings)) clock
-          (rowsFrom (run .quads) quads 0) started r (b .reads .reads .next) (w .tabled) read-here (w .leastOf) typed-here vars-are known-now (w .rows)
+          answer-now c (w .here .accepted) s (w .here .sound) (w .scope) (t .stack) is script (w .told) (w .lent) seen (b .reads .reads .next) read-here (b .four) block-small typed-here
+          free started r vars-are known-now
 
     pub answers-now : (started : Bool) (item : SavedItem) → item ≡ topOf run → started ≡ item .started → used ≡ item .last
-        → (r : Found) → AnswerOf script known seen table leasts (knownOf (run .bound) (run .bindings)) clock (rowsFrom (run .quads) quads 0) started r
+        → (r : Found) → ((y : World script table quads leasts x seen) → AnswerOf y free started r)
         → (tuple : List ℕ) → tuple ≡ shortNumbers (r .tuple) → AnswersNow w t (r .found) tuple
     unfolding savedItem
     answers-now started item i e f r h tuple g each bs q d is =
@@ -373,24 +352,23 @@ module _ (script : List ℕ) (known : ℕ) (table : List ℕ) (count : ℕ) (qua
         ap (λ (l : List ℕ). cond started (some l) none) (four-numbers n (b .four) used)
         ∙ (λ z. lastOf ((e ∙ ap (λ (y : SavedItem). y .started) on) z) ((f ∙ ap (λ (y : SavedItem). y .last) on) z) 0 n)
         ∙ last-is (length (s .store .terms)) at n each bs q d (t .item .last) (item-here each bs q d is .last) (size-is each bs q d is) in
-        let p : answerNow (c .schema) (typeAt (c .types)) (signed clock) s (variablesOf bs) q (t .item .last) ≡ ok (tupleOf r 0 n) =
-        ap (answerNow (c .schema) (typeAt (c .types)) (signed clock) s (variablesOf bs) q) (sym last) ∙ answered each bs q d is started r h in
-        let fit = fine-value (ready-fits (c .schema) (typeAt (c .types)) (signed clock) (s .store .terms) (s .store .quads) (s .control .bindings)
-        (variablesOf bs) q (ready each bs q d is) (t .item .last)) p in
+        let p : answerNow (setting w) (typing w) s (variablesOf bs) q (t .item .last) ≡ ok (tupleOf r 0 n) =
+        ap (answerNow (setting w) (typing w) s (variablesOf bs) q) (sym last) ∙ answered each bs q d is started r (h (world-here each bs q d is)) in
+        let fit = fine-at (tupleOf r 0 n) p (ready-fits (setting w) (typing w) (s .store .terms) (s .store .quads) (s .control .bindings)
+        (variablesOf bs) q (ready each bs q d is) (t .item .last)) in
         p ∙ ap ok (found-is (c .schema) (typeAt (c .types)) (s .store .terms) (terms-few c (w .here .accepted) s (w .here .sound)) (variablesOf bs) n (b .four) r fit
         ∙ ap (answerOf (r .found) n) (sym g))
 
     -- as the code made them
-    module _ (block : Block) (made : block ≡ seen) (free : List ℕ) (is-free : free ≡ knownOf (run .bound) (run .bindings)) where
-      pub level-given : Level script known block table leasts free count clock quads (run .quads) 0
-      level-given =
-          subst (λ (x : Block). Level script known x table leasts free count clock quads (run .quads) 0) (sym made)
-          (subst (λ (k : List ℕ). Level script known seen table leasts k count clock quads (run .quads) 0) (sym is-free) block-level)
+    module _ (block : Block) (made : block ≡ seen) where
+      pub world-given : World script table quads leasts x block
+      world-given =
+          subst (World script table quads leasts x) (sym made) (world-here (b .reads .each) (b .reads .binders) (b .reads .query) (b .reads .body) (b .is))
 
-      pub answers-given : (started : Bool) (item : SavedItem) → item ≡ topOf run → started ≡ item .started → used ≡ item .last
-          → (r : Found) → AnswerOf script known block table leasts free clock (rowsFrom (run .quads) quads 0) started r
+      pub answers-given : (known : List ℕ) → known ≡ free → (started : Bool) (item : SavedItem) → item ≡ topOf run → started ≡ item .started → used ≡ item .last
+          → (r : Found) → ((y : World script table quads leasts x block) → AnswerOf y known started r)
           → (tuple : List ℕ) → tuple ≡ shortNumbers (r .tuple) → AnswersNow w t (r .found) tuple
-      answers-given started item i e f r h =
-          answers-now started item i e f r
-          (subst (λ (k : List ℕ). AnswerOf script known seen table leasts k clock (rowsFrom (run .quads) quads 0) started r) is-free
-          (subst (λ (x : Block). AnswerOf script known x table leasts free clock (rowsFrom (run .quads) quads 0) started r) made h))
+      answers-given known e started item i f g r h =
+          answers-now started item i f g r
+          (subst (λ (k : List ℕ). (y : World script table quads leasts x seen) → AnswerOf y k started r) e
+          (subst (λ (z : Block). (y : World script table quads leasts x z) → AnswerOf y known started r) made h))

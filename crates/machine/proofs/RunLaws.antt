@@ -1,5 +1,5 @@
 -- Laws of a step and of a run: the item on top is found, the machine's step is taken, and step after step makes its run.
-use Prim.Native.Nat.{ℕ, suc, _+_, _-_, _*_, _≤_, _<_}
+use Prim.Native.Nat.{ℕ, suc, _+_, _-_, _≤_, _<_}
 use native.Mathlib.Omega.{arith}
 use native.Mathlib.Nat.{sub-zero}
 use mathlib.Core.Path.{_≡_, refl, ap, sym, subst, _∙_}
@@ -8,36 +8,39 @@ use mathlib.Core.Bool.{Bool, true, false}
 use mathlib.Core.Option.{Option, none, some}
 use mathlib.Core.Logic.{_⊎_, inl, inr}
 use lib.Dec.{T, eqb}
-use lib.ListN.{length, getElem?}
+use lib.ListN.{length}
+use Rattle.definitions.specs.Limits.{graphLimit}
 use Rattle.definitions.specs.Bytes.{byte, signed}
-use Rattle.definitions.specs.Terms.{Schema}
 use Rattle.definitions.specs.Tree.{Script, success, fromNamed, block, sequence, Binder, Query}
 use Rattle.definitions.specs.Scope.{variablesOf}
-use Rattle.definitions.specs.Typing.{typeAt}
 use Rattle.definitions.specs.Outcome.{Outcome, ok, _>>=_}
+use Rattle.definitions.specs.Evaluate.{Setting}
 use Rattle.definitions.specs.Search.{Typing, Tuple}
 use Rattle.definitions.specs.Machine.{State, Store, Item, Next, step, stand, fresh, act, enterOnce, enterEach, nextOf, next, Run, still, preceded, isEachBlock, endingOf, goOn, look, lastOf}
 use Rattle.definitions.specs.Machine as Machine
-use Rattle.definitions.specs.Saved.{offsetOf, savedItem, savedOf}
+use Rattle.definitions.specs.Saved.{offsetOf, savedItem, savedControl, savedStore}
 use Rattle.definitions.specs.Sound.{lastSound}
 use Rattle.definitions.specs.Calls.{Checked}
 use Rattle.definitions.specs.declared.RunState.{RunState}
 use Rattle.definitions.specs.declared.RunState.the-variants.{Ended, Spent}
 use Rattle.definitions.specs.declared.SavedItem.{SavedItem}
-use Rattle.definitions.specs.declared.SavedRun.{SavedRun}
-use Rattle.laws.proofs.NoFault.{fine-ok}
+use Rattle.definitions.specs.declared.SavedControl.{SavedControl}
+use Rattle.definitions.specs.declared.SavedStore.{SavedStore}
+use Rattle.laws.proofs.NoFault.{ok-is, fine-ok}
 use Rattle.laws.proofs.RunStore.{next-keeps}
+use Rattle.laws.proofs.Saved.{graphs-few}
 use Rattle.laws.specs.ScriptReads.{ReadsAs}
 use Rattle.laws.specs.Sound.{Sound}
 use Rattle.safety.proofs.StepSound.{NextSound, next-sound}
-use Rattle.laws.specs.Quads.{rowsFrom}
 use Rattle.machine.specs.declared.Stepped.{Stepped}
 use Rattle.machine.specs.declared.Stopped.{Stopped}
 use Rattle.store.specs.Stack.{topOf}
 use Rattle.machine.specs.Steps.{Standing, OnTop, answerOf, standsAt, steppedOf, EntersOnce, EntersEach}
-use Rattle.machine.specs.Running.{Lends, Top, onTop, eachOn, ActsNow, AnswersNow, StepOf, LookOf, RunOf}
-use Rattle.store.proofs.RunStates.{saved-top}
-use Rattle.machine.proofs.StepLaws.{ok-is, run-is, room, height-is, item-facts, top, inside, Blocked, blocked}
+use Rattle.query.specs.declared.Context.{Context}
+use Rattle.query.specs.StoreLent.{StoreLent}
+use Rattle.machine.specs.Running.{Lends, LendsStore, Top, onTop, eachOn, setting, typing, ActsNow, AnswersNow, StepOf, LookOf, RunOf}
+use Rattle.store.proofs.ControlStates.{saved-top}
+use Rattle.machine.proofs.StepLaws.{run-is, room, height-is, item-facts, top, inside, Blocked, blocked}
 
 false-not-true : false ≡ true → ⊥
 false-not-true e = let z : _≡_ {A = ℕ} 0 1 = cc in omega arith
@@ -48,15 +51,15 @@ bind-ok {A} e f = ap (λ (x : Outcome A). x >>= f) e
 
 -- ── the item on top ─────────────────────────────────────────────────────────────────────────
 
-module _ (script : List ℕ) (known : ℕ) (run : SavedRun) (h : Standing script known run) where
+module _ {script : List ℕ} {loaded : ℕ} {run : SavedControl} (h : Standing script loaded run) where
   abbrev s : State
   s = h .state
 
   height-of : run .height ≡ length (s .control .stack)
-  unfolding savedOf
-  height-of = ap (λ (r : SavedRun). r .height) (h .saved)
+  unfolding savedControl
+  height-of = ap (λ (r : SavedControl). r .height) (h .saved)
 
-  -- the record at the offset that the saved run has for it
+  -- the record at the offset that the saved control has for it
   pub first-item : (run .height ≡ 0 → ⊥) → (at : ℕ) → at ≡ topOf run .«at» → Top h at
   unfolding savedItem
   first-item high at e = go (s .control .stack) refl
@@ -64,9 +67,9 @@ module _ (script : List ℕ) (known : ℕ) (run : SavedRun) (h : Standing script
       go : (stack : List Item) → s .control .stack ≡ stack → Top h at
       go [] q = absurd (high (height-of ∙ ap length q))
       go (i ∷ rest) q =
-          let x : OnTop script known run (offsetOf (i .script)) = record { here = h; item = i; rest = rest; stack = q; place = refl } in
+          let x : OnTop script loaded run (offsetOf (i .script)) = record { here = h; item = i; rest = rest; stack = q; place = refl } in
           let on : topOf run ≡ savedItem i =
-          ap topOf (run-is script known run (offsetOf (i .script)) x) ∙ saved-top (run .types) s i rest (room script known run (offsetOf (i .script)) x) in
+          ap topOf (run-is x) ∙ saved-top (run .types) (s .control .bindings) i rest (room x) in
           record { item = i; rest = rest; stack = q; place = e ∙ ap (λ (y : SavedItem). y .«at») on }
 
   pub no-item : run .height ≡ 0 → s .control .stack ≡ []
@@ -80,15 +83,15 @@ module _ (script : List ℕ) (known : ℕ) (run : SavedRun) (h : Standing script
   height-low high =
       let t = first-item high (topOf run .«at») refl in
       let x = onTop h t in
-      let e = height-is script known run (topOf run .«at») x in
-      (omega arith, omega (arith, room script known run (topOf run .«at») x))
+      let e = height-is x in
+      (omega arith, omega (arith, room x))
 
   module _ (at : ℕ) (t : Top h at) where
     -- its kind
     kind-of : (byte script at ≡ 0x71) ⊎ ((byte script at ≡ 0x72) ⊎ ((byte script at ≡ 0x73) ⊎ (byte script at ≡ 0x74)))
-    kind-of = go (t .item .script) (top script known run at (onTop h t) .is)
+    kind-of = go (t .item .script) (top (onTop h t) .is)
       where
-        go : (c : Script) → ReadsAs script known (top script known run at (onTop h t) .left) at c (top script known run at (onTop h t) .ends)
+        go : (c : Script) → ReadsAs script loaded (top (onTop h t) .left) at c (top (onTop h t) .ends)
             → (byte script at ≡ 0x71) ⊎ ((byte script at ≡ 0x72) ⊎ ((byte script at ≡ 0x73) ⊎ (byte script at ≡ 0x74)))
         go (success o) r = inl (r .kind)
         go (fromNamed o y c) r = inr (inl (r .kind))
@@ -99,10 +102,10 @@ module _ (script : List ℕ) (known : ℕ) (run : SavedRun) (h : Standing script
     item-inside = go kind-of
       where
         go : (byte script at ≡ 0x71) ⊎ ((byte script at ≡ 0x72) ⊎ ((byte script at ≡ 0x73) ⊎ (byte script at ≡ 0x74))) → at < length script
-        go (inl k) = inside script known run at (onTop h t) 0x71 k (omega arith)
-        go (inr (inl k)) = inside script known run at (onTop h t) 0x72 k (omega arith)
-        go (inr (inr (inl k))) = inside script known run at (onTop h t) 0x73 k (omega arith)
-        go (inr (inr (inr k))) = inside script known run at (onTop h t) 0x74 k (omega arith)
+        go (inl k) = inside (onTop h t) 0x71 k (omega arith)
+        go (inr (inl k)) = inside (onTop h t) 0x72 k (omega arith)
+        go (inr (inr (inl k))) = inside (onTop h t) 0x73 k (omega arith)
+        go (inr (inr (inr k))) = inside (onTop h t) 0x74 k (omega arith)
 
     pub is-block : (byte script at ≡ 0x71 → ⊥) → (byte script at ≡ 0x72 → ⊥) → (byte script at ≡ 0x74 → ⊥) → byte script at ≡ 0x73
     is-block a b d = go kind-of
@@ -115,9 +118,9 @@ module _ (script : List ℕ) (known : ℕ) (run : SavedRun) (h : Standing script
 
     -- whether it is an each block
     pub not-each : (byte script at ≡ 0x73 → ⊥) → false ≡ eachOn (s .control .stack)
-    not-each k = go (t .item .script) (top script known run at (onTop h t) .is) ∙ ap eachOn (sym (t .stack))
+    not-each k = go (t .item .script) (top (onTop h t) .is) ∙ ap eachOn (sym (t .stack))
       where
-        go : (c : Script) → ReadsAs script known (top script known run at (onTop h t) .left) at c (top script known run at (onTop h t) .ends) → false ≡ isEachBlock c
+        go : (c : Script) → ReadsAs script loaded (top (onTop h t) .left) at c (top (onTop h t) .ends) → false ≡ isEachBlock c
         go (success o) r = refl
         go (fromNamed o y c) r = refl
         go (block o each bs q c) r = absurd (k (r .kind))
@@ -125,7 +128,7 @@ module _ (script : List ℕ) (known : ℕ) (run : SavedRun) (h : Standing script
 
     pub each-mode : byte script at ≡ 0x73 → eqb (byte script (at + 1)) 1 ≡ eachOn (s .control .stack)
     each-mode k =
-        let b = blocked script known run at (onTop h t) k in
+        let b = blocked (onTop h t) k in
         b .reads .reads .isMode ∙ (ap isEachBlock (sym (b .is)) ∙ ap eachOn (sym (t .stack)))
 
   pub none-each : run .height ≡ 0 → false ≡ eachOn (s .control .stack)
@@ -133,20 +136,14 @@ module _ (script : List ℕ) (known : ℕ) (run : SavedRun) (h : Standing script
 
 -- ── a block ─────────────────────────────────────────────────────────────────────────────────
 
-module _ (script : List ℕ) (known : ℕ) (table : List ℕ) (count : ℕ) (quads leasts : List ℕ) (clock : ℕ) (run : SavedRun) (at : ℕ)
-    (w : Lends script known table count quads leasts clock run) (t : Top (w .here) at) (kind : byte script at ≡ 0x73) (found : Bool) (tuple : List ℕ)
+module _ {script table quads leasts : List ℕ} {x : Context} {run : SavedControl} {at : ℕ} (w : Lends script table quads leasts x run) (t : Top (w .here) at)
+    (kind : byte script at ≡ 0x73) (found : Bool) (tuple : List ℕ)
     (answers : AnswersNow w t found tuple) (r : Stepped) where
   abbrev o : Option Tuple
   o = answerOf found (byte script (at + 2)) tuple
 
-  abbrev b : Blocked script known run at (onTop (w .here) t)
-  b = blocked script known run at (onTop (w .here) t) kind
-
-  abbrev S : Schema
-  S = w .here .checked .schema
-
-  abbrev Γ : Typing
-  Γ = typeAt (w .here .checked .types)
+  abbrev b : Blocked (onTop (w .here) t)
+  b = blocked (onTop (w .here) t) kind
 
   by-mode : (each : Bool) → b .reads .each ≡ each → t .item .script ≡ block at each (b .reads .binders) (b .reads .query) (b .reads .body)
   by-mode each e = b .is ∙ ap (λ (m : Bool). block at m (b .reads .binders) (b .reads .query) (b .reads .body)) e
@@ -160,8 +157,8 @@ module _ (script : List ℕ) (known : ℕ) (table : List ℕ) (count : ℕ) (qua
       let d = b .reads .body in
       let enter : Option Tuple → Next =
       enterEach (w .here .state) (variablesOf bs) (t .rest) (λ u. fresh d ∷ record { script = block at true bs q d; last = some u } ∷ t .rest) in
-      let f : act S Γ (signed clock) (w .here .state) (t .rest) (t .item .last) (block at true bs q d) ≡ ok n =
-      ap (act S Γ (signed clock) (w .here .state) (t .rest) (t .item .last)) (sym is) ∙ e in
+      let f : act (setting w) (typing w) (w .here .state) (t .rest) (t .item .last) (block at true bs q d) ≡ ok n =
+      ap (act (setting w) (typing w) (w .here .state) (t .rest) (t .item .last)) (sym is) ∙ e in
       let g : ok (enter o) ≡ ok n = ap (λ (m : Outcome (Option Tuple)). m >>= λ u. ok (enter u)) (sym (answers true bs q d is)) ∙ f in
       h bs q d is ∙ ap (steppedOf run) (ok-is g)
 
@@ -169,7 +166,7 @@ module _ (script : List ℕ) (known : ℕ) (table : List ℕ) (count : ℕ) (qua
   no-last : (bs : List Binder) (q : Query) (d : Script) → t .item .script ≡ block at false bs q d → t .item .last ≡ none
   unfolding lastSound
   no-last bs q d is =
-      go (t .item .last) (subst (λ (e : Script). T (lastSound (length (w .here .state .store .terms)) e (t .item .last))) is (item-facts script known run at (onTop (w .here) t) .last))
+      go (t .item .last) (subst (λ (e : Script). T (lastSound (length (w .here .state .store .terms)) e (t .item .last))) is (item-facts (onTop (w .here) t) .last))
     where
       go : (l : Option Tuple) → T (lastSound (length (w .here .state .store .terms)) (block at false bs q d) l) → l ≡ none
       go none h = refl
@@ -183,19 +180,19 @@ module _ (script : List ℕ) (known : ℕ) (table : List ℕ) (count : ℕ) (qua
       let q = b .reads .query in
       let d = b .reads .body in
       let enter : Option Tuple → Next = enterOnce (w .here .state) (variablesOf bs) (fresh d ∷ t .rest) in
-      let f : act S Γ (signed clock) (w .here .state) (t .rest) (t .item .last) (block at false bs q d) ≡ ok n =
-      ap (act S Γ (signed clock) (w .here .state) (t .rest) (t .item .last)) (sym is) ∙ e in
+      let f : act (setting w) (typing w) (w .here .state) (t .rest) (t .item .last) (block at false bs q d) ≡ ok n =
+      ap (act (setting w) (typing w) (w .here .state) (t .rest) (t .item .last)) (sym is) ∙ e in
       let g : ok (enter o) ≡ ok n =
       ap (λ (m : Outcome (Option Tuple)). m >>= λ u. ok (enter u))
-      (sym (answers false bs q d is) ∙ ap (Machine.answerNow S Γ (signed clock) (w .here .state) (variablesOf bs) q) (no-last bs q d is)) ∙ f in
+      (sym (answers false bs q d is) ∙ ap (Machine.answerNow (setting w) (typing w) (w .here .state) (variablesOf bs) q) (no-last bs q d is)) ∙ f in
       h bs q d is ∙ ap (steppedOf run) (ok-is g)
 
 -- ── a look ──────────────────────────────────────────────────────────────────────────────────
 
 -- an each block is not searched; another item tells what it would do
-module _ (c : Checked) (clock : ℕ) (s : State) where
+module _ (σ : Setting) (Γ : Typing) (s : State) where
   abbrev looks : List Item → Outcome RunState
-  looks stack = look (c .schema) (typeAt (c .types)) (signed clock) s stack
+  looks stack = look σ Γ s stack
 
   each-look : (stack : List Item) → eachOn stack ≡ true → looks stack ≡ ok Spent
   unfolding look
@@ -203,86 +200,83 @@ module _ (c : Checked) (clock : ℕ) (s : State) where
   each-look (i ∷ rest) e =
       ap (λ (b : Bool). elim b as (λ d. Outcome RunState) [
         | true ↦ ok Spent
-        | false ↦ act (c .schema) (typeAt (c .types)) (signed clock) s rest (i .last) (i .script) >>= λ n. ok (endingOf n)
+        | false ↦ act σ Γ s rest (i .last) (i .script) >>= λ n. ok (endingOf n)
       ]) e
 
-  look-next : (stack : List Item) → eachOn stack ≡ false → (n : Next) → nextOf (c .schema) (typeAt (c .types)) (signed clock) s stack ≡ ok n
+  look-next : (stack : List Item) → eachOn stack ≡ false → (n : Next) → nextOf σ Γ s stack ≡ ok n
       → looks stack ≡ ok (endingOf n)
   unfolding look nextOf
   look-next [] e n f = ap (λ (x : Next). ok (endingOf x)) (ok-is f)
   look-next (i ∷ rest) e n f =
       ap (λ (b : Bool). elim b as (λ d. Outcome RunState) [
         | true ↦ ok Spent
-        | false ↦ act (c .schema) (typeAt (c .types)) (signed clock) s rest (i .last) (i .script) >>= λ n. ok (endingOf n)
+        | false ↦ act σ Γ s rest (i .last) (i .script) >>= λ n. ok (endingOf n)
       ]) e
       ∙ bind-ok f (λ n. ok (endingOf n))
 
 -- ── one step ────────────────────────────────────────────────────────────────────────────────
 
-module _ (script : List ℕ) (known : ℕ) (table : List ℕ) (count : ℕ) (quads leasts : List ℕ) (clock : ℕ) (run : SavedRun)
-    (w : Lends script known table count quads leasts clock run) where
+module _ {script table quads leasts : List ℕ} {x : Context} {run : SavedControl} (w : Lends script table quads leasts x run) where
   abbrev c : Checked
   c = w .here .checked
 
-  abbrev σ : State
-  σ = w .here .state
-
-  abbrev Δ : Typing
-  Δ = typeAt (c .types)
+  abbrev current : State
+  current = w .here .state
 
   pub step-acts : (at : ℕ) (t : Top (w .here) at) (r : Stepped) → ActsNow w t r → StepOf w r
   unfolding nextOf
   step-acts at t r h =
-      let n = fine-ok (next-sound c (w .here .accepted) (signed clock) σ (w .here .sound)) in
-      record { after = n .0; noFault = n .1; result = h (n .0) (ap (nextOf (c .schema) Δ (signed clock) σ) (sym (t .stack)) ∙ n .1) }
+      let n = fine-ok (next-sound c (w .here .accepted) (signed (x .clock)) current (w .here .sound)) in
+      record { after = n .0; noFault = n .1; result = h (n .0) (ap (nextOf (setting w) (typing w) current) (sym (t .stack)) ∙ n .1) }
 
   pub step-ends : run .height ≡ 0 → (r : Stepped) → r ≡ standsAt run Ended → StepOf w r
   unfolding nextOf steppedOf
   step-ends e r f =
-      record { after = stand Ended; noFault = ap (nextOf (c .schema) Δ (signed clock) σ) (no-item script known run (w .here) e); result = f }
+      record { after = stand Ended; noFault = ap (nextOf (setting w) (typing w) current) (no-item (w .here) e); result = f }
 
   -- with no budget left
-  pub look-each : eachOn (σ .control .stack) ≡ true → LookOf w Spent
-  look-each e = each-look c clock σ (σ .control .stack) e
+  pub look-each : eachOn (current .control .stack) ≡ true → LookOf w Spent
+  look-each e = each-look (setting w) (typing w) current (current .control .stack) e
 
   ending-of : (n : Next) → steppedOf run n .ending ≡ endingOf n
   unfolding steppedOf
-  ending-of (step x) = refl
+  ending-of (step s) = refl
   ending-of (stand q) = refl
 
-  pub look-steps : eachOn (σ .control .stack) ≡ false → (r : Stepped) → StepOf w r → LookOf w (r .ending)
+  pub look-steps : eachOn (current .control .stack) ≡ false → (r : Stepped) → StepOf w r → LookOf w (r .ending)
   look-steps e r h =
-      look-next c clock σ (σ .control .stack) e (h .after) (h .noFault)
+      look-next (setting w) (typing w) current (current .control .stack) e (h .after) (h .noFault)
       ∙ ap ok (sym (ending-of (h .after)) ∙ ap (λ (y : Stepped). y .ending) (sym (h .result)))
+
+pub graphs-low : {script table quads leasts : List ℕ} {x : Context} {run : SavedControl} {store : SavedStore} → LendsStore script table quads leasts x run store → store .graphs ≤ graphLimit
+unfolding savedStore
+graphs-low w =
+    let h = w .lends .here in
+    omega (arith, ap (λ (t : SavedStore). t .graphs) (w .stored), graphs-few (h .checked) (h .accepted) (h .state) (h .sound))
 
 -- ── a run ───────────────────────────────────────────────────────────────────────────────────
 
 -- the run that a number of steps and then another run make
-pub record Gone (S : Schema) (Γ : Typing) (clock budget steps : ℕ) (first now : State) (r : Run) : Type 0 where
+pub record Gone (σ : Setting) (Γ : Typing) (budget steps : ℕ) (first now : State) (r : Run) : Type 0 where
   pub whole : Run
-  pub is : Machine.run S Γ (signed clock) budget first ≡ ok whole
+  pub is : Machine.run σ Γ budget first ≡ ok whole
   pub counts : length (whole .passed) ≡ steps + length (r .passed)
   pub ends : whole .ending ≡ r .ending
   pub last : lastOf first (whole .passed) ≡ lastOf now (r .passed)
 
 -- so many steps of the budget are taken
-pub record Going {script : List ℕ} {known : ℕ} {table : List ℕ} {count : ℕ} {quads leasts : List ℕ} {clock : ℕ} {run : SavedRun}
-    (w : Lends script known table count quads leasts clock run) (budget steps : ℕ) (saved : SavedRun) : Type 0 where
+pub record Going {script table quads leasts : List ℕ} {x : Context} {run : SavedControl} (w : Lends script table quads leasts x run) (budget steps : ℕ) (now : SavedControl) : Type 0 where
   pub state : State
   pub sound : Sound (w .here .checked) state
   pub stored : state .store ≡ w .here .state .store
-  pub is : saved ≡ savedOf (run .types) state
+  pub is : now ≡ savedControl (run .types) (state .control)
   pub few : steps ≤ budget
-  pub goes : (r : Run) → Machine.run (w .here .checked .schema) (typeAt (w .here .checked .types)) (signed clock) (budget - steps) state ≡ ok r
-      → Gone (w .here .checked .schema) (typeAt (w .here .checked .types)) clock budget steps (w .here .state) state r
+  pub goes : (r : Run) → Machine.run (setting w) (typing w) (budget - steps) state ≡ ok r
+      → Gone (setting w) (typing w) budget steps (w .here .state) state r
 
-module _ (script : List ℕ) (known : ℕ) (table : List ℕ) (count : ℕ) (quads leasts : List ℕ) (clock : ℕ) (run : SavedRun)
-    (w : Lends script known table count quads leasts clock run) (budget : ℕ) where
+module _ {script table quads leasts : List ℕ} {x : Context} {run : SavedControl} (w : Lends script table quads leasts x run) (budget : ℕ) where
   abbrev C : Checked
   C = w .here .checked
-
-  abbrev G : Typing
-  G = typeAt (C .types)
 
   pub sets-out : Going w budget 0 run
   sets-out =
@@ -295,26 +289,20 @@ module _ (script : List ℕ) (known : ℕ) (table : List ℕ) (count : ℕ) (qua
         goes = λ r e.
             record {
               whole = r;
-              is = ap (λ (b : ℕ). Machine.run (C .schema) G (signed clock) b (w .here .state)) (sym (sub-zero budget)) ∙ e;
+              is = ap (λ (b : ℕ). Machine.run (setting w) (typing w) b (w .here .state)) (sym (sub-zero budget)) ∙ e;
               counts = omega arith;
               ends = refl;
               last = refl;
             };
       }
 
-  module _ (steps : ℕ) (saved : SavedRun) (g : Going w budget steps saved) where
-    pub types-are : saved .types ≡ run .types
-    unfolding savedOf
-    types-are = ap (λ (r : SavedRun). r .types) (g .is)
-
-    pub quads-are : saved .quads ≡ run .quads
-    unfolding savedOf
-    quads-are =
-        ap (λ (r : SavedRun). r .quads) (g .is)
-        ∙ (ap (λ (σ : Store). length (σ .quads)) (g .stored) ∙ sym (ap (λ (r : SavedRun). r .quads) (w .here .saved)))
+  module _ (steps : ℕ) (now : SavedControl) (g : Going w budget steps now) where
+    pub types-are : now .types ≡ run .types
+    unfolding savedControl
+    types-are = ap (λ (r : SavedControl). r .types) (g .is)
 
     -- what is lent is lent to the state of the moment
-    abbrev pub lends-now : Lends script known table count quads leasts clock saved
+    abbrev pub lends-now : Lends script table quads leasts x now
     lends-now =
         record {
           here = record {
@@ -324,20 +312,17 @@ module _ (script : List ℕ) (known : ℕ) (table : List ℕ) (count : ℕ) (qua
             short = w .here .short;
             reads = w .here .reads;
             sound = g .sound;
-            saved = g .is ∙ ap (λ (ts : List ℕ). savedOf ts (g .state)) (sym types-are);
+            saved = g .is ∙ ap (λ (ts : List ℕ). savedControl ts (g .state .control)) (sym types-are);
           };
           scope = w .scope;
           full = w .full;
           reports = types-are ∙ w .reports;
-          tabled = w .tabled ∙ ap (λ (σ : Store). some (σ .terms)) (sym (g .stored));
-          counted = ap (λ (σ : Store). length (σ .terms)) (g .stored) ∙ w .counted;
-          size = w .size;
-          rows = ap (λ (n : ℕ). rowsFrom n quads 0) quads-are ∙ (w .rows ∙ ap (λ (σ : Store). σ .quads) (sym (g .stored)));
-          rowRoom = subst (λ (n : ℕ). 4 * n ≤ length quads) (sym quads-are) (w .rowRoom);
-          leastRoom = w .leastRoom;
-          leastOf = λ i t e. w .leastOf i t (ap (λ (σ : Store). getElem? (σ .terms) i) (sym (g .stored)) ∙ e);
-          clocked = w .clocked;
+          told = w .told;
+          lent = subst (λ (s : Store). StoreLent table quads leasts x (C .schema) (s .terms) (s .quads)) (sym (g .stored)) (w .lent);
         }
+
+    abbrev pub stored-now : {store : SavedStore} → store ≡ savedStore (w .here .state .store) → LendsStore script table quads leasts x now store
+    stored-now e = record { lends = lends-now; stored = e ∙ ap savedStore (sym (g .stored)) }
 
     module _ (more : steps < budget) (r : Stepped) (h : StepOf lends-now r) where
       abbrev left : ℕ
@@ -347,37 +332,37 @@ module _ (script : List ℕ) (known : ℕ) (table : List ℕ) (count : ℕ) (qua
       left-is = omega arith
 
       -- the machine's run from here, by its first step
-      run-on : (n : Next) → next (C .schema) G (signed clock) (g .state) ≡ ok n → (q : Run) → goOn (Machine.run (C .schema) G (signed clock) left) n ≡ ok q
-          → Gone (C .schema) G clock budget steps (w .here .state) (g .state) q
+      run-on : (n : Next) → next (setting w) (typing w) (g .state) ≡ ok n → (q : Run) → goOn (Machine.run (setting w) (typing w) left) n ≡ ok q
+          → Gone (setting w) (typing w) budget steps (w .here .state) (g .state) q
       unfolding Machine.run
       run-on n e q f =
-          g .goes q (ap (λ (b : ℕ). Machine.run (C .schema) G (signed clock) b (g .state)) left-is ∙ (bind-ok e (goOn (Machine.run (C .schema) G (signed clock) left)) ∙ f))
+          g .goes q (ap (λ (b : ℕ). Machine.run (setting w) (typing w) b (g .state)) left-is ∙ (bind-ok e (goOn (Machine.run (setting w) (typing w) left)) ∙ f))
 
-      pub steps-on : r .moved ≡ true → Going w budget (steps + 1) (r .saved)
+      pub steps-on : r .moved ≡ true → Going w budget (steps + 1) (r .control)
       unfolding goOn steppedOf
       steps-on m = go (h .after) (h .noFault) (h .result)
         where
-          go : (n : Next) → next (C .schema) G (signed clock) (g .state) ≡ ok n → r ≡ steppedOf saved n → Going w budget (steps + 1) (r .saved)
+          go : (n : Next) → next (setting w) (typing w) (g .state) ≡ ok n → r ≡ steppedOf now n → Going w budget (steps + 1) (r .control)
           go (stand q) e f = absurd (false-not-true (sym (ap (λ (y : Stepped). y .moved) f) ∙ m))
-          go (step x) e f =
-              let sure = fine-ok (next-sound C (w .here .accepted) (signed clock) (g .state) (g .sound)) in
+          go (step n) e f =
+              let sure = fine-ok (next-sound C (w .here .accepted) (signed (x .clock)) (g .state) (g .sound)) in
               record {
-                state = x;
+                state = n;
                 sound = subst (NextSound C) (ok-is (sym (sure .1) ∙ e)) (sure .2);
-                stored = next-keeps (C .schema) G (signed clock) (g .state) (step x) e ∙ g .stored;
-                is = ap (λ (y : Stepped). y .saved) f ∙ ap (λ (ts : List ℕ). savedOf ts x) types-are;
+                stored = next-keeps (setting w) (typing w) (g .state) (step n) e ∙ g .stored;
+                is = ap (λ (y : Stepped). y .control) f ∙ ap (λ (ts : List ℕ). savedControl ts (n .control)) types-are;
                 few = omega arith;
                 goes = λ q k.
-                    let y = run-on (step x) e (preceded x q) (bind-ok k (λ q. ok (preceded x q))) in
+                    let y = run-on (step n) e (preceded n q) (bind-ok k (λ q. ok (preceded n q))) in
                     record { whole = y .whole; is = y .is; counts = omega (arith, y .counts); ends = y .ends; last = y .last };
               }
 
-      pub stops-here : r .moved ≡ false → (z : Stopped) → z ≡ record { steps = steps; ending = r .ending; saved = saved } → RunOf w budget z
+      pub stops-here : r .moved ≡ false → (z : Stopped) → z ≡ record { steps = steps; ending = r .ending; control = now } → RunOf w budget z
       unfolding goOn steppedOf
       stops-here m z v = go (h .after) (h .noFault) (h .result)
         where
-          go : (n : Next) → next (C .schema) G (signed clock) (g .state) ≡ ok n → r ≡ steppedOf saved n → RunOf w budget z
-          go (step x) e f = absurd (false-not-true (sym m ∙ ap (λ (y : Stepped). y .moved) f))
+          go : (n : Next) → next (setting w) (typing w) (g .state) ≡ ok n → r ≡ steppedOf now n → RunOf w budget z
+          go (step n) e f = absurd (false-not-true (sym m ∙ ap (λ (y : Stepped). y .moved) f))
           go (stand q) e f =
               let y = run-on (stand q) e (still q) refl in
               record {
@@ -385,18 +370,18 @@ module _ (script : List ℕ) (known : ℕ) (table : List ℕ) (count : ℕ) (qua
                 noFault = y .is;
                 steps = ap (λ (u : Stopped). u .steps) v ∙ omega (arith, y .counts);
                 ending = ap (λ (u : Stopped). u .ending) v ∙ (ap (λ (y : Stepped). y .ending) f ∙ sym (y .ends));
-                saved = ap (λ (u : Stopped). u .saved) v ∙ (g .is ∙ ap (savedOf (run .types)) (sym (y .last)));
+                control = ap (λ (u : Stopped). u .control) v ∙ (g .is ∙ ap (λ (s : State). savedControl (run .types) (s .control)) (sym (y .last)));
               }
 
-    pub spent-here : budget ≤ steps → (q : RunState) → LookOf lends-now q → (z : Stopped) → z ≡ record { steps = steps; ending = q; saved = saved } → RunOf w budget z
+    pub spent-here : budget ≤ steps → (q : RunState) → LookOf lends-now q → (z : Stopped) → z ≡ record { steps = steps; ending = q; control = now } → RunOf w budget z
     unfolding Machine.run
     spent-here l q e z v =
         let none-left : budget - steps ≡ 0 = omega (arith, g .few) in
-        let y = g .goes (still q) (ap (λ (b : ℕ). Machine.run (C .schema) G (signed clock) b (g .state)) none-left ∙ bind-ok e (λ q. ok (still q))) in
+        let y = g .goes (still q) (ap (λ (b : ℕ). Machine.run (setting w) (typing w) b (g .state)) none-left ∙ bind-ok e (λ q. ok (still q))) in
         record {
           ran = y .whole;
           noFault = y .is;
           steps = ap (λ (u : Stopped). u .steps) v ∙ omega (arith, y .counts);
           ending = ap (λ (u : Stopped). u .ending) v ∙ sym (y .ends);
-          saved = ap (λ (u : Stopped). u .saved) v ∙ (g .is ∙ ap (savedOf (run .types)) (sym (y .last)));
+          control = ap (λ (u : Stopped). u .control) v ∙ (g .is ∙ ap (λ (s : State). savedControl (run .types) (s .control)) (sym (y .last)));
         }

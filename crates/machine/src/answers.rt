@@ -1,10 +1,12 @@
 // A block's answer: what the search is given, and what it finds.
 use crate::Answered;
-use definitions::SavedRun;
+use definitions::SavedControl;
+use fields::numbers::index;
+use fields::numbers::number_index;
+use query::Context;
 use query::FREE;
 use search::Block;
 use search::answer::answer;
-use store::stack::index;
 use store::stack::top;
 ghost use mathlib.Core.Path.{_≡_};
 ghost use mathlib.Core.Bool.{cond};
@@ -17,7 +19,7 @@ ghost use Rattle.definitions.specs.Limits.{blockWidth, variableLimit};
 use definitions::DEPTH_LIMIT;
 use definitions::PAIR_LIMIT;
 use definitions::QUERY_OFFSET;
-use definitions::VARIABLES;
+use definitions::VARIABLE_LIMIT;
 
 // The number of a bound variable's term; none where it is not bound.
 fn code_of(bound: bool, number: u16) -> usize
@@ -27,12 +29,15 @@ fn code_of(bound: bool, number: u16) -> usize
 }
 
 // What is known of the 16 variables.
-fn known_of(bound: [bool; VARIABLES], bindings: [u16; VARIABLES]) -> [usize; VARIABLES]
+fn known_of(
+    bound: [bool; VARIABLE_LIMIT],
+    bindings: [u16; VARIABLE_LIMIT],
+) -> [usize; VARIABLE_LIMIT]
     ensures { λ r. ⌜ r ≡ knownOf bound bindings ⌝ }
 {
-    let mut known = [FREE; VARIABLES];
+    let mut known = [FREE; VARIABLE_LIMIT];
     let mut v = 0;
-    while v < VARIABLES {
+    while v < VARIABLE_LIMIT {
         known[v] = code_of(bound[v], bindings[v]);
         v += 1;
     }
@@ -56,7 +61,7 @@ fn pair_numbers(script: &[u8], at: usize) -> [usize; PAIR_LIMIT]
 }
 
 // The reported types of four variables.
-fn types_of(types: [u8; VARIABLES], vars: [usize; PAIR_LIMIT]) -> [u8; PAIR_LIMIT]
+fn types_of(types: [u8; VARIABLE_LIMIT], vars: [usize; PAIR_LIMIT]) -> [u8; PAIR_LIMIT]
     requires { ⌜ ((k : ℕ) → getD vars k 0 < variableLimit) ⌝ }
     ensures { λ r. ⌜ r ≡ typesOf types vars ⌝ }
 {
@@ -71,20 +76,14 @@ fn types_of(types: [u8; VARIABLES], vars: [usize; PAIR_LIMIT]) -> [u8; PAIR_LIMI
     [first, second, third, fourth]
 }
 
-fn wide_number(n: u16) -> usize
-    ensures { λ r. ⌜ r ≡ n ⌝ }
-{
-    n as usize
-}
-
 // Four numbers as the search counts them.
 fn wide_numbers(numbers: [u16; PAIR_LIMIT]) -> [usize; PAIR_LIMIT]
     ensures { λ r. ⌜ r ≡ fourOf numbers ⌝ }
 {
-    let a = wide_number(numbers[0]);
-    let b = wide_number(numbers[1]);
-    let c = wide_number(numbers[2]);
-    let d = wide_number(numbers[3]);
+    let a = number_index(numbers[0]);
+    let b = number_index(numbers[1]);
+    let c = number_index(numbers[2]);
+    let d = number_index(numbers[3]);
     [a, b, c, d]
 }
 
@@ -106,7 +105,12 @@ fn short_numbers(numbers: [usize; PAIR_LIMIT]) -> [u16; PAIR_LIMIT]
 }
 
 // The block at an offset as the search sees it.
-fn block_of(script: &[u8], at: usize, reported: [u8; VARIABLES], used: [u16; PAIR_LIMIT]) -> Block
+fn block_of(
+    script: &[u8],
+    at: usize,
+    reported: [u8; VARIABLE_LIMIT],
+    used: [u16; PAIR_LIMIT],
+) -> Block
     requires { ⌜ past at blockWidth ≤ length (now script) ⌝ }
     requires { ⌜ ((k : ℕ) → getD (pairNumbers (now script) at) k 0 < variableLimit) ⌝ }
     ensures { λ r. ⌜ r ≡ blockOf (now (script .entry)) at reported used ⌝ }
@@ -130,19 +134,17 @@ fn block_of(script: &[u8], at: usize, reported: [u8; VARIABLES], used: [u16; PAI
 // The answer of the block on top: the first after the tuple that it last used.
 // Ruled out: answers frozen as the block was entered; a tuple of terms that no longer fit the variables' types.
 pub fn block_answer(
-    run: SavedRun,
+    run: SavedControl,
     script: &[u8],
-    known: usize,
+    context: Context,
     at: usize,
     table: &[u8],
-    count: usize,
     quads: &[u16],
     leasts: &[u8],
-    clock: u64,
 ) -> Answered
-    requires { ⌜ ((w : Lends (now script) known (now table) count (now quads) (now leasts) clock run) × Top (w .here) at) ⌝ }
+    requires { ⌜ ((w : Lends (now script) (now table) (now quads) (now leasts) context run) × Top (w .here) at) ⌝ }
     requires { ⌜ byte (now script) at ≡ 0x73 ⌝ }
-    ensures { λ r. ⌜ ((w : Lends (now (script .entry)) known (now (table .entry)) count (now (quads .entry)) (now (leasts .entry)) clock run) (t : Top (w .here) at) → AnswersNow w t (r .found) (r .tuple)) ⌝ }
+    ensures { λ r. ⌜ ((w : Lends (now (script .entry)) (now (table .entry)) (now (quads .entry)) (now (leasts .entry)) context run) (t : Top (w .here) at) → AnswersNow w t (r .found) (r .tuple)) ⌝ }
 {
     let item = top(run);
     let reported = run.types;
@@ -150,22 +152,9 @@ pub fn block_answer(
     let bindings = run.bindings;
     let started = item.started;
     let used = item.last;
-    let n = run.quads as usize;
     let block = block_of(script, at, reported, used);
     let free = known_of(bound, bindings);
-    let found = answer(
-        script,
-        known,
-        block,
-        table,
-        count,
-        clock,
-        quads,
-        n,
-        leasts,
-        free,
-        started,
-    );
+    let found = answer(script, context, block, table, quads, leasts, free, started);
     let numbers = found.tuple;
     let tuple = short_numbers(numbers);
     Answered {

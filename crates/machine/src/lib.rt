@@ -5,20 +5,20 @@ pub mod acts; // acts.rt: one step
 
 use definitions::PAIR_LIMIT;
 use definitions::RunState;
-use definitions::SavedRun;
+use definitions::SavedControl;
 
-// A step's result: whether it moved, why it stands where it did not, and the saved run after it.
+// A step's result: whether it moved, why it stands where it did not, and the saved control after it.
 pub struct Stepped {
     pub moved: bool,
     pub ending: RunState,
-    pub saved: SavedRun,
+    pub control: SavedControl,
 }
 
-// A run's result: how many steps it took, why it stopped, and the saved run after the last.
+// A run's result: how many steps it took, why it stopped, and the saved control after the last.
 pub struct Stopped {
     pub steps: u32,
     pub ending: RunState,
-    pub saved: SavedRun,
+    pub control: SavedControl,
 }
 
 // A block's answer: whether there is one, and its term numbers.

@@ -67,7 +67,8 @@ module _ (a : Atom) (ps : List Piece) where
   unfolding madeOf someCut
   many-byte b t =
       ap (λ r. madeOf ps (b ∷ t) || r)
-      (cut-ext (λ x y. (isAtom a b && every (isAtom a) x) && madeOf ps y) (λ x y. isAtom a b && (every (isAtom a) x && madeOf ps y)) (λ x y. and-assoc (isAtom a b) (every (isAtom a) x) (madeOf ps y)) t
+      (cut-ext (λ x y. (isAtom a b && every (isAtom a) x) && madeOf ps y) (λ x y. isAtom a b && (every (isAtom a) x && madeOf ps y))
+      (λ x y. and-assoc (isAtom a b) (every (isAtom a) x) (madeOf ps y)) t
       ∙ cut-and (isAtom a b) (λ x y. every (isAtom a) x && madeOf ps y) t)
 
 -- ── a beginning of a text that fits ─────────────────────────────────────────────────────────

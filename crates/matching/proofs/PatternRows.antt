@@ -14,7 +14,8 @@ use borrow.Author.Tests.{ne-eqb, eqb-true, eqb-false}
 use Rattle.definitions.specs.Limits.{patternWidth}
 use Rattle.definitions.specs.Bytes.{byte, unfilled, provided, onward}
 use Rattle.definitions.specs.Terms.{Text, fieldText, textByte}
-use Rattle.definitions.specs.Text.{Atom, any, literal, Piece, one, many, isAtom, atomOf, noLiteral, piecesOf, withPiece, star, dot, dollar, caret, Pattern, patternOf, patternOfText, withStart, accepts}
+use Rattle.definitions.specs.Text.{Atom, any, literal, Piece, one, many, isAtom, atomOf, noLiteral, piecesOf, withPiece, star, dot, dollar, caret, Pattern, patternOf}
+use Rattle.definitions.specs.Text.{patternOfText, withStart, accepts}
 use Rattle.laws.proofs.Options.{some-is, provided-inv, onward-inv}
 use Rattle.matching.specs.Matching.{fits, anywhere, ahead, hits, RowFrom, Finds}
 use Rattle.matching.proofs.FieldLaws.{rest, rest-more, within, first-is, field-text, text-fits, text-byte, text-end}
@@ -205,7 +206,8 @@ module _ (f : List ℕ) (start : ℕ) (low : start ≤ length (unfilled f)) (g :
         let nonzero = text-byte g (i - 1) (omega (arith, s .within)) in
         let back : i - 1 + 1 ≡ i = omega arith in
         let next : rest g (i - 1) ≡ byte g (i - 1) ∷ rest g i = rest-more g (i - 1) (omega (arith, s .within, text-fits g)) nonzero ∙ ap (λ n. byte g (i - 1) ∷ rest g n) back in
-        let fresh : RowFrom f 0 (byte g (i - 1) ∷ rest g i) new = subst (λ p. RowFrom f 0 (cond p [] (byte g (i - 1) ∷ rest g i)) new) (ne-eqb (byte g (i - 1)) 0 nonzero) (step (rest g i) (λ n. s .rows)) in
+        let fresh : RowFrom f 0 (byte g (i - 1) ∷ rest g i) new = subst (λ p. RowFrom f 0 (cond p [] (byte g (i - 1) ∷ rest g i)) new) (ne-eqb (byte g (i - 1)) 0 nonzero)
+        (step (rest g i) (λ n. s .rows)) in
         record {
           within = omega (arith, s .within);
           rows = subst (λ u. RowFrom f 0 u new) (sym next) fresh;

@@ -73,7 +73,8 @@ module _ (f : List ℕ) (i : ℕ) (here : i < length f) where
       where
         starred : byte f i ≡ hyphen → byte f (i + 1) ≡ star → rest f i ≡ hyphen ∷ star ∷ rest f (i + 1 + 1)
         starred p q =
-            rest-more f i here (λ z. omega (arith, p, z)) ∙ (rw (rest-more f (i + 1) (within f (i + 1) (λ z. omega (arith, q, z))) (λ z. omega (arith, q, z))) (ap₂ (λ a b. a ∷ b ∷ rest f (i + 1 + 1)) p q))
+            rest-more f i here (λ z. omega (arith, p, z))
+            ∙ (rw (rest-more f (i + 1) (within f (i + 1) (λ z. omega (arith, q, z))) (λ z. omega (arith, q, z))) (ap₂ (λ a b. a ∷ b ∷ rest f (i + 1 + 1)) p q))
 
         go : (p : Bool) → eqb (byte f i) 0 ≡ p → withoutStar (rest f i) ≡ []
         go true h = rw (rest-end f i here (eqb-true (byte f i) 0 h))
@@ -178,7 +179,8 @@ module _ (f : List ℕ) where
       go (begins a b) = absurd (star-first e a)
 
   module _ (n : byte f 0 ≡ star → ⊥) where
-    pub accepts-beginning : (g : List ℕ) (r : Bool) → (T (every tagByte (withoutStar (unfilled f))) → r ≡ goesOn (withoutStar (unfilled f)) g) → (q : LanguageRange) → languageRangeOf f ≡ some q → r ≡ matches q g
+    pub accepts-beginning : (g : List ℕ) (r : Bool) → (T (every tagByte (withoutStar (unfilled f))) → r ≡ goesOn (withoutStar (unfilled f)) g) → (q : LanguageRange)
+        → languageRangeOf f ≡ some q → r ≡ matches q g
     unfolding matches
     accepts-beginning g r e q h = go (ranged f q h)
       where

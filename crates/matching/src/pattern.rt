@@ -61,7 +61,8 @@ fn cell(
     requires { ⌜ length (now pattern) ≡ patternWidth ⌝ }
     requires { ⌜ size ≡ length (unfilled (now pattern)) ⌝ }
     requires { ⌜ (k < size) × (size ≤ patternWidth) ⌝ }
-    ensures { λ x. ⌜ ((t : Text) → ((b ≡ 0 → ⊥) → RowFrom (now (pattern .entry)) 0 t later) → RowFrom (now (pattern .entry)) (k + 1) (ahead b t) row → (r : List Piece × Bool) → piecesOf (unfilled (drop k (now (pattern .entry)))) ≡ some r → x ≡ fits (r .0) (r .1) (ahead b t)) ⌝ }
+    ensures { λ x. ⌜ ((t : Text) → ((b ≡ 0 → ⊥) → RowFrom (now (pattern .entry)) 0 t later) → RowFrom (now (pattern .entry)) (k + 1) (ahead b t) row → (r : List Piece × Bool)
+        → piecesOf (unfilled (drop k (now (pattern .entry)))) ≡ some r → x ≡ fits (r .0) (r .1) (ahead b t)) ⌝ }
 {
     let a = pattern[k];
     let next = k + 1;

@@ -1,4 +1,4 @@
--- Laws of a page call: the copies it works on, its limits, and the saved run after it.
+-- Laws of a page call: the copies it works on, its limits, and the saved store after it.
 use Prim.Native.Nat.{ℕ, suc, _+_, _≤_, _<_}
 use native.Mathlib.Omega.{arith}
 use mathlib.Core.Path.{_≡_, refl, ap, sym, _∙_}
@@ -14,16 +14,16 @@ use Rattle.definitions.specs.Terms.{Schema, Triple}
 use Rattle.definitions.specs.Evaluate.{Quad}
 use Rattle.definitions.specs.Machine.{Store, Taken, taken, withPage, joined, ofGraph, inLimits}
 use Rattle.definitions.specs.Saved.{termTable, quadTable, quadBytes, quadsFrom}
-use Rattle.definitions.specs.declared.SavedRun.{SavedRun}
-use Rattle.definitions.specs.declared.Paged.{Paged}
+use Rattle.definitions.specs.declared.SavedStore.{SavedStore}
 use Rattle.definitions.specs.declared.PageAnswer.the-variants as PageAnswers
 use Rattle.laws.proofs.All.{all-keep}
 use Rattle.laws.proofs.Writing.{copied}
 use Rattle.pages.specs.declared.Counts.{Counts}
-use Rattle.store.specs.Stack.{graphFits, paged}
+use Rattle.pages.specs.declared.AfterPage.{AfterPage}
+use Rattle.store.specs.Graphs.{graphFits, paged}
 use Rattle.pages.specs.Page.{HeldTaken, Took}
 use Rattle.pages.specs.Taking.{HeldStore, PageDone, refusedPage, takenPage}
-use Rattle.pages.proofs.TermLaws.{held-width}
+use Rattle.records.proofs.NumberingLaws.{held-width}
 use Rattle.pages.proofs.TakeLaws.{quads-are}
 
 -- ── the copies ──────────────────────────────────────────────────────────────────────────────
@@ -44,14 +44,14 @@ keep-few p (x ∷ l) = go (p x) (keep-few p l)
 abbrev pub startOf : (graph : ℕ) → Store → Taken
 startOf g σ = record { skipped = 0; terms = σ .terms; quads = keep (λ q. not (ofGraph g q)) (σ .quads) }
 
-module _ (t q : List ℕ) (n : ℕ) (run : SavedRun) (σ : Store) (h : HeldStore t q n run σ) (g : ℕ) where
+module _ (t q : List ℕ) (n : ℕ) (store : SavedStore) (σ : Store) (h : HeldStore t q n store σ) (g : ℕ) where
   pub copies-held : (t′ q′ old : List ℕ) (kept : ℕ) → length old ≡ termTableWidth → t′ ≡ take (length t) t ++ drop (length t) old
-      → kept ≡ length (keep (λ q. not (ofGraph g q)) (quadsFrom (run .quads) q 0)) → q′ ≡ quadTable (keep (λ q. not (ofGraph g q)) (quadsFrom (run .quads) q 0))
+      → kept ≡ length (keep (λ q. not (ofGraph g q)) (quadsFrom (store .quads) q 0)) → q′ ≡ quadTable (keep (λ q. not (ofGraph g q)) (quadsFrom (store .quads) q 0))
       → HeldTaken t′ q′ (record { terms = n; quads = kept; skipped = 0 }) (startOf g σ)
   copies-held t′ q′ old kept w e c f =
       let p : Quad → Bool = λ q. not (ofGraph g q) in
       let width = held-width t n (σ .terms) (h .terms) in
-      let same : quadsFrom (run .quads) q 0 ≡ σ .quads = quads-are q (run .quads) (σ .quads) (h .quads) in
+      let same : quadsFrom (store .quads) q 0 ≡ σ .quads = quads-are q (store .quads) (σ .quads) (h .quads) in
       let whole : t′ ≡ t = e ∙ copied t old (width ∙ sym w) in
       record {
         terms = record { is = whole ∙ h .terms .is; valid = h .terms .valid; count = h .terms .count; few = h .terms .few };
@@ -102,36 +102,36 @@ joined-length g l = go (isIn g l)
     go true = refl
     go false = length-append l (g ∷ [])
 
-module _ (t q : List ℕ) (n : ℕ) (run : SavedRun) (σ : Store) (h : HeldStore t q n run σ) (g : ℕ) where
-  fits-by : (b : Bool) → isIn g (σ .fetched) ≡ b → graphFits run g ≡ (b || ltb (run .graphs) 64)
+module _ (t q : List ℕ) (n : ℕ) (store : SavedStore) (σ : Store) (h : HeldStore t q n store σ) (g : ℕ) where
+  fits-by : (b : Bool) → isIn g (σ .fetched) ≡ b → graphFits store g ≡ (b || ltb (store .graphs) 64)
   unfolding graphFits
-  fits-by b e = ap (λ (l : List ℕ). isIn g l || ltb (run .graphs) 64) (h .fetched) ∙ ap (λ (c : Bool). c || ltb (run .graphs) 64) e
+  fits-by b e = ap (λ (l : List ℕ). isIn g l || ltb (store .graphs) 64) (h .fetched) ∙ ap (λ (c : Bool). c || ltb (store .graphs) 64) e
 
-  pub no-room : graphFits run g ≡ false → graphLimit < length (joined g (σ .fetched))
+  pub no-room : graphFits store g ≡ false → graphLimit < length (joined g (σ .fetched))
   no-room e = go (isIn g (σ .fetched)) refl
     where
       go : (b : Bool) → isIn g (σ .fetched) ≡ b → graphLimit < length (joined g (σ .fetched))
       go true f = absurd (let z : _≡_ {A = ℕ} 0 1 = (let y : _≡_ {A = Bool} true false = sym (fits-by true f) ∙ e in cc) in omega arith)
       go false f =
-          let w = ltb-false (run .graphs) 64 (sym (fits-by false f) ∙ e) in
+          let w = ltb-false (store .graphs) 64 (sym (fits-by false f) ∙ e) in
           omega (arith, joined-length g (σ .fetched) ∙ ap (λ (b : Bool). cond b (length (σ .fetched)) (length (σ .fetched) + 1)) f, h .count)
 
-  pub has-room : graphFits run g ≡ true → length (joined g (σ .fetched)) ≤ graphLimit
+  pub has-room : graphFits store g ≡ true → length (joined g (σ .fetched)) ≤ graphLimit
   has-room e = go (isIn g (σ .fetched)) refl
     where
       go : (b : Bool) → isIn g (σ .fetched) ≡ b → length (joined g (σ .fetched)) ≤ graphLimit
       go true f = omega (arith, joined-length g (σ .fetched) ∙ ap (λ (b : Bool). cond b (length (σ .fetched)) (length (σ .fetched) + 1)) f, h .count, h .graphs)
       go false f =
-          let w = ltb-true (run .graphs) 64 (sym (fits-by false f) ∙ e) in
+          let w = ltb-true (store .graphs) 64 (sym (fits-by false f) ∙ e) in
           omega (arith, joined-length g (σ .fetched) ∙ ap (λ (b : Bool). cond b (length (σ .fetched)) (length (σ .fetched) + 1)) f, h .count)
 
 -- ── what the call leaves ────────────────────────────────────────────────────────────────────
 
-module _ (S : Schema) (g : ℕ) (rs : List Triple) (σ : Store) (run : SavedRun) (t q : List ℕ) where
-  pub not-done : (r : Paged) → r ≡ refusedPage run → inLimits (withPage g (taken S g rs σ) σ) ≡ false → PageDone S g rs σ run t q r t q
+module _ (S : Schema) (g : ℕ) (rs : List Triple) (σ : Store) (store : SavedStore) (t q : List ℕ) where
+  pub not-done : (r : AfterPage) → r ≡ refusedPage store → inLimits (withPage g (taken S g rs σ) σ) ≡ false → PageDone S g rs σ store t q r t q
   not-done r e f =
       record {
-        answer = e ∙ sym (ap (λ (b : Bool). cond b (takenPage run g (taken S g rs σ)) (refusedPage run)) f);
+        answer = e ∙ sym (ap (λ (b : Bool). cond b (takenPage store g (taken S g rs σ)) (refusedPage store)) f);
         termBytes = sym (ap (λ (b : Bool). cond b (termTable (taken S g rs σ .terms)) t) f);
         quadBytes = sym (ap (λ (b : Bool). cond b (quadTable (taken S g rs σ .quads)) q) f);
       }
@@ -145,16 +145,16 @@ module _ (S : Schema) (g : ℕ) (rs : List Triple) (σ : Store) (run : SavedRun)
 
     pub done : length t ≡ termTableWidth → length q ≡ quadTableWidth → c .terms ≤ termLimit → c .quads ≤ quadLimit → length (joined g (σ .fetched)) ≤ graphLimit
         → (t″ q″ : List ℕ) → t″ ≡ take (length t′) t′ ++ drop (length t′) t → q″ ≡ take (length q′) q′ ++ drop (length q′) q
-        → (saved : SavedRun) → saved ≡ paged run g (c .quads)
-        → PageDone S g rs σ run t q (record { answer = PageAnswers.Taken (c .skipped); saved = saved }) t″ q″
-    done wt wq few room graphs t″ q″ e f saved s =
+        → (after : SavedStore) → after ≡ paged store g (c .quads)
+        → PageDone S g rs σ store t q (record { answer = PageAnswers.Taken (c .skipped); store = after }) t″ q″
+    done wt wq few room graphs t″ q″ e f after s =
         let h = took .held few room in
         let all : inLimits (withPage g (taken S g rs σ) σ) ≡ true =
         all-fit S g rs σ (omega (arith, h .terms .count)) (omega (arith, h .quads .count)) graphs in
-        let answer : record { answer = PageAnswers.Taken (c .skipped); saved = saved } ≡ takenPage run g (taken S g rs σ) =
-        λ i. record { answer = PageAnswers.Taken (h .skipped i); saved = (s ∙ ap (paged run g) (sym (h .quads .count))) i } in
+        let answer : record { answer = PageAnswers.Taken (c .skipped); store = after } ≡ takenPage store g (taken S g rs σ) =
+        λ i. record { answer = PageAnswers.Taken (h .skipped i); store = (s ∙ ap (paged store g) (sym (h .quads .count))) i } in
         record {
-          answer = answer ∙ sym (ap (λ (b : Bool). cond b (takenPage run g (taken S g rs σ)) (refusedPage run)) all);
+          answer = answer ∙ sym (ap (λ (b : Bool). cond b (takenPage store g (taken S g rs σ)) (refusedPage store)) all);
           termBytes = e ∙ (copied t′ t (took .termWidth ∙ sym wt) ∙ (h .terms .is ∙ sym (ap (λ (b : Bool). cond b (termTable (taken S g rs σ .terms)) t) all)));
           quadBytes = f ∙ (copied q′ q (took .quadWidth ∙ sym wq) ∙ (h .quads .is ∙ sym (ap (λ (b : Bool). cond b (quadTable (taken S g rs σ .quads)) q) all)));
         }

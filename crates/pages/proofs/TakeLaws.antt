@@ -3,26 +3,27 @@ use Prim.Native.Nat.{ℕ, _+_, _-_, _*_, _≤_, _<_}
 use native.Mathlib.Omega.{arith}
 use native.Mathlib.Numerals.{add-one}
 use mathlib.Core.Path.{_≡_, refl, ap, ap₂, sym, subst, _∙_}
-use mathlib.Core.Logic.{_⊎_, ⊎-elim}
 use mathlib.Core.List.{List, [], _∷_, _++_}
-use mathlib.Core.Bool.{Bool, true, false, cond, _&&_, _||_, Bool·beq}
+use mathlib.Core.Bool.{Bool, true, false, cond, _&&_}
 use mathlib.Core.Option.{Option, none, some}
-use lib.Dec.{T, eqb, leb}
+use lib.Dec.{leb}
 use lib.ListN.{length, take, drop, length-append}
 use Rattle.definitions.specs.Limits.{textWidth, termLimit, quadLimit, quadWidth, quadTableWidth}
 use Rattle.definitions.specs.Bytes.{byte, part, allZero, inFront}
 use Rattle.definitions.specs.Types.{Datatype, datatypeCode, plain, leqDatatype}
-use Rattle.definitions.specs.Terms.{Term, Schema, Triple, datatype, bodyWidth, termOfBody, uriText, ofTermKind, ofPageKind, kindRows, datatypeIn, Sort, has, sortOf, hasType, readSchema, readTriple, readPage, isInteger, isDecimal, isDateTime}
+use Rattle.definitions.specs.Terms.{Term, Schema, Triple, datatype, bodyWidth, termOfBody, uriText, ofTermKind, ofPageKind, kindRows, datatypeIn, Sort, has, sortOf, hasType}
+use Rattle.definitions.specs.Terms.{readSchema, readTriple, readPage, isInteger, isDecimal, isDateTime}
 use Rattle.definitions.specs.Evaluate.{Quad, stored}
 use Rattle.definitions.specs.Machine.{Taken, skip, store, takeOne, takeAll, numbered, objectFits, wellTyped, withQuad}
 use Rattle.definitions.specs.Saved.{quadTable, quadsFrom, quadsIn}
 use Rattle.laws.proofs.Options.{some-is, pair-is, some-not-none, onward-some, onward-inv, provided-inv}
 use Rattle.laws.proofs.All.{all-append}
-use Rattle.laws.proofs.Order.{byDatatype, byDatatype2}
+use Rattle.laws.proofs.TestEquations.{datatype-equal, datatype-equal2}
 use Rattle.laws.proofs.Reading.{row-keys}
 use Rattle.laws.specs.Records.{TripleAt, recordsAt}
 use Rattle.laws.proofs.RecordsAt.{triple-inv, triple-forward, at-end, at-bad, at-one, page-at}
 use Rattle.laws.proofs.Taking.{take-all}
+use Rattle.laws.proofs.TermNumbers.{number-extends, extends-length}
 use Rattle.laws.proofs.Valid.{string-inv, number-inv}
 use Rattle.laws.specs.Quads.{Small}
 use Rattle.laws.proofs.Tables.{quads-of, quad-table-length}
@@ -30,13 +31,14 @@ use Rattle.definitions.specs.declared.Read.the-variants as Read
 use Rattle.laws.specs.ReadAnswers.{isSome, nextOf}
 use Rattle.fields.specs.Answers.{codeOf, schemaCode, widthOf}
 use Rattle.laws.proofs.ReadAnswers.{next-got}
-use Rattle.fields.proofs.PartLaws.{part-length}
+use Rattle.laws.proofs.Bytes.{part-length}
+use Rattle.codes.specs.TypeCodes.{codeLeq}
 use Rattle.pages.specs.declared.Counts.{Counts}
-use Rattle.pages.specs.declared.Joined.{Joined}
+use Rattle.records.specs.declared.Joined.{Joined}
 use Rattle.pages.specs.declared.Numbers.{Numbers}
 use Rattle.store.specs.Quads.{quad, quadSet}
 use Rattle.pages.specs.Page.{BodyIs, Joins, subjectIn, propertyIn, objectIn, Numbering, HeldQuads, Stores, HeldTaken, Took}
-use Rattle.pages.proofs.TermLaws.{number-cases, held-width}
+use Rattle.records.proofs.NumberingLaws.{held-width}
 use Rattle.store.proofs.QuadLaws.{quad-added}
 
 -- ── the bodies of a record ──────────────────────────────────────────────────────────────────
@@ -97,8 +99,7 @@ module _ (page : List ℕ) (at next : ℕ) (x : Triple) (r : TripleAt page at x 
 
 -- no term goes
 numbered-more : (t : Term) (ts : List Term) → length ts ≤ length (numbered t ts .terms)
-numbered-more t ts =
-    ⊎-elim (λ h. omega (arith, ap length (h .1))) (λ h. omega (arith, ap length (h .1), length-append ts (t ∷ []))) (number-cases t ts)
+numbered-more t ts = extends-length ts (numbered t ts .terms) (number-extends t ts)
 
 module _ (ts : List Term) (x : Triple) where
   -- the subject has no room
@@ -132,34 +133,23 @@ module _ (ts : List Term) (x : Triple) where
 
 -- ── well typed ──────────────────────────────────────────────────────────────────────────────
 
-same : (a b : Bool) → T (Bool·beq a b) → a ≡ b
-same true true h = refl
-same true false h = absurd h
-same false true h = absurd h
-same false false h = refl
-
 -- an object's kind alone says which datatypes it has
 has-plain : (S : Schema) (t : Term) (d : Datatype) → leqDatatype (datatype t) d ≡ hasType S t (plain d)
 unfolding sortOf
 has-plain S (Term.uri u) d = go (datatypeIn S u)
   where
     go : (o : Option Datatype) → leqDatatype Datatype.anyURI d ≡ has (Sort.uri o) (plain d)
-    go none = same (leqDatatype Datatype.anyURI d) (has (Sort.uri none) (plain d))
-        (byDatatype (λ d. Bool·beq (leqDatatype Datatype.anyURI d) (has (Sort.uri none) (plain d))) tt d)
-    go (some e) = same (leqDatatype Datatype.anyURI d) (has (Sort.uri (some e)) (plain d))
-        (byDatatype2 (λ e d. Bool·beq (leqDatatype Datatype.anyURI d) (has (Sort.uri (some e)) (plain d))) tt e d)
+    go none = datatype-equal (leqDatatype Datatype.anyURI) (λ d. has (Sort.uri none) (plain d)) tt d
+    go (some e) = datatype-equal2 (λ e d. leqDatatype Datatype.anyURI d) (λ e d. has (Sort.uri (some e)) (plain d)) tt e d
 has-plain S (Term.string g t) d = refl
 has-plain S (Term.integer n) d = refl
 has-plain S (Term.decimal n) d = refl
 has-plain S (Term.dateTime n) d = refl
 
-abbrev codesFit : (given wanted : ℕ) → Bool
-codesFit given wanted = eqb given wanted || (eqb given 5 && eqb wanted 3)
-
-codes-fit : (S : Schema) (o : Option Datatype) (t : Term) → codesFit (datatypeCode (datatype t)) (codeOf o) ≡ objectFits S o t
+codes-fit : (S : Schema) (o : Option Datatype) (t : Term) → codeLeq (datatypeCode (datatype t)) (codeOf o) ≡ objectFits S o t
 unfolding codeOf
-codes-fit S none t = same (codesFit (datatypeCode (datatype t)) 0) false (byDatatype (λ d. Bool·beq (codesFit (datatypeCode d) 0) false) tt (datatype t))
-codes-fit S (some d) t = has-plain S t d
+codes-fit S none t = datatype-equal (λ d. codeLeq (datatypeCode d) 0) (λ d. false) tt (datatype t)
+codes-fit S (some d) t = datatype-equal2 (λ e d. codeLeq (datatypeCode e) (datatypeCode d)) leqDatatype tt (datatype t) d ∙ has-plain S t d
 
 -- a body of a datatype is a term of it
 says-datatype : (d : Datatype) (b : List ℕ) (t : Term) → termOfBody d b ≡ some t → datatype t ≡ d
@@ -172,14 +162,14 @@ says-datatype Datatype.integer b t e = ap datatype (number-inv isInteger Term.in
 
 module _ (schema page : List ℕ) (S : Schema) (at next : ℕ) (x : Triple) (e : readSchema schema ≡ some S) (r : TripleAt page at x next) where
   pub typed-is : (wanted given : ℕ) → wanted ≡ schemaCode (readSchema schema) (uriText (take (at + 81 - (at + 41)) (drop (at + 41) page)))
-      → given ≡ datatypeCode (r .datatype) → codesFit given wanted ≡ wellTyped S x
+      → given ≡ datatypeCode (r .datatype) → codeLeq given wanted ≡ wellTyped S x
   unfolding schemaCode wellTyped
   typed-is wanted given f g =
       let n : at + 81 - (at + 41) ≡ textWidth = omega arith in
       let u : uriText (take (at + 81 - (at + 41)) (drop (at + 41) page)) ≡ some (x .property) = rw n (r .property) in
       let w : wanted ≡ codeOf (datatypeIn S (x .property)) = f ∙ ap₂ schemaCode e u in
       let d = says-datatype (r .datatype) (part page (at + 81) (bodyWidth (r .datatype))) (x .object) (r .object) in
-      ap₂ codesFit (g ∙ ap datatypeCode (sym d)) w ∙ codes-fit S (datatypeIn S (x .property)) (x .object)
+      ap₂ codeLeq (g ∙ ap datatypeCode (sym d)) w ∙ codes-fit S (datatypeIn S (x .property)) (x .object)
 
 -- the codes of the five kinds
 pub code-is : (k : ℕ) (key : ℕ) (d : Datatype) → k ≡ key → ofPageKind key ≡ some d → (e : Datatype) → ofPageKind k ≡ some e → datatypeCode d ≡ datatypeCode e
@@ -401,7 +391,8 @@ module _ (page : List ℕ) (S : Schema) (g at : ℕ) (t q : List ℕ) (c : Count
     pub left-next : (n : ℕ) → Read.Next n ≡ nextOf (readTriple page at) → c′ .terms ≤ termLimit → c′ .quads ≤ quadLimit
         → Left page S g n t′ q′ c′ final
     left-next n end few room =
-        subst (λ (m : ℕ). Left page S g m t′ q′ c′ final) (sym (end-next h n end)) (record { rest = left-one h .others; so-far = takeOne S g (left-one h .triple) (l .so-far); reads = left-one h .after; holds = took .held few room; leads = leads-on })
+        subst (λ (m : ℕ). Left page S g m t′ q′ c′ final) (sym (end-next h n end))
+        (record { rest = left-one h .others; so-far = takeOne S g (left-one h .triple) (l .so-far); reads = left-one h .after; holds = took .held few room; leads = leads-on })
 
     -- a limit is passed, and stays passed
     left-over : (c′ .terms ≤ termLimit → c′ .quads ≤ quadLimit → ⊥) → Took t′ q′ c′ final

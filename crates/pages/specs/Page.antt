@@ -1,34 +1,27 @@
 -- What the tables hold while a page is taken in.
-use Prim.Native.Nat.{ℕ, _*_, _≤_}
+use Prim.Native.Nat.{ℕ, _≤_}
 use mathlib.Core.List.{List}
 use mathlib.Core.Option.{some}
 use mathlib.Core.Path.{_≡_}
 use lib.ListN.{length}
-use Rattle.definitions.specs.Limits.{termLimit, termTableWidth, quadLimit, quadTableWidth, entryLimit}
+use Rattle.definitions.specs.Limits.{termLimit, termTableWidth, quadLimit, quadTableWidth}
 use Rattle.definitions.specs.Types.{Datatype}
 use Rattle.definitions.specs.Terms.{Term, Schema, Triple, bodyWidth, termOfBody, ofTermKind, ofPageKind, readSchema, readPage}
 use Rattle.definitions.specs.Evaluate.{Quad}
 use Rattle.definitions.specs.Machine.{Numbered, numbered, Taken, withQuad}
-use Rattle.definitions.specs.Saved.{termTable, quadTable}
+use Rattle.definitions.specs.Saved.{quadTable}
 use Rattle.laws.specs.Lists.{All}
-use Rattle.laws.specs.Valid.{Valid}
 use Rattle.laws.specs.Quads.{Small}
 use Rattle.laws.specs.Records.{TripleAt}
-use Rattle.table.specs.Hashes.{Hashed}
-use Rattle.definitions.specs.Limits.{entryWidth}
-use Rattle.pages.specs.declared.Joined.{Joined}
+use Rattle.table.specs.Hashes.{Hashed, HashedEntries}
+use Rattle.table.specs.Table.{HeldTerms}
+use Rattle.records.specs.declared.Joined.{Joined}
 use Rattle.pages.specs.declared.Numbers.{Numbers}
 use Rattle.pages.specs.declared.Counts.{Counts}
 
 -- ── terms ───────────────────────────────────────────────────────────────────────────────────
 
 -- a table of n terms
-pub record HeldTerms (table : List ℕ) (n : ℕ) (ts : List Term) : Type 0 where
-  pub is : table ≡ termTable ts
-  pub valid : All Valid ts
-  pub count : length ts ≡ n
-  pub few : n ≤ termLimit
-
 abbrev pub Held : (table : List ℕ) → ℕ → Type 0
 Held table n = (ts : List Term) × HeldTerms table n ts
 
@@ -89,9 +82,9 @@ RecordAt page at next = (x : Triple) × TripleAt page at x next
 abbrev pub PageReads : List ℕ → Type 0
 PageReads page = (rs : List Triple) × (readPage page ≡ some rs)
 
--- a schema of no more entries than there may be
-abbrev pub Reads : List ℕ → Type 0
-Reads schema = (S : Schema) × (readSchema schema ≡ some S) × (length schema ≤ entryLimit * entryWidth)
+-- a good schema, with the hashes of its URIs
+abbrev pub Reads : (schema entries : List ℕ) → Type 0
+Reads schema entries = (S : Schema) × (readSchema schema ≡ some S) × HashedEntries schema entries
 
 -- ── quads ───────────────────────────────────────────────────────────────────────────────────
 

@@ -1,6 +1,6 @@
--- What a page call leaves in the saved run and in both tables.
+-- What a page call leaves in the saved store and in both tables.
 use Prim.Native.Nat.{ℕ, _≤_}
-use mathlib.Core.Bool.{Bool, cond}
+use mathlib.Core.Bool.{cond}
 use mathlib.Core.List.{List}
 use mathlib.Core.Path.{_≡_}
 use lib.ListN.{length}
@@ -8,32 +8,33 @@ use Rattle.definitions.specs.Limits.{graphLimit}
 use Rattle.definitions.specs.Terms.{Schema, Triple}
 use Rattle.definitions.specs.Machine.{Store, Taken, taken, withPage, inLimits}
 use Rattle.definitions.specs.Saved.{termTable, quadTable}
-use Rattle.definitions.specs.declared.SavedRun.{SavedRun}
-use Rattle.definitions.specs.declared.Paged.{Paged}
+use Rattle.definitions.specs.declared.SavedStore.{SavedStore}
 use Rattle.definitions.specs.declared.PageAnswer.the-variants as PageAnswers
-use Rattle.store.specs.Stack.{fetchedIn, paged}
-use Rattle.pages.specs.Page.{HeldTerms, HeldQuads}
+use Rattle.store.specs.Graphs.{fetchedIn, paged}
+use Rattle.pages.specs.declared.AfterPage.{AfterPage}
+use Rattle.table.specs.Table.{HeldTerms}
+use Rattle.pages.specs.Page.{HeldQuads}
 
--- both tables and the fetched list hold a store
-pub record HeldStore (termBytes quadBytes : List ℕ) (n : ℕ) (run : SavedRun) (σ : Store) : Type 0 where
+-- both tables and the saved store hold a store
+pub record HeldStore (termBytes quadBytes : List ℕ) (n : ℕ) (store : SavedStore) (σ : Store) : Type 0 where
   pub terms : HeldTerms termBytes n (σ .terms)
-  pub quads : HeldQuads quadBytes (run .quads) (σ .quads)
-  pub fetched : fetchedIn run ≡ σ .fetched
-  pub count : length (σ .fetched) ≡ run .graphs
-  pub graphs : run .graphs ≤ graphLimit
+  pub quads : HeldQuads quadBytes (store .quads) (σ .quads)
+  pub fetched : fetchedIn store ≡ σ .fetched
+  pub count : length (σ .fetched) ≡ store .graphs
+  pub graphs : store .graphs ≤ graphLimit
 
-abbrev pub HeldTables : (termBytes quadBytes : List ℕ) → ℕ → SavedRun → Type 0
-HeldTables termBytes quadBytes n run = (σ : Store) × HeldStore termBytes quadBytes n run σ
+abbrev pub HeldTables : (termBytes quadBytes : List ℕ) → ℕ → SavedStore → Type 0
+HeldTables termBytes quadBytes n store = (σ : Store) × HeldStore termBytes quadBytes n store σ
 
--- 14, and the saved run as it was
-abbrev pub refusedPage : SavedRun → Paged
-refusedPage run = record { answer = PageAnswers.Refused 14; saved = run }
+-- 14, and the saved store as it was
+abbrev pub refusedPage : SavedStore → AfterPage
+refusedPage store = record { answer = PageAnswers.Refused 14; store = store }
 
-abbrev pub takenPage : SavedRun → (graph : ℕ) → Taken → Paged
-takenPage run g k = record { answer = PageAnswers.Taken (k .skipped); saved = paged run g (length (k .quads)) }
+abbrev pub takenPage : SavedStore → (graph : ℕ) → Taken → AfterPage
+takenPage store g k = record { answer = PageAnswers.Taken (k .skipped); store = paged store g (length (k .quads)) }
 
 -- what the machine holds after the page, where no limit is passed; else what there was
-pub record PageDone (S : Schema) (g : ℕ) (rs : List Triple) (σ : Store) (run : SavedRun) (terms₀ quads₀ : List ℕ) (r : Paged) (terms₁ quads₁ : List ℕ) : Type 0 where
-  pub answer : r ≡ cond (inLimits (withPage g (taken S g rs σ) σ)) (takenPage run g (taken S g rs σ)) (refusedPage run)
+pub record PageDone (S : Schema) (g : ℕ) (rs : List Triple) (σ : Store) (store : SavedStore) (terms₀ quads₀ : List ℕ) (r : AfterPage) (terms₁ quads₁ : List ℕ) : Type 0 where
+  pub answer : r ≡ cond (inLimits (withPage g (taken S g rs σ) σ)) (takenPage store g (taken S g rs σ)) (refusedPage store)
   pub termBytes : terms₁ ≡ cond (inLimits (withPage g (taken S g rs σ) σ)) (termTable (taken S g rs σ .terms)) terms₀
   pub quadBytes : quads₁ ≡ cond (inLimits (withPage g (taken S g rs σ) σ)) (quadTable (taken S g rs σ .quads)) quads₀

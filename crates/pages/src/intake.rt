@@ -1,9 +1,10 @@
 // A page call's work, on copies of both tables: they come back only where no limit is passed.
+use crate::AfterPage;
 use crate::Counts;
 use crate::triples::take_page;
+use store::graphs::graph_fits;
+use store::graphs::with_page;
 use store::quads::keep_others;
-use store::stack::graph_fits;
-use store::stack::with_page;
 ghost use mathlib.Core.Path.{_≡_};
 ghost use mathlib.Core.List.{List, []};
 ghost use mathlib.Core.Option.{some};
@@ -16,28 +17,28 @@ ghost use Rattle.definitions.specs.Saved.{quadTable};
 ghost use Rattle.pages.specs.Page.{PageReads, Reads, Took};
 ghost use Rattle.pages.specs.Taking.{HeldStore, HeldTables, PageDone, refusedPage};
 use definitions::PageAnswer;
-use definitions::Paged;
 use definitions::QUAD_LIMIT;
 use definitions::QUAD_TABLE_WIDTH;
-use definitions::SavedRun;
+use definitions::SavedStore;
 use definitions::TERM_LIMIT;
 use definitions::TERM_TABLE_WIDTH;
 
-fn refused(run: SavedRun) -> Paged
-    ensures { λ r. ⌜ r ≡ refusedPage run ⌝ }
+fn refused(store: SavedStore) -> AfterPage
+    ensures { λ r. ⌜ r ≡ refusedPage store ⌝ }
 {
-    Paged {
+    AfterPage {
         answer: PageAnswer::Refused(14),
-        saved: run,
+        store,
     }
 }
 
 // Copies both tables, without the graph's quads, and takes the page into the copies.
 fn take_copies(
-    run: SavedRun,
+    store: SavedStore,
     graph: u16,
     n: usize,
     schema: &[u8],
+    entries: &[u16],
     page: &[u8],
     lent: &[u8],
     stored: &[u8],
@@ -46,50 +47,55 @@ fn take_copies(
 ) -> Counts
     requires { ⌜ PageReads (now page) ⌝ }
     requires { ⌜ length (now page) ≤ pageLimit ⌝ }
-    requires { ⌜ Reads (now schema) ⌝ }
-    requires { ⌜ HeldTables (now lent) (now stored) n run ⌝ }
+    requires { ⌜ Reads (now schema) (now entries) ⌝ }
+    requires { ⌜ HeldTables (now lent) (now stored) n store ⌝ }
     requires { ⌜ length (now terms) ≡ termTableWidth ⌝ }
     requires { ⌜ now quads ≡ quadTable [] ⌝ }
-    ensures { λ r. ⌜ ((S : Schema) (rs : List Triple) (σ : Store) → readSchema (now (schema .entry)) ≡ some S → readPage (now (page .entry)) ≡ some rs → HeldStore (now (lent .entry)) (now (stored .entry)) n run σ → Took (now (terms .exit)) (now (quads .exit)) r (taken S graph rs σ)) ⌝ }
+    ensures { λ r. ⌜ ((S : Schema) (rs : List Triple) (σ : Store) → readSchema (now (schema .entry)) ≡ some S → readPage (now (page .entry)) ≡ some rs
+        → HeldStore (now (lent .entry)) (now (stored .entry)) n store σ → Took (now (terms .exit)) (now (quads .exit)) r (taken S graph rs σ)) ⌝ }
 {
     bytes::copy(lent, terms);
-    let count = run.quads as usize;
+    let count = store.quads as usize;
     let kept = keep_others(stored, count, graph, quads);
     let start = Counts {
         terms: n,
         quads: kept,
         skipped: 0,
     };
-    take_page(page, schema, graph, terms, quads, start)
+    take_page(page, schema, entries, graph, terms, quads, start)
 }
 
-// Takes a page in: the skipped count, the saved run and both tables after it, or refusal 14.
+// Takes a page in: the skipped count, the saved store and both tables after it, or refusal 14.
 // Ruled out: tables changed by a page that is refused; a page that passes a limit taken in.
 pub fn take_in(
-    run: SavedRun,
+    store: SavedStore,
     graph: u16,
     n: usize,
     schema: &[u8],
+    entries: &[u16],
     page: &[u8],
     lent: &mut [u8],
     stored: &mut [u8],
-) -> Paged
+) -> AfterPage
     requires { ⌜ PageReads (now page) ⌝ }
     requires { ⌜ length (now page) ≤ pageLimit ⌝ }
-    requires { ⌜ Reads (now schema) ⌝ }
-    requires { ⌜ HeldTables (now lent) (now stored) n run ⌝ }
-    ensures { λ r. ⌜ ((S : Schema) (rs : List Triple) (σ : Store) → readSchema (now (schema .entry)) ≡ some S → readPage (now (page .entry)) ≡ some rs → HeldStore (now (lent .entry)) (now (stored .entry)) n run σ → PageDone S graph rs σ run (now (lent .entry)) (now (stored .entry)) r (now (lent .exit)) (now (stored .exit))) ⌝ }
+    requires { ⌜ Reads (now schema) (now entries) ⌝ }
+    requires { ⌜ HeldTables (now lent) (now stored) n store ⌝ }
+    ensures { λ r. ⌜ ((S : Schema) (rs : List Triple) (σ : Store) → readSchema (now (schema .entry)) ≡ some S → readPage (now (page .entry)) ≡ some rs
+        → HeldStore (now (lent .entry)) (now (stored .entry)) n store σ
+        → PageDone S graph rs σ store (now (lent .entry)) (now (stored .entry)) r (now (lent .exit)) (now (stored .exit))) ⌝ }
 {
-    if !graph_fits(run, graph) {
-        return refused(run);
+    if !graph_fits(store, graph) {
+        return refused(store);
     }
     let mut terms = [0u8; TERM_TABLE_WIDTH];
     let mut quads = [0u8; QUAD_TABLE_WIDTH];
     let end = take_copies(
-        run,
+        store,
         graph,
         n,
         schema,
+        entries,
         page,
         lent,
         stored,
@@ -97,17 +103,17 @@ pub fn take_in(
         &mut quads,
     );
     if TERM_LIMIT < end.terms {
-        return refused(run);
+        return refused(store);
     }
     if QUAD_LIMIT < end.quads {
-        return refused(run);
+        return refused(store);
     }
     bytes::copy(&terms, lent);
     bytes::copy(&quads, stored);
     let count = end.quads as u16;
-    let saved = with_page(run, graph, count);
-    Paged {
+    let after = with_page(store, graph, count);
+    AfterPage {
         answer: PageAnswer::Taken(end.skipped),
-        saved,
+        store: after,
     }
 }

@@ -3,11 +3,8 @@ pub mod triples; // triples.rt: taking in a page
 pub mod page_reader; // page_reader.rt: a page's records one by one
 pub mod intake; // intake.rt: a page call on copies of both tables
 
-// A term's number, and how many terms there then are.
-pub struct Joined {
-    pub number: u16,
-    pub terms: usize,
-}
+use definitions::PageAnswer;
+use definitions::SavedStore;
 
 // The numbers of a triple's terms, and how many terms there then are.
 pub struct Numbers {
@@ -22,4 +19,10 @@ pub struct Counts {
     pub terms: usize,
     pub quads: usize,
     pub skipped: u32,
+}
+
+// What a page call gives: its answer, and the saved store after it.
+pub struct AfterPage {
+    pub answer: PageAnswer,
+    pub store: SavedStore,
 }

@@ -11,25 +11,24 @@ ghost use Rattle.definitions.specs.Terms.{Term, Schema, Triple, ofPageKind, rea
 ghost use Rattle.definitions.specs.Evaluate.{Quad};
 ghost use Rattle.definitions.specs.Machine.{Taken, wellTyped, takeOne, takeAll};
 ghost use Rattle.laws.specs.Records.{TripleAt};
-ghost use Rattle.table.specs.Hashes.{HashedEntries};
+ghost use Rattle.table.specs.Table.{HeldTerms};
 ghost use Rattle.store.specs.Quads.{quad};
-ghost use Rattle.pages.specs.Page.{HeldTerms, Held, HeldHashes, BodyIs, Says, Joins, PageKind, RecordAt, Reads, Numbering, HeldQuads, HeldSome, Stores, HeldTaken, HeldBoth, Took, PageReads};
+ghost use Rattle.pages.specs.Page.{Held, HeldHashes, BodyIs, Says, Joins, PageKind, RecordAt, Reads, Numbering, HeldQuads, HeldSome, Stores, HeldTaken, HeldBoth, Took, PageReads};
 use crate::Counts;
-use crate::Joined;
 use crate::Numbers;
 use crate::page_reader::next_record;
+use codes::has_type;
 use definitions::OBJECT_OFFSET;
 use definitions::PROPERTY_OFFSET;
 use definitions::QUAD_LIMIT;
 use definitions::TERM_LIMIT;
+use records::Joined;
+use records::numbering::add_term;
 use records::schema::datatype_of;
-use records::schema::hash_entries;
 use store::quads::has_quad;
 use store::quads::put_quad;
 use table::hashes::hash_of;
 use table::hashes::hash_slots;
-use table::slots::find_term;
-use table::slots::put_term;
 use table::slots::slot_of;
 
 // The number of a body's term in a table of n terms. A new term joins at the end, where there is room.
@@ -41,24 +40,7 @@ fn number_body(kind: u8, body: &[u8], table: &mut [u8], n: usize, hashes: &mut [
     ensures { λ r. ⌜ HeldHashes (now (table .exit)) (r .terms) (now (hashes .exit)) ⌝ }
 {
     let slot = slot_of(kind, body);
-    let found = find_term(table, n, hashes, &slot);
-    if found < n {
-        let number = found as u16;
-        return Joined { number, terms: n };
-    }
-    let last = n as u16;
-    let terms = n + 1;
-    if TERM_LIMIT <= n {
-        return Joined {
-            number: last,
-            terms,
-        };
-    }
-    put_term(table, n, hashes, &slot);
-    Joined {
-        number: last,
-        terms,
-    }
+    add_term(table, n, hashes, &slot)
 }
 
 // The numbers of a record's terms, subject before object.
@@ -123,11 +105,10 @@ fn object_code(kind: u8) -> u8
     }
 }
 
-// Whether a record's property has a schema entry and its object the entry's datatype; an integer is a decimal too.
+// Whether a record's property has a schema entry and its object the entry's datatype.
 fn well_typed(page: &[u8], at: usize, next: usize, schema: &[u8], entries: &[u16]) -> bool
     requires { ⌜ RecordAt (now page) at next ⌝ }
-    requires { ⌜ Reads (now schema) ⌝ }
-    requires { ⌜ HashedEntries (now schema) (now entries) ⌝ }
+    requires { ⌜ Reads (now schema) (now entries) ⌝ }
     ensures { λ r. ⌜ ((S : Schema) (x : Triple) → readSchema (now (schema .entry)) ≡ some S → TripleAt (now (page .entry)) at x next → r ≡ wellTyped S x) ⌝ }
 {
     let middle = at + PROPERTY_OFFSET;
@@ -136,7 +117,7 @@ fn well_typed(page: &[u8], at: usize, next: usize, schema: &[u8], entries: &[u16
     let hash = hash_of(&slot);
     let wanted = datatype_of(schema, entries, &page[middle..last], hash);
     let given = object_code(page[at]);
-    (given == wanted) | ((given == 5) & (wanted == 3))
+    has_type(given, wanted)
 }
 
 // Stores a quad that is not there yet, where there is room; how many quads there then are.
@@ -175,13 +156,13 @@ fn take_record(
     counts: Counts,
 ) -> Counts
     requires { ⌜ RecordAt (now page) at next ⌝ }
-    requires { ⌜ Reads (now schema) ⌝ }
-    requires { ⌜ HashedEntries (now schema) (now entries) ⌝ }
+    requires { ⌜ Reads (now schema) (now entries) ⌝ }
     requires { ⌜ HeldBoth (now terms) (now quads) counts ⌝ }
     requires { ⌜ HeldHashes (now terms) (counts .terms) (now hashes) ⌝ }
     requires { ⌜ counts .skipped ≤ at ⌝ }
     requires { ⌜ at ≤ pageLimit ⌝ }
-    ensures { λ r. ⌜ ((S : Schema) (x : Triple) (k : Taken) → readSchema (now (schema .entry)) ≡ some S → TripleAt (now (page .entry)) at x next → HeldTaken (now (terms .entry)) (now (quads .entry)) counts k → Took (now (terms .exit)) (now (quads .exit)) r (takeOne S graph x k)) ⌝ }
+    ensures { λ r. ⌜ ((S : Schema) (x : Triple) (k : Taken) → readSchema (now (schema .entry)) ≡ some S → TripleAt (now (page .entry)) at x next
+        → HeldTaken (now (terms .entry)) (now (quads .entry)) counts k → Took (now (terms .exit)) (now (quads .exit)) r (takeOne S graph x k)) ⌝ }
     ensures { λ r. ⌜ HeldHashes (now (terms .exit)) (r .terms) (now (hashes .exit)) ⌝ }
     ensures { λ r. ⌜ r .skipped ≤ counts .skipped + 1 ⌝ }
 {
@@ -233,12 +214,12 @@ fn take_records(
 ) -> Counts
     requires { ⌜ PageReads (now page) ⌝ }
     requires { ⌜ length (now page) ≤ pageLimit ⌝ }
-    requires { ⌜ Reads (now schema) ⌝ }
-    requires { ⌜ HashedEntries (now schema) (now entries) ⌝ }
+    requires { ⌜ Reads (now schema) (now entries) ⌝ }
     requires { ⌜ HeldBoth (now terms) (now quads) start ⌝ }
     requires { ⌜ HeldHashes (now terms) (start .terms) (now hashes) ⌝ }
     requires { ⌜ start .skipped ≡ 0 ⌝ }
-    ensures { λ r. ⌜ ((S : Schema) (rs : List Triple) (k : Taken) → readSchema (now (schema .entry)) ≡ some S → readPage (now (page .entry)) ≡ some rs → HeldTaken (now (terms .entry)) (now (quads .entry)) start k → Took (now (terms .exit)) (now (quads .exit)) r (takeAll S graph rs k)) ⌝ }
+    ensures { λ r. ⌜ ((S : Schema) (rs : List Triple) (k : Taken) → readSchema (now (schema .entry)) ≡ some S → readPage (now (page .entry)) ≡ some rs
+        → HeldTaken (now (terms .entry)) (now (quads .entry)) start k → Took (now (terms .exit)) (now (quads .exit)) r (takeAll S graph rs k)) ⌝ }
 {
     let mut counts = start;
     let mut at = 0;
@@ -267,11 +248,12 @@ fn take_records(
     counts
 }
 
-// Takes a page in. Terms and properties are looked up by hashes, made once for the page.
+// Takes a page in. Terms are looked up by hashes, made once for the page.
 // Ruled out: a page of which only the first record is taken; skipped records that add terms.
 pub fn take_page(
     page: &[u8],
     schema: &[u8],
+    entries: &[u16],
     graph: u16,
     terms: &mut [u8],
     quads: &mut [u8],
@@ -279,17 +261,17 @@ pub fn take_page(
 ) -> Counts
     requires { ⌜ PageReads (now page) ⌝ }
     requires { ⌜ length (now page) ≤ pageLimit ⌝ }
-    requires { ⌜ Reads (now schema) ⌝ }
+    requires { ⌜ Reads (now schema) (now entries) ⌝ }
     requires { ⌜ HeldBoth (now terms) (now quads) start ⌝ }
     requires { ⌜ start .skipped ≡ 0 ⌝ }
-    ensures { λ r. ⌜ ((S : Schema) (rs : List Triple) (k : Taken) → readSchema (now (schema .entry)) ≡ some S → readPage (now (page .entry)) ≡ some rs → HeldTaken (now (terms .entry)) (now (quads .entry)) start k → Took (now (terms .exit)) (now (quads .exit)) r (takeAll S graph rs k)) ⌝ }
+    ensures { λ r. ⌜ ((S : Schema) (rs : List Triple) (k : Taken) → readSchema (now (schema .entry)) ≡ some S → readPage (now (page .entry)) ≡ some rs
+        → HeldTaken (now (terms .entry)) (now (quads .entry)) start k → Took (now (terms .exit)) (now (quads .exit)) r (takeAll S graph rs k)) ⌝ }
 {
-    let entries = hash_entries(schema);
     let mut hashes = hash_slots(terms, start.terms);
     take_records(
         page,
         schema,
-        &entries,
+        entries,
         graph,
         terms,
         &mut hashes,

@@ -135,12 +135,12 @@ check-named terms schema script =
 
 -- ── the whole ───────────────────────────────────────────────────────────────────────────────
 
-card-of : (x : Result Checked) → Named x → ((c : Checked) → x ≡ passed c → length (c .types) ≡ length (writtenTypes (c .root)))
-    → cardText (cardOf x .refusal) (cardOf x .types) ≡ printedResult x
+card-of : (x : Result Checked) (entries : List ℕ) → Named x → ((c : Checked) → x ≡ passed c → length (c .types) ≡ length (writtenTypes (c .root)))
+    → cardText (cardOf x entries .refusal) (cardOf x entries .types) ≡ printedResult x
 unfolding cardText cardOf printedResult
-card-of (refused zero) named full = absurd (named refl)
-card-of (refused (suc n)) named full = refl
-card-of (passed c) named full =
+card-of (refused zero) entries named full = absurd (named refl)
+card-of (refused (suc n)) entries named full = refl
+card-of (passed c) entries named full =
     let ws = writtenTypes (c .root) in
     sym (λ i. line (ascii "accepted " ++ naturalText (count-of ws (c .types) (full c refl) i)) ++ lines-of 0 ws (c .types) i)
 
@@ -160,14 +160,14 @@ parts-checked s {a} {b} {first} {second} e k cut end =
     let three = last-part s first second cut end ∙ ap (λ (n : ℕ). drop n s) m in
     λ i. check (one i) (two i) (three i)
 
-pub card-printed : (s : List ℕ) {x : Card} → length s ≤ printerLimit → x ≡ cardOf (check (termsPart s) (schemaPart s) (scriptPart s))
+pub card-printed : (s : List ℕ) {x : Card} → length s ≤ printerLimit → x ≡ cardOf (check (termsPart s) (schemaPart s) (scriptPart s)) (x .entries)
     → cardText (x .refusal) (x .types) ≡ printed s
 unfolding printed
-card-printed s h e =
+card-printed s {x} h e =
     let terms = termsPart s in
     let schema = schemaPart s in
     let script = scriptPart s in
     let full : (c : Checked) → check terms schema script ≡ passed c → length (c .types) ≡ length (writtenTypes (c .root)) = λ c e.
     types-length terms schema script c (check-passed terms schema script c e) ∙ sym (variable-count (c .root)) in
     ap (λ (x : Card). cardText (x .refusal) (x .types)) e
-    ∙ (card-of (check terms schema script) (check-named terms schema script) full ∙ sym (rw (printed, le-leb (length s) printerLimit h)))
+    ∙ (card-of (check terms schema script) (x .entries) (check-named terms schema script) full ∙ sym (rw (printed, le-leb (length s) printerLimit h)))

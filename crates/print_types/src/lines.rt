@@ -1,5 +1,5 @@
 // The printer's lines, written one after the other.
-use definitions::VARIABLES;
+use definitions::VARIABLE_LIMIT;
 ghost use mathlib.Core.Path.{_≡_};
 ghost use mathlib.Core.List.{[], _∷_};
 ghost use Prim.Native.Nat.{_+_, _*_, _≤_, _<_};
@@ -20,7 +20,7 @@ const LINE_ROOM: usize = NUMBER_ROOM + 1 + TYPE_ROOM + 1;
 
 const FIRST_ROOM: usize = 9 + NUMBER_ROOM + 1;
 
-pub const OUTPUT_ROOM: usize = FIRST_ROOM + VARIABLES * LINE_ROOM;
+pub const OUTPUT_ROOM: usize = FIRST_ROOM + VARIABLE_LIMIT * LINE_ROOM;
 
 fn put_text(text: &[u8], out: &mut [u8], at: usize) -> usize
     requires { ⌜ at + length (now text) ≤ length (now out) ⌝ }

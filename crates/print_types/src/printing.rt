@@ -16,7 +16,7 @@ use definitions::BAD_SCRIPT;
 use definitions::PRINTER_LIMIT;
 use definitions::TERM_LIMIT;
 use definitions::TERM_TABLE_WIDTH;
-use definitions::VARIABLES;
+use definitions::VARIABLE_LIMIT;
 
 // One byte more than an input may have, so that one that is too long shows.
 pub const INPUT_WIDTH: usize = PRINTER_LIMIT + 1;
@@ -30,7 +30,7 @@ fn least(a: usize, b: usize) -> usize
 // The check of the input's three parts.
 fn check_parts(input: &[u8]) -> Card
     requires { ⌜ length (now input) ≤ printerLimit ⌝ }
-    ensures { λ r. ⌜ r ≡ cardOf (check (termsPart (now (input .entry))) (schemaPart (now (input .entry))) (scriptPart (now (input .entry)))) ⌝ }
+    ensures { λ r. ⌜ r ≡ cardOf (check (termsPart (now (input .entry))) (schemaPart (now (input .entry))) (scriptPart (now (input .entry)))) (r .entries) ⌝ }
 {
     let n = input.len();
     let first = terms_end(input);
@@ -55,7 +55,7 @@ pub fn print(input: &[u8], out: &mut [u8]) -> usize
     ensures { λ r. ⌜ r ≤ length (now (out .entry)) ⌝ }
 {
     if PRINTER_LIMIT < input.len() {
-        return put_card(BAD_SCRIPT, &[0; VARIABLES], out);
+        return put_card(BAD_SCRIPT, &[0; VARIABLE_LIMIT], out);
     }
     let card = check_parts(input);
     let types = card.types;

@@ -4,7 +4,7 @@ use native.Mathlib.Omega.{arith}
 use mathlib.Core.Path.{_≡_, refl, sym, _∙_, ap, subst}
 use mathlib.Core.Bool.{Bool, true, false, cond, not}
 use mathlib.Core.List.{List, [], _∷_}
-use mathlib.Core.Option.{Option, none, some}
+use mathlib.Core.Option.{none, some}
 use lib.Dec.{T, eqb, ltb, ltb→lt}
 use lib.ListN.{length, getD}
 use borrow.Author.Tests.{eq-eqb, ne-eqb, lt-ltb, le-ltb}
@@ -13,7 +13,7 @@ use Rattle.definitions.specs.Tree.{Name, var, const, Query}
 use Rattle.definitions.specs.Evaluate.{numberOf}
 use Rattle.definitions.specs.Saved.{isBound}
 use Rattle.laws.specs.Sound.{NameBounded}
-use Rattle.query.specs.Seek.{Place, fixed, sought, free, known as placed, placeOf, agrees, pick, nameKnown}
+use Rattle.query.specs.Seek.{fixed, sought, free, known as placed, placeOf, agrees, pick, nameKnown}
 use Rattle.query.specs.Codes.{soughtCode, freeCode, placeAt, numberAt, bindingsOf, codeOf, Coded}
 
 -- no test is both

@@ -30,8 +30,10 @@ use Rattle.query.specs.Seek.{fixed, scan}
 use Rattle.query.specs.Codes.{soughtCode, placeAt, placesAt, numberAt, bindingsOf, codeOf, Coded}
 use Rattle.query.specs.declared.Four.{Four}
 use borrow.Author.Tests.{ltb-true}
+use Rattle.query.specs.StoreLent.{settingIn}
+use Rattle.query.specs.declared.Context.{Context}
 use Rattle.query.specs.Eval.{Lent, ValueOf, TruthOf, HoldsOf, NumberGives}
-use Rattle.query.proofs.Outcomes.{ok-is, then-ok}
+use Rattle.laws.proofs.NoFault.{ok-is, then-ok}
 use Rattle.query.proofs.Patterns.{named-ok, pattern-ok}
 use Rattle.query.proofs.CodeLaws.{at-fixed, code-number}
 use Rattle.query.proofs.FixedScan.{scan-exact}
@@ -70,19 +72,19 @@ tells-two f h k b e =
 
 -- ── expressions ─────────────────────────────────────────────────────────────────────────────
 
-module _ (table known : List ℕ) (clock : ℕ) where
-  pub good-value : (count : ℕ) {v : Value} {o : Got Expr} {n : ℕ} → Lent table known count clock → Walked (ValueOf table known clock v) o n → Good v
-  good-value count l w = w .holds [] (l .terms) [] (l .tabled) .good
+module _ (table known : List ℕ) (x : Context) where
+  pub good-value : {v : Value} {o : Got Expr} {n : ℕ} → Lent table known x → Walked (ValueOf table known x v) o n → Good v
+  good-value l w = w .holds [] (l .terms) [] (l .tabled .reads) .good
 
   pub name-value : (n : Name) (code : ℕ) (v : Value) → (code ≡ codeOf known variableLimit n) × NameBounded soughtCode n → NumberGives table v code
-      → ValueOf table known clock v (Expr.name n)
+      → ValueOf table known x v (Expr.name n)
   unfolding expression
   name-value n code v c h S terms quads t = record {
     good = h terms t .0;
-    is = λ x e.
-        let (y, ey, ex) = then-ok e in
+    is = λ u e.
+        let (y, ey, eu) = then-ok e in
         let k = named-ok terms (bindingsOf known) n y ey in
-        h terms t .1 (y .term) (rw (number (y .number) (ap numberAt (c .0) ∙ (code-number known n (c .1) ∙ k .number))) (k .term)) ∙ ok-is ex;
+        h terms t .1 (y .term) (rw (number (y .number) (ap numberAt (c .0) ∙ (code-number known n (c .1) ∙ k .number))) (k .term)) ∙ ok-is eu;
   }
     where
       number : (i : ℕ) → numberAt code ≡ some i → code ≡ i
@@ -92,98 +94,98 @@ module _ (table known : List ℕ) (clock : ℕ) where
           go true e = some-is e
           go false e = cc
 
-  pub now-value : {r : Value} → Gives r (ok (Meant.dateTime (signed clock))) → ValueOf table known clock r Expr.now
-  unfolding expression
+  pub now-value : {r : Value} → Gives r (ok (Meant.dateTime (signed (x .clock)))) → ValueOf table known x r Expr.now
+  unfolding settingIn expression
   now-value g S terms quads t = g
 
-  module _ {a r : Value} (e : Expr) (h : ValueOf table known clock a e) where
-    pub str-value : Gives r (ok (Meant.string (textOf (meaning a)))) → ValueOf table known clock r (Expr.str e)
+  module _ {a r : Value} (e : Expr) (h : ValueOf table known x a e) where
+    pub str-value : Gives r (ok (Meant.string (textOf (meaning a)))) → ValueOf table known x r (Expr.str e)
     unfolding expression
     str-value g S terms quads t = gives-then (λ x. ok (Meant.string (textOf x))) (h S terms quads t) g
 
-    pub abs-value : Gives r (absolute (meaning a)) → ValueOf table known clock r (Expr.abs e)
+    pub abs-value : Gives r (absolute (meaning a)) → ValueOf table known x r (Expr.abs e)
     unfolding expression
     abs-value g S terms quads t = gives-then absolute (h S terms quads t) g
 
-    module _ {b : Value} (f : Expr) (k : ValueOf table known clock b f) where
-      pub plus-value : Gives r (sum (meaning a) (meaning b)) → ValueOf table known clock r (Expr.plus e f)
+    module _ {b : Value} (f : Expr) (k : ValueOf table known x b f) where
+      pub plus-value : Gives r (sum (meaning a) (meaning b)) → ValueOf table known x r (Expr.plus e f)
       unfolding expression
       plus-value g S terms quads t =
-          gives-then (λ x. expression S (signed clock) terms quads (bindingsOf known) f >>= λ y. sum x y) (h S terms quads t)
+          gives-then (λ u. expression (settingIn S x) terms quads (bindingsOf known) f >>= λ y. sum u y) (h S terms quads t)
           (gives-then (sum (meaning a)) (k S terms quads t) g)
 
-      pub minus-value : Gives r (difference (meaning a) (meaning b)) → ValueOf table known clock r (Expr.minus e f)
+      pub minus-value : Gives r (difference (meaning a) (meaning b)) → ValueOf table known x r (Expr.minus e f)
       unfolding expression
       minus-value g S terms quads t =
-          gives-then (λ x. expression S (signed clock) terms quads (bindingsOf known) f >>= λ y. difference x y) (h S terms quads t)
+          gives-then (λ u. expression (settingIn S x) terms quads (bindingsOf known) f >>= λ y. difference u y) (h S terms quads t)
           (gives-then (difference (meaning a)) (k S terms quads t) g)
 
   -- ── booleans ──────────────────────────────────────────────────────────────────────────────
 
-  pub no-truth : TruthOf table known clock false Cond.no
+  pub no-truth : TruthOf table known x false Cond.no
   unfolding condition
   no-truth S terms quads t b e = ok-is e
 
-  pub yes-truth : TruthOf table known clock true Cond.yes
+  pub yes-truth : TruthOf table known x true Cond.yes
   unfolding condition
   yes-truth S terms quads t b e = ok-is e
 
-  module _ {a : Bool} (c : Cond) (h : TruthOf table known clock a c) where
-    pub not-truth : TruthOf table known clock (Bools.not a) (Cond.not c)
+  module _ {a : Bool} (c : Cond) (h : TruthOf table known x a c) where
+    pub not-truth : TruthOf table known x (Bools.not a) (Cond.not c)
     unfolding condition
     not-truth S terms quads t = tells-one Bools.not (h S terms quads t)
 
-    module _ {b : Bool} (d : Cond) (k : TruthOf table known clock b d) where
-      pub or-truth : TruthOf table known clock (a || b) (Cond.or c d)
+    module _ {b : Bool} (d : Cond) (k : TruthOf table known x b d) where
+      pub or-truth : TruthOf table known x (a || b) (Cond.or c d)
       unfolding condition
       or-truth S terms quads t = tells-two _||_ (h S terms quads t) (k S terms quads t)
 
-      pub and-truth : TruthOf table known clock (a && b) (Cond.and c d)
+      pub and-truth : TruthOf table known x (a && b) (Cond.and c d)
       unfolding condition
       and-truth S terms quads t = tells-two _&&_ (h S terms quads t) (k S terms quads t)
 
-  module _ {a : Value} {r : Bool} (e : Expr) (h : ValueOf table known clock a e) where
-    pub regex-truth : (p : Pattern) → Tells r (textTest (λ s. accepts p (s .text)) (meaning a)) → TruthOf table known clock r (Cond.regex p e)
+  module _ {a : Value} {r : Bool} (e : Expr) (h : ValueOf table known x a e) where
+    pub regex-truth : (p : Pattern) → Tells r (textTest (λ s. accepts p (s .text)) (meaning a)) → TruthOf table known x r (Cond.regex p e)
     unfolding condition textTest
     regex-truth p g S terms quads t = gives-tells (textTest (λ s. accepts p (s .text))) (h S terms quads t) g
 
-    pub language-truth : (p : LanguageRange) → Tells r (textTest (λ s. matches p (s .tag)) (meaning a)) → TruthOf table known clock r (Cond.langMatches p e)
+    pub language-truth : (p : LanguageRange) → Tells r (textTest (λ s. matches p (s .tag)) (meaning a)) → TruthOf table known x r (Cond.langMatches p e)
     unfolding condition textTest
     language-truth p g S terms quads t = gives-tells (textTest (λ s. matches p (s .tag))) (h S terms quads t) g
 
-    module _ {b : Value} (f : Expr) (k : ValueOf table known clock b f) where
+    module _ {b : Value} (f : Expr) (k : ValueOf table known x b f) where
       compared-tells : (test : Pair → Bool) (S : Schema) (terms : List Term) (quads : List Quad) → termsIn table ≡ some terms
           → Tells r (compared test (meaning a) (meaning b))
-          → Tells r (expression S (signed clock) terms quads (bindingsOf known) e >>= λ x. expression S (signed clock) terms quads (bindingsOf known) f >>= λ y. compared test x y)
+          → Tells r (expression (settingIn S x) terms quads (bindingsOf known) e >>= λ u. expression (settingIn S x) terms quads (bindingsOf known) f >>= λ y. compared test u y)
       compared-tells test S terms quads t g =
-          gives-tells (λ x. expression S (signed clock) terms quads (bindingsOf known) f >>= λ y. compared test x y) (h S terms quads t)
+          gives-tells (λ u. expression (settingIn S x) terms quads (bindingsOf known) f >>= λ y. compared test u y) (h S terms quads t)
           (gives-tells (compared test (meaning a)) (k S terms quads t) g)
 
-      pub equal-truth : Tells r (compared equalPair (meaning a) (meaning b)) → TruthOf table known clock r (Cond.equal e f)
+      pub equal-truth : Tells r (compared equalPair (meaning a) (meaning b)) → TruthOf table known x r (Cond.equal e f)
       unfolding condition compared
       equal-truth g S terms quads t = compared-tells equalPair S terms quads t g
 
-      pub less-truth : Tells r (compared lessPair (meaning a) (meaning b)) → TruthOf table known clock r (Cond.less e f)
+      pub less-truth : Tells r (compared lessPair (meaning a) (meaning b)) → TruthOf table known x r (Cond.less e f)
       unfolding condition compared
       less-truth g S terms quads t = compared-tells lessPair S terms quads t g
 
   -- ── queries ───────────────────────────────────────────────────────────────────────────────
 
   module _ (rows : List Quad) where
-    pub filter-holds : {a : Bool} (c : Cond) → TruthOf table known clock a c → HoldsOf table known clock rows a (Query.filter c)
+    pub filter-holds : {a : Bool} (c : Cond) → TruthOf table known x a c → HoldsOf table known x rows a (Query.filter c)
     unfolding query
     filter-holds c h S terms t = h S terms rows t
 
-    pub empty-holds : HoldsOf table known clock rows true Query.empty
+    pub empty-holds : HoldsOf table known x rows true Query.empty
     unfolding query
     empty-holds S terms t b e = ok-is e
 
-    module _ {a b : Bool} (q r : Query) (h : HoldsOf table known clock rows a q) (k : HoldsOf table known clock rows b r) where
-      pub both-holds : HoldsOf table known clock rows (a && b) (Query.both q r)
+    module _ {a b : Bool} (q r : Query) (h : HoldsOf table known x rows a q) (k : HoldsOf table known x rows b r) where
+      pub both-holds : HoldsOf table known x rows (a && b) (Query.both q r)
       unfolding query
       both-holds S terms t = tells-two _&&_ (h S terms t) (k S terms t)
 
-      pub union-holds : HoldsOf table known clock rows (a || b) (Query.union q r)
+      pub union-holds : HoldsOf table known x rows (a || b) (Query.union q r)
       unfolding query
       union-holds S terms t = tells-two _||_ (h S terms t) (k S terms t)
 
@@ -199,13 +201,13 @@ module _ (table known : List ℕ) (clock : ℕ) where
             inner false m e = cc
 
     pub pattern-holds : (q : Query) (codes : Four) (least : ℕ) → Coded known variableLimit codes q → least ≡ scan (placesAt codes) 0 1 rows
-        → HoldsOf table known clock rows (eqb least 0) q
+        → HoldsOf table known x rows (eqb least 0) q
     pattern-holds (Query.both q r) codes least c = absurd c
     pattern-holds (Query.union q r) codes least c = absurd c
     pattern-holds (Query.filter c) codes least d = absurd d
     pattern-holds Query.empty codes least c = absurd c
     pattern-holds (Query.pattern g s p o) codes least c = λ l S terms t b e.
-        let k = pattern-ok S (signed clock) terms rows (bindingsOf known) g s p o b e in
+        let k = pattern-ok (settingIn S x) terms rows (bindingsOf known) g s p o b e in
         let q = k .quad in
         let bounded = c .1 in
         let g′ = fixed-place g (q .graph) (bounded .0) (k .graph) in
@@ -214,7 +216,7 @@ module _ (table known : List ℕ) (clock : ℕ) where
         let o′ = fixed-place o (q .object) (bounded .3) (k .object) in
         let same : placesAt codes ≡ record { graph = fixed (q .graph); subject = fixed (q .subject); property = fixed (q .property); object = fixed (q .object) } =
         ap placesAt (c .0) ∙ (λ i. record { graph = g′ i; subject = s′ i; property = p′ i; object = o′ i }) in
-        ap (λ x. eqb x 0) (l ∙ (ap (λ P. scan P 0 1 rows) same ∙ scan-exact q 0 1 (omega arith) rows)) ∙ (tested (stored q rows) ∙ k .isStored)
+        ap (λ n. eqb n 0) (l ∙ (ap (λ P. scan P 0 1 rows) same ∙ scan-exact q 0 1 (omega arith) rows)) ∙ (tested (stored q rows) ∙ k .isStored)
       where
         tested : (b : Bool) → eqb (cond b 0 1) 0 ≡ b
         tested true = refl

@@ -5,13 +5,12 @@ use mathlib.Core.List.{List}
 use mathlib.Core.Bool.{Bool}
 use mathlib.Core.Option.{Option, none, some}
 use lib.ListN.{getElem?}
-use lib.IntN.{ℤ}
 use Rattle.definitions.specs.Types.{plain}
-use Rattle.definitions.specs.Terms.{Term, Schema, hasType}
+use Rattle.definitions.specs.Terms.{Term, hasType}
 use Rattle.definitions.specs.Tree.{Name, Query}
 use Rattle.definitions.specs.Outcome.{ok, demand, graphNoURI, subjectNoURI, objectNotOfDatatype}
-use Rattle.definitions.specs.Evaluate.{Bindings, Quad, stored, Named, named, numberOf, termOfNumber, withTerm, isURI, query}
-use Rattle.query.proofs.Outcomes.{ok-is, no-fault, then-ok, and-ok}
+use Rattle.definitions.specs.Evaluate.{Setting, Bindings, Quad, stored, Named, named, numberOf, termOfNumber, withTerm, isURI, query}
+use Rattle.laws.proofs.NoFault.{ok-is, no-fault, then-ok, and-ok}
 
 -- what a name gives: its number, and that number's term
 pub record NamedOk (terms : List Term) (β : Bindings) (n : Name) (x : Named) : Type 0 where
@@ -42,8 +41,8 @@ pub record PatternOk (quads : List Quad) (β : Bindings) (g s p o : Name) (answe
   pub object : numberOf β o ≡ some (quad .object)
   pub isStored : stored quad quads ≡ answer
 
-module _ (S : Schema) (clock : ℤ) (terms : List Term) (quads : List Quad) (β : Bindings) (g s p o : Name) where
-  pub pattern-ok : (b : Bool) → query S clock terms quads β (Query.pattern g s p o) ≡ ok b → PatternOk quads β g s p o b
+module _ (σ : Setting) (terms : List Term) (quads : List Quad) (β : Bindings) (g s p o : Name) where
+  pub pattern-ok : (b : Bool) → query σ terms quads β (Query.pattern g s p o) ≡ ok b → PatternOk quads β g s p o b
   unfolding query
   pattern-ok b e =
       let (G, eG, e₁) = then-ok e in
@@ -57,5 +56,5 @@ module _ (S : Schema) (clock : ℤ) (terms : List Term) (quads : List Quad) (β 
         subject = named-ok terms β s X eX .number;
         property = named-ok terms β p P eP .number;
         object = named-ok terms β o O eO .number;
-        isStored = ok-is (and-ok (demand (hasType S (O .term) (plain d)) objectNotOfDatatype) e₅);
+        isStored = ok-is (and-ok (demand (hasType (σ .schema) (O .term) (plain d)) objectNotOfDatatype) e₅);
       }

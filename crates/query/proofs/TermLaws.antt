@@ -17,19 +17,21 @@ use Rattle.laws.proofs.SlotAt.{terms-few, slot-at}
 use Rattle.values.specs.Meaning.{Gives}
 use Rattle.values.specs.Means.{Holds}
 use Rattle.values.specs.declared.Value.{Value}
-use Rattle.query.specs.Eval.{Lent, NumberGives}
+use Rattle.query.specs.declared.Context.{Context}
+use Rattle.query.specs.StoreLent.{Tabled}
+use Rattle.query.specs.Eval.{NumberGives}
 
-module _ (table known : List ℕ) (count clock : ℕ) (l : Lent table known count clock) where
-  pub few : count ≤ termLimit
-  few = omega (arith, terms-few table (l .terms) (l .tabled), l .counted)
+module _ (table : List ℕ) (x : Context) (held : List Term) (l : Tabled table x held) where
+  pub few : x .count ≤ termLimit
+  few = omega (arith, terms-few table held (l .reads), l .counted)
 
   module _ (code : ℕ) where
     -- a number past the table has no term
-    pub past-value : {v : Value} {o : Outcome Meant} → count ≤ code → Gives v o → NumberGives table v code
+    pub past-value : {v : Value} {o : Outcome Meant} → x .count ≤ code → Gives v o → NumberGives table v code
     past-value h g terms t =
-        (g .good, λ x e. absurd (omega (arith, is-below terms code x e, ap length (same-some t (l .tabled)), l .counted)))
+        (g .good, λ u e. absurd (omega (arith, is-below terms code u e, ap length (same-some t (l .reads)), l .counted)))
 
-    module _ (h : code < count) where
+    module _ (h : code < x .count) where
       pub fits : code * slotWidth + slotWidth ≤ length table
       fits = omega (arith, few, l .size)
 
@@ -38,10 +40,10 @@ module _ (table known : List ℕ) (count clock : ℕ) (l : Lent table known coun
 
       pub slot-there : (t : Term) × (slotTerm slot ≡ some t)
       slot-there =
-          let t = there-is (l .terms) code (omega (arith, l .counted)) in
-          (t .0, slot-at table (l .terms) (l .tabled) code (t .0) (t .1))
+          let t = there-is held code (omega (arith, l .counted)) in
+          (t .0, slot-at table held (l .reads) code (t .0) (t .1))
 
       pub slot-value : {v : Value} → ((t : Term) → slotTerm slot ≡ some t → Holds v (valueOf t)) → NumberGives table v code
       slot-value g terms t =
           let s = slot-there in
-          (g (s .0) (s .1) .good, λ x e. g x (slot-at table terms t code x e) .is)
+          (g (s .0) (s .1) .good, λ u e. g u (slot-at table terms t code u e) .is)

@@ -6,13 +6,12 @@ use mathlib.Core.Bool.{Bool, true, false, cond, _&&_}
 use mathlib.Core.Option.{Option, none, some}
 use lib.Dec.{eqb, leb, ltb}
 use lib.ListN.{length}
-use lib.IntN.{ℤ}
 use Rattle.definitions.specs.Lists.{isIn}
 use Rattle.definitions.specs.Types.{Ty}
 use Rattle.definitions.specs.Terms.{Term, Schema}
 use Rattle.definitions.specs.Tree.{Name, var, const, Expr, Cond, Query}
 use Rattle.definitions.specs.Outcome.{Outcome, ok, fault}
-use Rattle.definitions.specs.Evaluate.{Bindings, Quad, condition, query}
+use Rattle.definitions.specs.Evaluate.{Setting, Bindings, Quad, condition, query}
 use Rattle.definitions.specs.Search.{Typing, Tuple}
 use Rattle.definitions.specs.Saved.{isBound}
 use Rattle.definitions.specs.Sound.{numberHas}
@@ -108,12 +107,12 @@ module _ (γ : Bindings) where
 
 -- ── the query: the least number from lo on that the variable v can have ─────────────────────
 
-module _ (S : Schema) (clock : ℤ) (terms : List Term) (quads : List Quad) (γ : Bindings) (v : ℕ) where
+module _ (σ : Setting) (terms : List Term) (quads : List Quad) (γ : Bindings) (v : ℕ) where
   unfoldable pub seek : Query → (lo : ℕ) → ℕ
   seek (Query.pattern g s p o) lo = scan (placesOf γ v g s p o) lo (length terms) quads
   seek (Query.both q r) lo = seek r (seek q lo)
   seek (Query.union q r) lo = min (seek q lo) (seek r lo)
-  seek (Query.filter c) lo = cond (condKnown γ c) (cond (passes (condition S clock terms quads γ c)) lo (length terms)) lo
+  seek (Query.filter c) lo = cond (condKnown γ c) (cond (passes (condition σ terms quads γ c)) lo (length terms)) lo
   seek Query.empty lo = lo
 
 -- ── terms of the variable's type ────────────────────────────────────────────────────────────
@@ -163,12 +162,12 @@ abbrev pub ahead : (last : Option Tuple) → List ℕ → List ℕ
 ahead none vs = but vs
 ahead (some l) vs = []
 
-module _ (S : Schema) (Γ : Typing) (clock : ℤ) (terms : List Term) (quads : List Quad) (q : Query) where
+module _ (σ : Setting) (Γ : Typing) (terms : List Term) (quads : List Quad) (q : Query) where
   abbrev pub least : Bindings → (v lo : ℕ) → ℕ
-  least γ v lo = seek S clock terms quads γ v q lo
+  least γ v lo = seek σ terms quads γ v q lo
 
   unfoldable pub next : Bindings → (v lo : ℕ) → ℕ
-  next γ v lo = skip S (Γ v) terms (length terms - least γ v lo) (least γ v lo)
+  next γ v lo = skip (σ .schema) (Γ v) terms (length terms - least γ v lo) (least γ v lo)
 
   -- a variable still has a number: two passes
   abbrev pub hopeAt : Bindings → (w : ℕ) → Bool
@@ -180,7 +179,7 @@ module _ (S : Schema) (Γ : Typing) (clock : ℤ) (terms : List Term) (quads : L
 
   -- the first answer after a tuple: vs are the variables still to choose
   unfoldable pub find : (variables : List ℕ) → Bindings → (last : Option Tuple) → Option Tuple
-  find [] γ none = cond (passes (query S clock terms quads γ q)) (some []) none
+  find [] γ none = cond (passes (query σ terms quads γ q)) (some []) none
   find [] γ (some l) = none
   find (v ∷ vs) γ last =
       tries (λ i. cond (hopeful (set v i γ) (ahead (restOf last i) vs)) (find vs (set v i γ) (restOf last i)) none) (next γ v) (length terms) (length terms) (startAt last)

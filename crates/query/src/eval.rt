@@ -1,25 +1,24 @@
 // The evaluator of one tuple: values of expressions, truth of booleans and queries, by recursion over the script's bytes.
-ghost use mathlib.Core.Path.{_≡_};
 ghost use lib.Dec.{T};
-ghost use lib.ListN.{length};
-ghost use Prim.Native.Nat.{_*_, _≤_};
+ghost use mathlib.Core.List.{List};
 ghost use Rattle.definitions.specs.Bytes.{signed};
-ghost use Rattle.definitions.specs.Terms.{isDateTime};
+ghost use Rattle.definitions.specs.Terms.{Term, isDateTime};
 ghost use Rattle.definitions.specs.Outcome.{ok};
 ghost use Rattle.definitions.specs.Values.{Value as Meant};
 ghost use Rattle.values.specs.Meaning.{Gives};
 ghost use Rattle.definitions.specs.Reading.{readExpr, readCond, readQuery};
 ghost use Rattle.laws.specs.Walks.{Loads};
 ghost use Rattle.laws.specs.Walks.{Walked};
-ghost use Rattle.laws.specs.Quads.{rowsFrom};
+ghost use Rattle.query.specs.StoreLent.{Told, Tabled, Stored, rowsOf};
 ghost use Rattle.query.specs.Eval.{Lent, NumberGives, ValueOf, TruthOf, HoldsOf};
+use crate::Context;
 use crate::Test;
 use crate::Valued;
 use crate::names::name_at;
 use crate::names::names_at;
 use crate::scan::scan;
 use definitions::SLOT_WIDTH;
-use definitions::VARIABLES;
+use definitions::VARIABLE_LIMIT;
 use fields::numbers;
 use values::Value;
 use values::slot;
@@ -34,12 +33,13 @@ fn clock_value(clock: u64) -> Value
 }
 
 // The value of a term, by its code; a code that is no term's gives the value of now.
-fn term_value(table: &[u8], count: usize, known: &[usize], clock: u64, code: usize) -> Value
-    requires { ⌜ Lent (now table) (now known) count clock ⌝ }
+fn term_value(table: &[u8], context: Context, code: usize) -> Value
+    requires { ⌜ ((terms : List Term) × Tabled (now table) context terms) ⌝ }
+    requires { ⌜ Told context ⌝ }
     ensures { λ r. ⌜ NumberGives (now (table .entry)) r code ⌝ }
 {
-    if count <= code {
-        return clock_value(clock);
+    if context.count <= code {
+        return clock_value(context.clock);
     }
     let from = code * SLOT_WIDTH;
     slot::value_at(table, from)
@@ -48,24 +48,22 @@ fn term_value(table: &[u8], count: usize, known: &[usize], clock: u64, code: usi
 // The value of the expression at an offset. Ruled out: the second summand left out; now as a number that is not the clock's.
 pub fn eval_expr(
     script: &[u8],
-    terms: usize,
+    context: Context,
     at: usize,
     left: u8,
     table: &[u8],
-    count: usize,
     known: &[usize],
-    clock: u64,
 ) -> Valued
-    requires { ⌜ Loads (readExpr (now script) terms left at) ⌝ }
-    requires { ⌜ Lent (now table) (now known) count clock ⌝ }
-    ensures { λ r. ⌜ Walked (ValueOf (now (table .entry)) (now (known .entry)) clock (r .value)) (readExpr (now (script .entry)) terms left at) (r .next) ⌝ }
+    requires { ⌜ Loads (readExpr (now script) (context .loaded) left at) ⌝ }
+    requires { ⌜ Lent (now table) (now known) context ⌝ }
+    ensures { λ r. ⌜ Walked (ValueOf (now (table .entry)) (now (known .entry)) context (r .value)) (readExpr (now (script .entry)) (context .loaded) left at) (r .next) ⌝ }
 {
     let kind = script[at];
     let first = at + 1;
     let below = left - 1;
     if kind < 0x41 {
-        let n = name_at(script, terms, at, left, known, VARIABLES);
-        let value = term_value(table, count, known, clock, n.code);
+        let n = name_at(script, context.loaded, at, left, known, VARIABLE_LIMIT);
+        let value = term_value(table, context, n.code);
         return Valued {
             next: n.next,
             value,
@@ -73,11 +71,11 @@ pub fn eval_expr(
     }
     match kind {
         0x41 => {
-            let value = clock_value(clock);
+            let value = clock_value(context.clock);
             Valued { next: first, value }
         }
         0x42 => {
-            let a = eval_expr(script, terms, first, below, table, count, known, clock);
+            let a = eval_expr(script, context, first, below, table, known);
             let value = values::text::text_of(a.value);
             Valued {
                 next: a.next,
@@ -85,7 +83,7 @@ pub fn eval_expr(
             }
         }
         0x43 => {
-            let a = eval_expr(script, terms, first, below, table, count, known, clock);
+            let a = eval_expr(script, context, first, below, table, known);
             let value = values::arithmetic::abs(a.value);
             Valued {
                 next: a.next,
@@ -93,8 +91,8 @@ pub fn eval_expr(
             }
         }
         0x44 => {
-            let a = eval_expr(script, terms, first, below, table, count, known, clock);
-            let b = eval_expr(script, terms, a.next, below, table, count, known, clock);
+            let a = eval_expr(script, context, first, below, table, known);
+            let b = eval_expr(script, context, a.next, below, table, known);
             let value = values::arithmetic::plus(a.value, b.value);
             Valued {
                 next: b.next,
@@ -102,8 +100,8 @@ pub fn eval_expr(
             }
         }
         _ => {
-            let a = eval_expr(script, terms, first, below, table, count, known, clock);
-            let b = eval_expr(script, terms, a.next, below, table, count, known, clock);
+            let a = eval_expr(script, context, first, below, table, known);
+            let b = eval_expr(script, context, a.next, below, table, known);
             let value = values::arithmetic::minus(a.value, b.value);
             Valued {
                 next: b.next,
@@ -116,17 +114,15 @@ pub fn eval_expr(
 // Whether the boolean at an offset holds. Ruled out: or where and stands; the pattern one byte off.
 pub fn eval_cond(
     script: &[u8],
-    terms: usize,
+    context: Context,
     at: usize,
     left: u8,
     table: &[u8],
-    count: usize,
     known: &[usize],
-    clock: u64,
 ) -> Test
-    requires { ⌜ Loads (readCond (now script) terms left at) ⌝ }
-    requires { ⌜ Lent (now table) (now known) count clock ⌝ }
-    ensures { λ r. ⌜ Walked (TruthOf (now (table .entry)) (now (known .entry)) clock (r .holds)) (readCond (now (script .entry)) terms left at) (r .next) ⌝ }
+    requires { ⌜ Loads (readCond (now script) (context .loaded) left at) ⌝ }
+    requires { ⌜ Lent (now table) (now known) context ⌝ }
+    ensures { λ r. ⌜ Walked (TruthOf (now (table .entry)) (now (known .entry)) context (r .holds)) (readCond (now (script .entry)) (context .loaded) left at) (r .next) ⌝ }
 {
     let kind = script[at];
     let first = at + 1;
@@ -141,23 +137,23 @@ pub fn eval_cond(
             holds: true,
         },
         0x52 => {
-            let a = eval_cond(script, terms, first, below, table, count, known, clock);
-            let b = eval_cond(script, terms, a.next, below, table, count, known, clock);
+            let a = eval_cond(script, context, first, below, table, known);
+            let b = eval_cond(script, context, a.next, below, table, known);
             Test {
                 next: b.next,
                 holds: a.holds | b.holds,
             }
         }
         0x53 => {
-            let a = eval_cond(script, terms, first, below, table, count, known, clock);
-            let b = eval_cond(script, terms, a.next, below, table, count, known, clock);
+            let a = eval_cond(script, context, first, below, table, known);
+            let b = eval_cond(script, context, a.next, below, table, known);
             Test {
                 next: b.next,
                 holds: a.holds & b.holds,
             }
         }
         0x54 => {
-            let a = eval_cond(script, terms, first, below, table, count, known, clock);
+            let a = eval_cond(script, context, first, below, table, known);
             Test {
                 next: a.next,
                 holds: !a.holds,
@@ -165,7 +161,7 @@ pub fn eval_cond(
         }
         0x55 => {
             let text = at + 17;
-            let a = eval_expr(script, terms, text, below, table, count, known, clock);
+            let a = eval_expr(script, context, text, below, table, known);
             let holds = values::tests::regex(a.value, script, first);
             Test {
                 next: a.next,
@@ -174,7 +170,7 @@ pub fn eval_cond(
         }
         0x56 => {
             let text = at + 9;
-            let a = eval_expr(script, terms, text, below, table, count, known, clock);
+            let a = eval_expr(script, context, text, below, table, known);
             let holds = values::tests::lang_matches(a.value, script, first);
             Test {
                 next: a.next,
@@ -182,8 +178,8 @@ pub fn eval_cond(
             }
         }
         0x57 => {
-            let a = eval_expr(script, terms, first, below, table, count, known, clock);
-            let b = eval_expr(script, terms, a.next, below, table, count, known, clock);
+            let a = eval_expr(script, context, first, below, table, known);
+            let b = eval_expr(script, context, a.next, below, table, known);
             let holds = values::comparison::equal(a.value, b.value);
             Test {
                 next: b.next,
@@ -191,8 +187,8 @@ pub fn eval_cond(
             }
         }
         _ => {
-            let a = eval_expr(script, terms, first, below, table, count, known, clock);
-            let b = eval_expr(script, terms, a.next, below, table, count, known, clock);
+            let a = eval_expr(script, context, first, below, table, known);
+            let b = eval_expr(script, context, a.next, below, table, known);
             let holds = values::comparison::less(a.value, b.value);
             Test {
                 next: b.next,
@@ -205,94 +201,48 @@ pub fn eval_cond(
 // Whether the query at an offset holds, where all its variables are known. Ruled out: the last quad left out; a union of its first part only.
 pub fn eval_query(
     script: &[u8],
-    terms: usize,
+    context: Context,
     at: usize,
     left: u8,
     table: &[u8],
-    count: usize,
     known: &[usize],
-    clock: u64,
     quads: &[u16],
-    n: usize,
 ) -> Test
-    requires { ⌜ Loads (readQuery (now script) terms left at) ⌝ }
-    requires { ⌜ Lent (now table) (now known) count clock ⌝ }
-    requires { ⌜ 4 * n ≤ length (now quads) ⌝ }
-    ensures { λ r. ⌜ Walked (HoldsOf (now (table .entry)) (now (known .entry)) clock (rowsFrom n (now (quads .entry)) 0) (r .holds)) (readQuery (now (script .entry)) terms left at) (r .next) ⌝ }
+    requires { ⌜ Loads (readQuery (now script) (context .loaded) left at) ⌝ }
+    requires { ⌜ Lent (now table) (now known) context ⌝ }
+    requires { ⌜ Stored (now quads) context ⌝ }
+    ensures { λ r. ⌜ Walked (HoldsOf (now (table .entry)) (now (known .entry)) context (rowsOf (now (quads .entry)) context) (r .holds))
+        (readQuery (now (script .entry)) (context .loaded) left at) (r .next) ⌝ }
 {
     let kind = script[at];
     let first = at + 1;
     let below = left - 1;
     match kind {
         0x61 => {
-            let names = names_at(script, terms, first, below, known, VARIABLES);
-            let least = scan(quads, n, names.codes, 0, 1);
+            let names = names_at(script, context.loaded, first, below, known, VARIABLE_LIMIT);
+            let least = scan(quads, context.quads, names.codes, 0, 1);
             Test {
                 next: names.next,
                 holds: least == 0,
             }
         }
         0x62 => {
-            let a = eval_query(
-                script,
-                terms,
-                first,
-                below,
-                table,
-                count,
-                known,
-                clock,
-                quads,
-                n,
-            );
-            let b = eval_query(
-                script,
-                terms,
-                a.next,
-                below,
-                table,
-                count,
-                known,
-                clock,
-                quads,
-                n,
-            );
+            let a = eval_query(script, context, first, below, table, known, quads);
+            let b = eval_query(script, context, a.next, below, table, known, quads);
             Test {
                 next: b.next,
                 holds: a.holds & b.holds,
             }
         }
         0x63 => {
-            let a = eval_query(
-                script,
-                terms,
-                first,
-                below,
-                table,
-                count,
-                known,
-                clock,
-                quads,
-                n,
-            );
-            let b = eval_query(
-                script,
-                terms,
-                a.next,
-                below,
-                table,
-                count,
-                known,
-                clock,
-                quads,
-                n,
-            );
+            let a = eval_query(script, context, first, below, table, known, quads);
+            let b = eval_query(script, context, a.next, below, table, known, quads);
             Test {
                 next: b.next,
                 holds: a.holds | b.holds,
             }
         }
-        0x64 => eval_cond(script, terms, first, below, table, count, known, clock),
+        0x64 => eval_cond(script, context, first, below, table, known),
         _ => Test {
             next: first,
             holds: true,

@@ -10,6 +10,14 @@ pub const SOUGHT: usize = 65536;
 
 pub const FREE: usize = 65537;
 
+// What a search is told: how many terms loading numbers, how many are in use, how many quads are stored, and now in two's complement.
+pub struct Context {
+    pub loaded: usize,
+    pub count: usize,
+    pub quads: usize,
+    pub clock: u64,
+}
+
 // Four numbers: a quad's, or the codes of a pattern's places.
 pub struct Four {
     pub graph: usize,

@@ -16,14 +16,8 @@ use crate::NameRead;
 use crate::NamesRead;
 use crate::SOUGHT;
 use crate::Test;
-use definitions::VARIABLES;
+use definitions::VARIABLE_LIMIT;
 use fields::numbers;
-
-fn wide(x: u8) -> usize
-    ensures { λ r. ⌜ r ≡ x ⌝ }
-{
-    x as usize
-}
 
 // What is known of a variable, as the code of its place; where v is the variable sought.
 fn variable_code(known: &[usize], v: usize, w: usize) -> usize
@@ -43,20 +37,20 @@ fn variable_code(known: &[usize], v: usize, w: usize) -> usize
 // The name at an offset. Ruled out: a constant's high byte left out; the variable sought taken for a known one.
 pub fn name_at(
     script: &[u8],
-    terms: usize,
+    loaded: usize,
     at: usize,
     left: u8,
     known: &[usize],
     v: usize,
 ) -> NameRead
-    requires { ⌜ Loads (readName (now script) terms left at) ⌝ }
+    requires { ⌜ Loads (readName (now script) loaded left at) ⌝ }
     requires { ⌜ length (now known) ≡ variableLimit ⌝ }
-    ensures { λ r. ⌜ Walked (λ n. (r .code ≡ codeOf (now (known .entry)) v n) × NameBounded 65536 n) (readName (now (script .entry)) terms left at) (r .next) ⌝ }
+    ensures { λ r. ⌜ Walked (λ n. (r .code ≡ codeOf (now (known .entry)) v n) × NameBounded 65536 n) (readName (now (script .entry)) loaded left at) (r .next) ⌝ }
 {
     let kind = script[at];
     let first = at + 1;
     if kind == 0x31 {
-        let w = wide(script[first]);
+        let w = numbers::index(script[first]);
         let code = variable_code(known, v, w);
         let next = at + 2;
         return NameRead { next, code };
@@ -69,20 +63,20 @@ pub fn name_at(
 // A pattern's four names. Ruled out: subject and object exchanged; the same name read twice.
 pub fn names_at(
     script: &[u8],
-    terms: usize,
+    loaded: usize,
     at: usize,
     left: u8,
     known: &[usize],
     v: usize,
 ) -> NamesRead
-    requires { ⌜ Loads (fourOf Query.pattern (readName (now script) terms left) at) ⌝ }
+    requires { ⌜ Loads (fourOf Query.pattern (readName (now script) loaded left) at) ⌝ }
     requires { ⌜ length (now known) ≡ variableLimit ⌝ }
-    ensures { λ r. ⌜ Walked (Coded (now (known .entry)) v (r .codes)) (fourOf Query.pattern (readName (now (script .entry)) terms left) at) (r .next) ⌝ }
+    ensures { λ r. ⌜ Walked (Coded (now (known .entry)) v (r .codes)) (fourOf Query.pattern (readName (now (script .entry)) loaded left) at) (r .next) ⌝ }
 {
-    let g = name_at(script, terms, at, left, known, v);
-    let s = name_at(script, terms, g.next, left, known, v);
-    let p = name_at(script, terms, s.next, left, known, v);
-    let o = name_at(script, terms, p.next, left, known, v);
+    let g = name_at(script, loaded, at, left, known, v);
+    let s = name_at(script, loaded, g.next, left, known, v);
+    let p = name_at(script, loaded, s.next, left, known, v);
+    let o = name_at(script, loaded, p.next, left, known, v);
     let codes = Four {
         graph: g.code,
         subject: s.code,
@@ -96,16 +90,16 @@ pub fn names_at(
 }
 
 // Whether all variables of an expression are known. Ruled out: the second part left out; a free variable taken for a known one.
-pub fn known_expr(script: &[u8], terms: usize, at: usize, left: u8, known: &[usize]) -> Test
-    requires { ⌜ Loads (readExpr (now script) terms left at) ⌝ }
+pub fn known_expr(script: &[u8], loaded: usize, at: usize, left: u8, known: &[usize]) -> Test
+    requires { ⌜ Loads (readExpr (now script) loaded left at) ⌝ }
     requires { ⌜ length (now known) ≡ variableLimit ⌝ }
-    ensures { λ r. ⌜ Walked (λ e. r .holds ≡ exprKnown (bindingsOf (now (known .entry))) e) (readExpr (now (script .entry)) terms left at) (r .next) ⌝ }
+    ensures { λ r. ⌜ Walked (λ e. r .holds ≡ exprKnown (bindingsOf (now (known .entry))) e) (readExpr (now (script .entry)) loaded left at) (r .next) ⌝ }
 {
     let kind = script[at];
     let first = at + 1;
     let below = left - 1;
     if kind < 0x41 {
-        let n = name_at(script, terms, at, left, known, VARIABLES);
+        let n = name_at(script, loaded, at, left, known, VARIABLE_LIMIT);
         return Test {
             next: n.next,
             holds: n.code < SOUGHT,
@@ -116,19 +110,19 @@ pub fn known_expr(script: &[u8], terms: usize, at: usize, left: u8, known: &[usi
             next: first,
             holds: true,
         },
-        0x42 => known_expr(script, terms, first, below, known),
-        0x43 => known_expr(script, terms, first, below, known),
+        0x42 => known_expr(script, loaded, first, below, known),
+        0x43 => known_expr(script, loaded, first, below, known),
         0x44 => {
-            let a = known_expr(script, terms, first, below, known);
-            let b = known_expr(script, terms, a.next, below, known);
+            let a = known_expr(script, loaded, first, below, known);
+            let b = known_expr(script, loaded, a.next, below, known);
             Test {
                 next: b.next,
                 holds: a.holds & b.holds,
             }
         }
         _ => {
-            let a = known_expr(script, terms, first, below, known);
-            let b = known_expr(script, terms, a.next, below, known);
+            let a = known_expr(script, loaded, first, below, known);
+            let b = known_expr(script, loaded, a.next, below, known);
             Test {
                 next: b.next,
                 holds: a.holds & b.holds,
@@ -138,10 +132,10 @@ pub fn known_expr(script: &[u8], terms: usize, at: usize, left: u8, known: &[usi
 }
 
 // Whether all variables of a boolean are known. Ruled out: the second part left out; not counted as known whatever it negates.
-pub fn known_cond(script: &[u8], terms: usize, at: usize, left: u8, known: &[usize]) -> Test
-    requires { ⌜ Loads (readCond (now script) terms left at) ⌝ }
+pub fn known_cond(script: &[u8], loaded: usize, at: usize, left: u8, known: &[usize]) -> Test
+    requires { ⌜ Loads (readCond (now script) loaded left at) ⌝ }
     requires { ⌜ length (now known) ≡ variableLimit ⌝ }
-    ensures { λ r. ⌜ Walked (λ c. r .holds ≡ condKnown (bindingsOf (now (known .entry))) c) (readCond (now (script .entry)) terms left at) (r .next) ⌝ }
+    ensures { λ r. ⌜ Walked (λ c. r .holds ≡ condKnown (bindingsOf (now (known .entry))) c) (readCond (now (script .entry)) loaded left at) (r .next) ⌝ }
 {
     let kind = script[at];
     let first = at + 1;
@@ -156,41 +150,41 @@ pub fn known_cond(script: &[u8], terms: usize, at: usize, left: u8, known: &[usi
             holds: true,
         },
         0x52 => {
-            let a = known_cond(script, terms, first, below, known);
-            let b = known_cond(script, terms, a.next, below, known);
+            let a = known_cond(script, loaded, first, below, known);
+            let b = known_cond(script, loaded, a.next, below, known);
             Test {
                 next: b.next,
                 holds: a.holds & b.holds,
             }
         }
         0x53 => {
-            let a = known_cond(script, terms, first, below, known);
-            let b = known_cond(script, terms, a.next, below, known);
+            let a = known_cond(script, loaded, first, below, known);
+            let b = known_cond(script, loaded, a.next, below, known);
             Test {
                 next: b.next,
                 holds: a.holds & b.holds,
             }
         }
-        0x54 => known_cond(script, terms, first, below, known),
+        0x54 => known_cond(script, loaded, first, below, known),
         0x55 => {
             let text = at + 17;
-            known_expr(script, terms, text, below, known)
+            known_expr(script, loaded, text, below, known)
         }
         0x56 => {
             let text = at + 9;
-            known_expr(script, terms, text, below, known)
+            known_expr(script, loaded, text, below, known)
         }
         0x57 => {
-            let a = known_expr(script, terms, first, below, known);
-            let b = known_expr(script, terms, a.next, below, known);
+            let a = known_expr(script, loaded, first, below, known);
+            let b = known_expr(script, loaded, a.next, below, known);
             Test {
                 next: b.next,
                 holds: a.holds & b.holds,
             }
         }
         _ => {
-            let a = known_expr(script, terms, first, below, known);
-            let b = known_expr(script, terms, a.next, below, known);
+            let a = known_expr(script, loaded, first, below, known);
+            let b = known_expr(script, loaded, a.next, below, known);
             Test {
                 next: b.next,
                 holds: a.holds & b.holds,

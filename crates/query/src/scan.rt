@@ -8,12 +8,7 @@ ghost use Rattle.query.specs.Codes.{placeAt, placesAt, quadOf, FixedAt, 
 ghost use Rattle.laws.specs.Quads.{rowAt, rowsFrom};
 use crate::Four;
 use crate::SOUGHT;
-
-fn wide(x: u16) -> usize
-    ensures { λ r. ⌜ r ≡ x ⌝ }
-{
-    x as usize
-}
+use fields::numbers::number_index;
 
 // Whether a quad's number x stands at a place, where the variable sought is c.
 fn stands(code: usize, c: usize, x: usize) -> bool
@@ -50,7 +45,8 @@ fn candidate(codes: Four, row: Four, lo: usize) -> usize
 
 // Whether a quad stands at the four places, where the variable sought is c.
 fn row_stands(codes: Four, row: Four, c: usize) -> bool
-    ensures { λ r. ⌜ r ≡ agrees (placeAt (codes .graph)) c (row .graph) && (agrees (placeAt (codes .subject)) c (row .subject) && (agrees (placeAt (codes .property)) c (row .property) && agrees (placeAt (codes .object)) c (row .object))) ⌝ }
+    ensures { λ r. ⌜ r ≡ agrees (placeAt (codes .graph)) c (row .graph)
+        && (agrees (placeAt (codes .subject)) c (row .subject) && (agrees (placeAt (codes .property)) c (row .property) && agrees (placeAt (codes .object)) c (row .object))) ⌝ }
 {
     let g = stands(codes.graph, c, row.graph);
     let s = stands(codes.subject, c, row.subject);
@@ -77,19 +73,19 @@ fn better(quads: &[u16], at: usize, codes: Four, lo: usize, best: usize) -> usiz
     requires { ⌜ at + 4 ≤ length (now quads) ⌝ }
     ensures { λ r. ⌜ r ≡ isBetter (placesAt codes) lo best (rowAt (now (quads .entry)) at) ⌝ }
 {
-    let subject = wide(quads[at + 1]);
+    let subject = number_index(quads[at + 1]);
     if misses(codes.subject, subject) {
         return best;
     }
-    let object = wide(quads[at + 3]);
+    let object = number_index(quads[at + 3]);
     if misses(codes.object, object) {
         return best;
     }
-    let property = wide(quads[at + 2]);
+    let property = number_index(quads[at + 2]);
     if misses(codes.property, property) {
         return best;
     }
-    let graph = wide(quads[at]);
+    let graph = number_index(quads[at]);
     if misses(codes.graph, graph) {
         return best;
     }
@@ -134,7 +130,7 @@ fn reaches(quads: &[u16], at: usize, given: usize, lo: usize, best: usize) -> bo
     ensures { λ r. ⌜ (r ≡ false → (given < 4) × (lo ≤ getD (now (quads .entry)) (at + given) 0 → getD (now (quads .entry)) (at + given) 0 < best → ⊥)) ⌝ }
 {
     if given < 4 {
-        let x = wide(quads[at + given]);
+        let x = number_index(quads[at + given]);
         if x < lo {
             return false;
         }

@@ -15,7 +15,8 @@ use Rattle.definitions.specs.Lists.{every, some?, isEmpty}
 use Rattle.definitions.specs.Bytes.{byte, part, allZero, unfilled, provided, onward, sameBytes}
 use Rattle.definitions.specs.Ascii.{ascii}
 use Rattle.definitions.specs.Terms.{Text, textByte, tagByte, smallLetter, hyphen}
-use Rattle.definitions.specs.Text.{Atom, Piece, one, many, withPiece, withStart, star, caret, dollar, dot, noLiteral, atomOf, piecesOf, patternOfText, patternOf, everything, beginning, withoutStar, rangeOfText, languageRangeOf}
+use Rattle.definitions.specs.Text.{Atom, Piece, one, many, withPiece, withStart, star, caret, dollar, dot, noLiteral, atomOf, piecesOf, patternOfText, patternOf, everything}
+use Rattle.definitions.specs.Text.{beginning, withoutStar, rangeOfText, languageRangeOf}
 use Rattle.laws.proofs.Bytes.{part-length}
 use Rattle.laws.proofs.Fields.{by-same, filledBy, filled-byte, unfilled-byte, no-text, field-text}
 use Rattle.laws.specs.ReadAnswers.{isSome}
@@ -53,7 +54,8 @@ swap true false false d = refl
 swap false b c d = refl
 
 pub no-literal : (b : ℕ) {r : Bool}
-    → r ≡ ((((((((eqb b 0x5C || eqb b 0x7C) || eqb b 0x3F) || eqb b 0x2B) || eqb b 0x28) || eqb b 0x29)) || (((eqb b 0x5B || eqb b 0x5D) || eqb b 0x7B) || eqb b 0x7D)) || ((eqb b 0x2A || eqb b 0x5E) || eqb b 0x24))
+    → r ≡ ((((((((eqb b 0x5C || eqb b 0x7C) || eqb b 0x3F) || eqb b 0x2B) || eqb b 0x28) || eqb b 0x29)) || (((eqb b 0x5B || eqb b 0x5D) || eqb b 0x7B) || eqb b 0x7D))
+    || ((eqb b 0x2A || eqb b 0x5E) || eqb b 0x24))
     → r ≡ noLiteral b
 unfolding noLiteral ascii
 no-literal b e = e ∙ simp (or-assoc, or-false)

@@ -1,6 +1,6 @@
 // The pairs of a block: variables and their written types.
 use definitions::PAIR_LIMIT;
-use definitions::VARIABLES;
+use definitions::VARIABLE_LIMIT;
 ghost use mathlib.Core.Path.{_≡_};
 ghost use Prim.Native.Nat.{_+_, _*_, _≤_};
 ghost use lib.ListN.{length};
@@ -25,7 +25,7 @@ fn pair_ok(used: bool, variable: u8, written: u8) -> bool
     ensures { λ r. ⌜ r ≡ pairOk used variable written ⌝ }
 {
     if used {
-        return ((variable as usize) < VARIABLES) & written_ok(written);
+        return ((variable as usize) < VARIABLE_LIMIT) & written_ok(written);
     }
     (variable == 0) & (written == 0)
 }

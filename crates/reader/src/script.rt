@@ -10,7 +10,7 @@ use definitions::PAIRS_OFFSET;
 use definitions::QUERY_OFFSET;
 use definitions::REGEX_TEXT_OFFSET;
 use definitions::Read;
-use definitions::VARIABLES;
+use definitions::VARIABLE_LIMIT;
 use fields::numbers::word_at;
 ghost use mathlib.Core.Path.{_≡_};
 ghost use Prim.Native.Nat.{_+_, _<_};
@@ -34,7 +34,7 @@ pub fn read_name(script: &[u8], terms: usize, at: usize, left: u8) -> Read
             if room < 2 {
                 return Read::Malformed;
             }
-            if (script[at + 1] as usize) < VARIABLES {
+            if (script[at + 1] as usize) < VARIABLE_LIMIT {
                 let next = at + 2;
                 Read::Next(next)
             } else {

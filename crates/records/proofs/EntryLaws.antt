@@ -187,6 +187,7 @@ module _ (s hashes : List ℕ) (g : isSome (readSchema s) ≡ true) (w : HashedE
       no-hash s hashes field g w hash P (λ b l. again-end readEntry entry-forward s sameProperty b (readEntry s at) l)
       (λ b x l c p.
       let y = good-one readEntry entry-forward s b x l in
-      again-rest readEntry entry-forward s b x l (entry-ends s b y) sameProperty (readEntry s at) (sym (same-properties s at b good y (flipped (part s (b + 1) (b + 1 + textWidth - (b + 1))) field c))) ∙ p)
+      again-rest readEntry entry-forward s b x l (entry-ends s b y) sameProperty (readEntry s at)
+      (sym (same-properties s at b good y (flipped (part s (b + 1) (b + 1 + textWidth - (b + 1))) field c))) ∙ p)
       (length s / entryWidth - (i + 1)) (i + 1) (omega arith) (next-good s i f h) (sym e ∙ q) in
       distinct-next {r = false} (sym (rw (next-is s i f h) at later)) refl

@@ -1,88 +1,86 @@
 -- Laws of terms that join a term table.
-use Prim.Native.Nat.{ℕ, zero, suc, _+_, _-_, _*_, _<_, _≤_}
+use Prim.Native.Nat.{ℕ, suc, _+_, _-_, _*_, _<_, _≤_}
 use mathlib.Core.Bool.{Bool, true, false, cond}
 use mathlib.Core.List.{List, [], _∷_, _++_, append-nil, append-assoc}
-use mathlib.Core.Option.{Option, some}
-use mathlib.Core.Logic.{⊎-elim}
+use mathlib.Core.Option.{Option, none, some}
+use mathlib.Core.Logic.{_⊎_, inl, inr, ⊎-elim}
 use mathlib.Core.Path.{_≡_, refl, sym, ap, ap₂, _∙_, subst}
 use native.Mathlib.Omega.{arith}
 use lib.Dec.{leb}
-use lib.ListN.{length, take, drop, replicate, length-append, length-take}
+use lib.ListN.{length, take, drop, replicate, length-append, length-replicate, length-take}
 use lib.Seq.{take-all, take-at, drop-at, take-append-le}
-use borrow.Author.Tests.{le-leb, lt-leb, leb-true, leb-false}
+use borrow.Author.Tests.{le-leb, lt-leb, leb-true}
 use Rattle.definitions.specs.Limits.{textWidth, slotWidth, entryWidth, termLimit, termTableWidth}
-use Rattle.definitions.specs.Bytes.{byte, part, filled}
+use Rattle.definitions.specs.Lists.{distinct}
+use Rattle.definitions.specs.Bytes.{byte, part, filled, inFront}
 use Rattle.definitions.specs.Terms.{Text, Term, Schema, uriText, bodyOf, slotOf, readTerm, readEntry, readTerms, readSchema, sameTerm}
-use Rattle.definitions.specs.Machine.{Numbered, numbered, afterTerm, withProperties}
+use Rattle.definitions.specs.Machine.{Numbered, numbered, withProperties}
 use Rattle.definitions.specs.Saved.{slots, termTable, slotTerm, termsIn}
 use Rattle.laws.specs.Lists.{All}
 use Rattle.laws.proofs.All.{all-append}
 use Rattle.laws.proofs.Bytes.{AreBytes}
 use Rattle.laws.proofs.Numbering.{all-numbered}
-use Rattle.laws.proofs.Ranges.{split}
+use Rattle.laws.proofs.TermNumbers.{by-number}
 use Rattle.laws.specs.Records.{recordsAt}
-use Rattle.laws.proofs.RecordsAt.{at-end, entry-inv, term-forward, entry-forward, terms-at, schema-at}
+use Rattle.laws.proofs.RecordsAt.{at-end, at-bad, at-one, entry-inv, term-forward, entry-forward, terms-at, schema-at}
 use Rattle.laws.specs.Valid.{Valid}
 use Rattle.laws.proofs.Valid.{uri-inv, uri-valid, term-valid, terms-valid}
 use Rattle.laws.proofs.Slots.{slot-length, slot-of, slot-inv}
 use Rattle.laws.proofs.Tables.{slots-length, term-table-length, terms-of, terms-in-valid, terms-in-table}
-use Rattle.table.specs.declared.Added.{Added}
 use Rattle.table.specs.declared.Added.the-variants.{Count, Full}
+use Rattle.fields.specs.declared.Counted.{Counted}
 use Rattle.fields.specs.declared.Counted.the-variants as Counts
-use Rattle.definitions.specs.declared.Read.the-variants.{Next}
+use Rattle.definitions.specs.declared.Read.{Read}
+use Rattle.definitions.specs.declared.Read.the-variants.{Next, Malformed}
 use Rattle.laws.specs.ReadAnswers.{isSome, nextOf}
-use Rattle.fields.specs.Answers.{countOf}
-use Rattle.table.specs.Hashes.{Hashed}
-use Rattle.table.specs.Table.{HoldsTerms, GoodSlot, numberIn, slotSet, withTerm, listOf, addedOf, tableOf}
+use Rattle.fields.specs.Answers.{countOf, distinctIn}
+use Rattle.table.specs.Hashes.{hashOf, slotAt, Hashed}
+use Rattle.records.specs.Listing.{listedOf, Written, Lists}
+use Rattle.table.proofs.CountLaws.{count-none, count-some}
+use Rattle.table.proofs.HashLaws.{none-hashed}
+use Rattle.table.specs.Table.{HoldsTerms, HeldTerms, GoodSlot, numberIn, slotSet, withTerm, listOf, addedOf, tableOf}
 use Rattle.records.proofs.ListLaws.{good-one, good-rest, here, rest, all-of}
-use Rattle.laws.proofs.ReadAnswers.{is-some, leaf-ends}
+use Rattle.laws.proofs.ReadAnswers.{is-some, next-got, next-lost}
 use Rattle.fields.proofs.PartLaws.{some-part, drop-replicate}
 use Rattle.fields.proofs.SameLaws.{record-parts, record-short, entry-ends}
 use Rattle.table.proofs.TableLaws.{terms, terms-length, holds-few}
 
 -- ── a table of terms ────────────────────────────────────────────────────────────────────────
 
-pub record Holding (table : List ℕ) (ts : List Term) (n : ℕ) : Type 0 where
-  pub valid : All Valid ts
-  pub is : table ≡ termTable ts
-  pub count : length ts ≡ n
-  pub few : n ≤ termLimit
-
-pub holding-of : (table : List ℕ) (n : ℕ) → AreBytes table → (h : HoldsTerms table n) → Holding table (terms table n h .0) n
-holding-of table n a h =
+pub held-of : (table : List ℕ) (n : ℕ) → AreBytes table → (h : HoldsTerms table n) → HeldTerms table n (terms table n h .0)
+held-of table n a h =
     let ts = terms table n h in
     record {
-      valid = terms-in-valid table a (h .width) (ts .0) (ts .1);
       is = terms-in-table table a (h .width) (ts .0) (ts .1);
+      valid = terms-in-valid table a (h .width) (ts .0) (ts .1);
       count = terms-length table n h;
       few = holds-few table n h;
     }
 
-module _ (table : List ℕ) (ts : List Term) (n : ℕ) (h : Holding table ts n) where
-  pub holding-terms : termsIn table ≡ some ts
-  holding-terms = ap termsIn (h .is) ∙ terms-of ts (h .valid) (omega (arith, h .count, h .few))
+module _ (table : List ℕ) (n : ℕ) (ts : List Term) (h : HeldTerms table n ts) where
+  pub held-terms : termsIn table ≡ some ts
+  held-terms = ap termsIn (h .is) ∙ terms-of ts (h .valid) (omega (arith, h .count, h .few))
 
-  pub holding-width : length table ≡ termTableWidth
-  holding-width = ap length (h .is) ∙ term-table-length ts (h .valid) (omega (arith, h .count, h .few))
+  pub held-width : length table ≡ termTableWidth
+  held-width = ap length (h .is) ∙ term-table-length ts (h .valid) (omega (arith, h .count, h .few))
 
-  pub holds-of : HoldsTerms table n
+  pub held-holds : HoldsTerms table n
   unfolding countOf
-  holds-of = record { width = holding-width; count = ap countOf holding-terms ∙ ap Counts.Count (h .count) }
+  held-holds = record { width = held-width; count = ap countOf held-terms ∙ ap Counts.Count (h .count) }
 
   -- all of them are there
-  pub added-all : (Count n ≡ addedOf ts) × (table ≡ tableOf ts)
-  unfolding addedOf tableOf
-  added-all =
-      let l : length ts ≤ termLimit = omega (arith, h .count, h .few) in
-      (rw (le-leb (length ts) termLimit l) (ap Count (sym (h .count))), h .is ∙ ap termTable (sym (take-all termLimit ts l)))
+  all-there : table ≡ tableOf ts
+  unfolding tableOf
+  all-there = h .is ∙ ap termTable (sym (take-all termLimit ts (omega (arith, h .count, h .few))))
+
+  added-all : (Count n ≡ addedOf ts) × (table ≡ tableOf ts)
+  unfolding addedOf
+  added-all = (rw (le-leb (length ts) termLimit (omega (arith, h .count, h .few))) (ap Count (sym (h .count))), all-there)
 
   -- there is no room for more
-  pub added-full : termLimit ≤ n → (more : List Term) → 1 ≤ length more → (Full ≡ addedOf (ts ++ more)) × (table ≡ tableOf (ts ++ more))
-  unfolding addedOf tableOf
-  added-full k more l = (
-    rw (lt-leb (length (ts ++ more)) termLimit (omega (arith, length-append ts more, h .count))),
-    h .is ∙ ap termTable (sym (take-at ts more termLimit (omega (arith, h .count, h .few)))),
-  )
+  no-more : termLimit ≤ n → (more : List Term) → table ≡ tableOf (ts ++ more)
+  unfolding tableOf
+  no-more k more = h .is ∙ ap termTable (sym (take-at ts more termLimit (omega (arith, h .count, h .few))))
 
 slots-end : (ts : List Term) (t : Term) → slots (ts ++ (t ∷ [])) ≡ slots ts ++ slotOf t
 unfolding slots
@@ -90,10 +88,10 @@ slots-end [] t = append-nil (slotOf t)
 slots-end (x ∷ ts) t = ap (λ s. slotOf x ++ s) (slots-end ts t) ∙ sym (append-assoc (slotOf x) (slots ts) (slotOf t))
 
 -- one more
-pub put-one : (table : List ℕ) (ts : List Term) (n : ℕ) → Holding table ts n → n < termLimit → (t : Term) → Valid t → (slot : List ℕ) → slot ≡ slotOf t
-    → Holding (slotSet table n slot) (ts ++ (t ∷ [])) (n + 1)
+put-one : (table : List ℕ) (n : ℕ) (ts : List Term) → HeldTerms table n ts → n < termLimit → (t : Term) → Valid t → (slot : List ℕ) → slot ≡ slotOf t
+    → HeldTerms (slotSet table n slot) (n + 1) (ts ++ (t ∷ []))
 unfolding slotSet termTable filled
-put-one table ts n h l t v slot e =
+put-one table n ts h l t v slot e =
     let long : length (slots ts) ≡ n * slotWidth = slots-length ts (h .valid) ∙ ap (λ (k : ℕ). k * slotWidth) (h .count) in
     let zeroes : List ℕ = replicate (termTableWidth - length (slots ts)) 0 in
     let more : List ℕ = replicate (termTableWidth - length (slots (ts ++ (t ∷ [])))) 0 in
@@ -119,27 +117,17 @@ full-hashed table hashes k e = absurd (let z : _≡_ {A = ℕ} 0 1 = cc in omega
 
 -- ── a term joins ────────────────────────────────────────────────────────────────────────────
 
-numbered-there : (t : Term) (ts : List Term) → numbered t ts .number < length ts → numbered t ts .terms ≡ ts
-unfolding numbered
-numbered-there t [] l = absurd (omega arith)
-numbered-there t (x ∷ ts) l = go (sameTerm t x) (numbered-there t ts) l
-  where
-    go : (b : Bool) → (numbered t ts .number < length ts → numbered t ts .terms ≡ ts)
-        → (elim b as (λ c. Numbered) [ true ↦ record { number = zero; terms = x ∷ ts } | false ↦ afterTerm x (numbered t ts) ]) .number < suc (length ts)
-        → (elim b as (λ c. Numbered) [ true ↦ record { number = zero; terms = x ∷ ts } | false ↦ afterTerm x (numbered t ts) ]) .terms ≡ x ∷ ts
-    go true rest l = refl
-    go false rest l = ap (λ ts. x ∷ ts) (rest (omega arith))
+-- it is there, or it joins at the end
+abbrev There : Term → List Term → Numbered → Type 0
+There t ts r = ((r .number < length ts) × (r .terms ≡ ts)) ⊎ ((r .number ≡ length ts) × (r .terms ≡ ts ++ (t ∷ [])))
 
-numbered-new : (t : Term) (ts : List Term) → length ts ≤ numbered t ts .number → numbered t ts .terms ≡ ts ++ (t ∷ [])
+number-cases : (t : Term) (ts : List Term) → There t ts (numbered t ts)
 unfolding numbered
-numbered-new t [] l = refl
-numbered-new t (x ∷ ts) l = go (sameTerm t x) (numbered-new t ts) l
-  where
-    go : (b : Bool) → (length ts ≤ numbered t ts .number → numbered t ts .terms ≡ ts ++ (t ∷ []))
-        → suc (length ts) ≤ (elim b as (λ c. Numbered) [ true ↦ record { number = zero; terms = x ∷ ts } | false ↦ afterTerm x (numbered t ts) ]) .number
-        → (elim b as (λ c. Numbered) [ true ↦ record { number = zero; terms = x ∷ ts } | false ↦ afterTerm x (numbered t ts) ]) .terms ≡ x ∷ (ts ++ (t ∷ []))
-    go true rest l = absurd (omega arith)
-    go false rest l = ap (λ ts. x ∷ ts) (rest (omega arith))
+number-cases t [] = inr (refl, refl)
+number-cases t (x ∷ ts) =
+    by-number (There t (x ∷ ts)) t x ts (λ e. inl (omega arith, refl))
+    (λ e. ⊎-elim (λ h. inl (omega (arith, h .0), ap (λ (l : List Term). x ∷ l) (h .1))) (λ h. inr (ap suc (h .0), ap (λ (l : List Term). x ∷ l) (h .1)))
+    (number-cases t ts))
 
 module _ (table slot : List ℕ) (n : ℕ) (a : AreBytes table) (b : AreBytes slot) (h : HoldsTerms table n) (g : GoodSlot slot) where
   ts : List Term
@@ -148,9 +136,9 @@ module _ (table slot : List ℕ) (n : ℕ) (a : AreBytes table) (b : AreBytes sl
   t : Term
   t = is-some (slotTerm slot) (g .good) .0
 
-  holding : Holding table ts n
+  held : HeldTerms table n ts
   unfolding ts
-  holding = holding-of table n a h
+  held = held-of table n a h
 
   joined : withTerm (slotTerm slot) (termsIn table) ≡ numbered t ts .terms
   unfolding withTerm ts t
@@ -161,23 +149,32 @@ module _ (table slot : List ℕ) (n : ℕ) (a : AreBytes table) (b : AreBytes sl
     unfolding numberIn ts t
     number = e ∙ ap₂ numberIn (is-some (slotTerm slot) (g .good) .1) (terms table n h .1)
 
-    pub join-there : f < n → (Count n ≡ addedOf (withTerm (slotTerm slot) (termsIn table))) × (table ≡ tableOf (withTerm (slotTerm slot) (termsIn table)))
+    pub number-low : f ≤ termLimit
+    number-low =
+        ⊎-elim (λ x. omega (arith, x .0, number, held .count, held .few)) (λ x. omega (arith, x .0, number, held .count, held .few)) (number-cases t ts)
+
+    pub join-there : f < n → (n ≡ length (withTerm (slotTerm slot) (termsIn table))) × (table ≡ tableOf (withTerm (slotTerm slot) (termsIn table)))
     join-there l =
-        let same : withTerm (slotTerm slot) (termsIn table) ≡ ts = joined ∙ numbered-there t ts (omega (arith, number, holding .count)) in
-        rw same (added-all table ts n holding)
+        ⊎-elim (λ x. let same = joined ∙ x .1 in rw same (sym (held .count), all-there table n ts held))
+        (λ x. absurd (omega (arith, x .0, number, held .count))) (number-cases t ts)
 
-    new : n ≤ f → withTerm (slotTerm slot) (termsIn table) ≡ ts ++ (t ∷ [])
-    new l = joined ∙ numbered-new t ts (omega (arith, number, holding .count))
+    module _ (l : n ≤ f) where
+      new : withTerm (slotTerm slot) (termsIn table) ≡ ts ++ (t ∷ [])
+      new = ⊎-elim (λ x. absurd (omega (arith, x .0, number, held .count))) (λ x. joined ∙ x .1) (number-cases t ts)
 
-    pub join-full : n ≤ f → termLimit ≤ n → (Full ≡ addedOf (withTerm (slotTerm slot) (termsIn table))) × (table ≡ tableOf (withTerm (slotTerm slot) (termsIn table)))
-    join-full l k = rw (new l) (added-full table ts n holding k (t ∷ []) (omega arith))
+      one-more : n + 1 ≡ length (withTerm (slotTerm slot) (termsIn table))
+      one-more = omega (arith, ap length new, length-append ts (t ∷ []), held .count)
 
-    pub join-new : n ≤ f → n < termLimit → {after : List ℕ} → after ≡ slotSet table n slot
-        → (Count (n + 1) ≡ addedOf (withTerm (slotTerm slot) (termsIn table))) × (after ≡ tableOf (withTerm (slotTerm slot) (termsIn table)))
-    unfolding t
-    join-new l k {after} q =
-        let s = slot-inv slot t (g .width) b (is-some (slotTerm slot) (g .good) .1) in
-        rw (new l, q) (added-all (slotSet table n slot) (ts ++ (t ∷ [])) (n + 1) (put-one table ts n holding k t (s .1) slot (sym (s .0))))
+      pub join-full : termLimit ≤ n → (n + 1 ≡ length (withTerm (slotTerm slot) (termsIn table))) × (table ≡ tableOf (withTerm (slotTerm slot) (termsIn table)))
+      join-full k = (one-more, no-more table n ts held k (t ∷ []) ∙ ap tableOf (sym new))
+
+      pub join-new : n < termLimit → {after : List ℕ} → after ≡ slotSet table n slot
+          → (n + 1 ≡ length (withTerm (slotTerm slot) (termsIn table))) × (after ≡ tableOf (withTerm (slotTerm slot) (termsIn table)))
+      unfolding t
+      join-new k q =
+          let s = slot-inv slot t (g .width) b (is-some (slotTerm slot) (g .good) .1) in
+          let one : HeldTerms (slotSet table n slot) (n + 1) (ts ++ (t ∷ [])) = put-one table n ts held k t (s .1) slot (sym (s .0)) in
+          (one-more, q ∙ all-there (slotSet table n slot) (n + 1) (ts ++ (t ∷ [])) one ∙ ap tableOf (sym new))
 
 -- ── more terms ──────────────────────────────────────────────────────────────────────────────
 
@@ -189,32 +186,24 @@ count-inv ts m e = go (leb (length ts) termLimit) refl e
     go true q e = (cc, leb-true (length ts) termLimit q)
     go false q e = absurd (let z : _≡_ {A = ℕ} 0 1 = cc in omega arith)
 
-full-inv : (ts : List Term) → Full ≡ addedOf ts → termLimit < length ts
-unfolding addedOf
-full-inv ts e = go (leb (length ts) termLimit) refl e
-  where
-    go : (b : Bool) → leb (length ts) termLimit ≡ b → Full ≡ cond b (Count (length ts)) Full → termLimit < length ts
-    go true q e = absurd (let z : _≡_ {A = ℕ} 0 1 = cc in omega arith)
-    go false q e = leb-false (length ts) termLimit q
-
 -- a table that has no room has none for more
-pub full-more : (ts more : List Term) → Full ≡ addedOf ts → (Full ≡ addedOf (ts ++ more)) × (tableOf ts ≡ tableOf (ts ++ more))
+full-more : (ts more : List Term) → termLimit < length ts → (Full ≡ addedOf (ts ++ more)) × (tableOf ts ≡ tableOf (ts ++ more))
 unfolding addedOf tableOf
-full-more ts more e =
-    let l = full-inv ts e in
+full-more ts more l =
     (rw (lt-leb (length (ts ++ more)) termLimit (omega (arith, length-append ts more))), ap termTable (sym (take-append-le termLimit ts more (omega arith))))
 
 -- what was added to a table of valid terms
-pub holding-added : (ts : List Term) → All Valid ts → (m : ℕ) {table : List ℕ} → Count m ≡ addedOf ts → table ≡ tableOf ts → Holding table ts m
-unfolding tableOf
-holding-added ts v m e f =
-    let c = count-inv ts m e in
-    record { valid = v; is = f ∙ ap termTable (take-all termLimit ts (c .1)); count = sym (c .0); few = omega (arith, c .0, c .1) }
+module _ (ts : List Term) (v : All Valid ts) (m : ℕ) {table : List ℕ} where
+  pub held-joined : m ≡ length ts → m ≤ termLimit → table ≡ tableOf ts → HeldTerms table m ts
+  unfolding tableOf
+  held-joined e l f = record { is = f ∙ ap termTable (take-all termLimit ts (omega (arith, e))); valid = v; count = sym e; few = l }
+
+  pub held-added : Count m ≡ addedOf ts → table ≡ tableOf ts → HeldTerms table m ts
+  held-added e f = let c = count-inv ts m e in held-joined (c .0) (omega (arith, c .0, c .1)) f
 
 -- schema URIs join at the end
 numbered-append : (t : Term) (ts : List Term) → (more : List Term) × (numbered t ts .terms ≡ ts ++ more)
-numbered-append t ts =
-    ⊎-elim (λ l. (t ∷ [], numbered-new t ts l)) (λ l. ([], numbered-there t ts l ∙ sym (append-nil ts))) (split (length ts) (numbered t ts .number))
+numbered-append t ts = ⊎-elim (λ h. ([], h .1 ∙ sym (append-nil ts))) (λ h. (t ∷ [], h .1)) (number-cases t ts)
 
 pub properties-append : (S : Schema) (ts : List Term) → (more : List Term) × (withProperties S ts ≡ ts ++ more)
 unfolding withProperties
@@ -224,74 +213,155 @@ properties-append (e ∷ S) ts =
     let r = properties-append S (numbered (Term.uri (e .property)) ts .terms) in
     (n .0 ++ r .0, r .1 ∙ ap (λ ts. ts ++ r .0) (n .1) ∙ append-assoc ts (n .0) (r .0))
 
+-- ── a term written into its slot ────────────────────────────────────────────────────────────
+
+module _ (s : List ℕ) (at end : ℕ) (e : Next end ≡ nextOf (readTerm s at)) where
+  this : (t : Term) × (readTerm s at ≡ some (t, end))
+  this = next-got (readTerm s at) (sym e)
+
+  pub term-after : (at < end) × (end ≤ length s)
+  term-after = term-forward s at (this .0) end (this .1)
+
+  pub term-short : AreBytes s → length (part s (at + 1) (end - (at + 1))) < slotWidth
+  term-short a = record-short s a at (this .0) end (this .1)
+
+pub term-written : (s : List ℕ) → AreBytes s → (at end : ℕ) {table slot after hashes : List ℕ} {n : ℕ}
+    → slot ≡ filled slotWidth (byte s at ∷ part s (at + 1) (end - (at + 1))) → (after ≡ slotSet table n slot) × Hashed after (n + 1) hashes
+    → (t : Term) → readTerm s at ≡ some (t, end) → n < termLimit → Written table n t after hashes
+unfolding slotOf
+term-written s a at end {table} {n = n} q f t r l =
+    record { slot = f .0 ∙ ap (slotSet table n) (q ∙ ap (filled slotWidth) (record-parts s a at t end r)); hashed = f .1 }
+
 -- ── listed terms ────────────────────────────────────────────────────────────────────────────
 
--- so many terms are written, and those from an offset on are not
-pub record Listing (s table : List ℕ) (at n : ℕ) : Type 0 where
-  pub done : List Term
-  pub holding : Holding table done n
-  pub good : isSome (recordsAt readTerm s at) ≡ true
-  pub whole : listOf (readTerms s) ≡ done ++ listOf (recordsAt readTerm s at)
+-- those read so far, before the rest
+abbrev pub before : List Term → Option (List Term) → Option (List Term)
+before ds none = none
+before ds (some ts) = some (ds ++ ts)
 
-pub listing-start : (s table : List ℕ) → isSome (readTerms s) ≡ true → table ≡ replicate termTableWidth 0 → Listing s table 0 0
+before-none : (o : Option (List Term)) → o ≡ before [] o
+before-none none = refl
+before-none (some ts) = refl
+
+before-one : (ds : List Term) (t : Term) (o : Option (List Term)) → before ds (inFront readTerm t o) ≡ before (ds ++ (t ∷ [])) o
+unfolding inFront
+before-one ds t none = refl
+before-one ds t (some ts) = ap some (sym (append-assoc ds (t ∷ []) ts))
+
+-- so many terms are read, and written as long as there was room; those from an offset on are not read
+pub record Writing (s table hashes : List ℕ) (at n : ℕ) : Type 0 where
+  pub done : List Term
+  pub whole : readTerms s ≡ before done (recordsAt readTerm s at)
+  pub count : length done ≡ n
+  pub past : (n ≤ at) × (at ≤ length s)
+  pub width : length table ≡ termTableWidth
+  pub room : length hashes ≡ termLimit
+  pub held : n ≤ termLimit → HeldTerms table n done × Hashed table n hashes
+
+pub writing-start : (s table hashes : List ℕ) → table ≡ replicate termTableWidth 0 → length hashes ≡ termLimit → Writing s table hashes 0 0
 unfolding termTable filled slots
-listing-start s table g e =
+writing-start s table hashes e r =
     record {
       done = [];
-      holding = record { valid = tt; is = e; count = refl; few = omega arith };
-      good = ap isSome (sym (terms-at s)) ∙ g;
-      whole = ap listOf (terms-at s);
+      whole = terms-at s ∙ before-none _;
+      count = refl;
+      past = (omega arith, omega arith);
+      width = ap length e ∙ length-replicate {A = ℕ} termTableWidth 0;
+      room = r;
+      held = λ l. (record { is = e; valid = tt; count = refl; few = omega arith }, none-hashed (λ i. hashOf (slotAt table i)) hashes);
     }
 
-module _ (s table : List ℕ) (at n : ℕ) (i : Listing s table at n) where
-  pub listing-end : length s ≤ at → (Count n ≡ addedOf (listOf (readTerms s))) × (table ≡ tableOf (listOf (readTerms s)))
+module _ (s table hashes : List ℕ) (at n : ℕ) (i : Writing s table hashes at n) where
+  pub still-hashed : n < termLimit → Hashed table n hashes
+  still-hashed l = i .held (omega arith) .1
+
+  pub writing-bad : at < length s → {r : Read} → r ≡ nextOf (readTerm s at) → r ≡ Malformed → Counts.Malformed ≡ countOf (readTerms s)
+  unfolding countOf
+  writing-bad l e m = rw (i .whole, at-bad readTerm term-forward s at l (next-lost (readTerm s at) (sym e ∙ m)))
+
+  pub writing-next : at < length s → {r : Read} → r ≡ nextOf (readTerm s at) → {k : ℕ} → r ≡ Next k → {after hashes′ : List ℕ} → length after ≡ length table → length hashes′ ≡ length hashes
+      → ((t : Term) → readTerm s at ≡ some (t, k) → n < termLimit → Written table n t after hashes′) → Writing s after hashes′ k (n + 1)
+  writing-next l e {k} m {after} {hashes′} a b w =
+      let x = next-got (readTerm s at) (sym e ∙ m) in
+      let f = term-forward s at (x .0) k (x .1) in
+      record {
+        done = i .done ++ (x .0 ∷ []);
+        whole = i .whole ∙ ap (before (i .done)) (at-one readTerm term-forward s at l (x .1)) ∙ before-one (i .done) (x .0) _;
+        count = length-append (i .done) (x .0 ∷ []) ∙ ap (λ (k : ℕ). k + 1) (i .count);
+        past = (omega (arith, i .past .0), f .1);
+        width = a ∙ i .width;
+        room = b ∙ i .room;
+        held = λ few.
+            let p = w (x .0) (x .1) (omega arith) in
+            (rw (p .slot) (put-one table n (i .done) (i .held (omega arith) .0) (omega arith) (x .0) (term-valid s at (x .0) k (x .1)) (slotOf (x .0)) refl), p .hashed);
+      }
+
+  module _ (l : length s ≤ at) where
+    all-read : readTerms s ≡ some (i .done)
+    all-read = i .whole ∙ rw (at-end readTerm term-forward s at l) (ap some (append-nil (i .done)))
+
+    pub writing-count : Counts.Count n ≡ countOf (readTerms s)
+    unfolding countOf
+    writing-count = rw all-read (ap Counts.Count (sym (i .count)))
+
+    pub writing-end : (m : ℕ) → Counts.Count n ≡ Counts.Count m → m ≤ termLimit → Lists s table hashes m
+    unfolding listOf
+    writing-end m e few =
+        let q : n ≡ m = cc in
+        let h = i .held (omega arith) in
+        record { tabled = h .0 .is ∙ rw all-read; counted = ap (λ (o : Option (List Term)). length (listOf o)) all-read ∙ i .count ∙ q; hashed = λ j k. h .1 j (omega arith) }
+
+-- what is said of them
+module _ (o : Option (List Term)) where
+  pub listed-bad : {r : Counted} → r ≡ countOf o → r ≡ Counts.Malformed → record { refusal = 2; count = 0 } ≡ listedOf o
+  listed-bad e m = rw (count-none o (sym e ∙ m)) (unfold listedOf in refl)
+
+  module _ {n : ℕ} (e : Counts.Count n ≡ countOf o) where
+    some-listed : (ts : List Term) × (o ≡ some ts) × (length ts ≡ n)
+    some-listed = count-some o (sym e)
+
+    pub listed-good : isSome o ≡ true
+    listed-good = rw (some-listed .1)
+
+    module _ {d : Bool} (f : d ≡ distinctIn sameTerm o) where
+      apart : (b : Bool) → d ≡ b → distinct sameTerm (some-listed .0) ≡ b
+      unfolding distinctIn
+      apart b q = sym (ap (distinctIn sameTerm) (some-listed .1)) ∙ sym f ∙ q
+
+      pub listed-twice : d ≡ false → record { refusal = 3; count = 0 } ≡ listedOf o
+      unfolding listedOf
+      listed-twice q = rw (some-listed .1, apart false q)
+
+      pub listed-count : d ≡ true → record { refusal = 0; count = n } ≡ listedOf o
+      unfolding listedOf
+      listed-count q = rw (some-listed .1, apart true q) (ap (λ (n : ℕ). record { refusal = 0; count = n }) (sym (some-listed .2)))
+
+-- the table that they are left in
+module _ {s table hashes : List ℕ} {n : ℕ} (g : isSome (readTerms s) ≡ true) (few : n ≤ termLimit) (l : Lists s table hashes n) where
+  listed : HeldTerms table n (listOf (readTerms s))
   unfolding listOf
-  listing-end l =
-      let only : listOf (readTerms s) ≡ i .done = i .whole ∙ rw (at-end readTerm term-forward s at l) (append-nil (i .done)) in
-      rw only (added-all table (i .done) n (i .holding))
+  listed =
+      let ts = is-some (readTerms s) g in
+      record {
+        is = l .tabled;
+        valid = subst (λ (o : Option (List Term)). All Valid (listOf o)) (sym (ts .1)) (terms-valid s (ts .0) (ts .1));
+        count = l .counted;
+        few = few;
+      }
 
-  module _ (l : at < length s) {k : ℕ} (e : Next k ≡ nextOf (readTerm s at)) where
-    this : Term
-    this = here readTerm term-forward s at (i .good) l e .0
+  pub listed-holds : HoldsTerms table n
+  listed-holds = held-holds table n (listOf (readTerms s)) listed
 
-    later : List Term
-    later = rest readTerm term-forward s at (i .good) l e .0
-
-    first-read : readTerm s at ≡ some (this, k)
-    unfolding this
-    first-read = here readTerm term-forward s at (i .good) l e .1
-
-    pub listing-short : AreBytes s → length (part s (at + 1) (k - (at + 1))) < slotWidth
-    listing-short a = record-short s a at this k first-read
-
-    all-terms : listOf (readTerms s) ≡ i .done ++ (this ∷ later)
-    unfolding this later listOf
-    all-terms = i .whole ∙ rw (all-of readTerm term-forward s at (i .good) l e)
-
-    pub listing-next : AreBytes s → n < termLimit → {slot after : List ℕ} → slot ≡ filled slotWidth (byte s at ∷ part s (at + 1) (k - (at + 1))) → after ≡ slotSet table n slot
-        → Listing s after k (n + 1)
-    unfolding slotOf listOf later
-    listing-next a m {slot} {after} q f =
-        let one : slot ≡ slotOf this = q ∙ ap (filled slotWidth) (record-parts s a at this k first-read) in
-        record {
-          done = i .done ++ (this ∷ []);
-          holding = rw f (put-one table (i .done) n (i .holding) m this (term-valid s at this k first-read) slot one);
-          good = good-rest readTerm term-forward s at (i .good) l e;
-          whole = all-terms ∙ sym (append-assoc (i .done) (this ∷ []) later) ∙ ap (λ ts. (i .done ++ (this ∷ [])) ++ ts) (sym (ap listOf (rest readTerm term-forward s at (i .good) l e .1)));
-        }
-
-  pub listing-full : at < length s → termLimit ≤ n → (Full ≡ addedOf (listOf (readTerms s))) × (table ≡ tableOf (listOf (readTerms s)))
-  listing-full l m =
-      let r = is-some (readTerm s at) (good-one readTerm term-forward s at (i .good) l) in
-      let e : Next (r .0 .1) ≡ nextOf (readTerm s at) = leaf-ends {a = r .0 .0} (r .1) in
-      rw (all-terms l e) (added-full table (i .done) n (i .holding) m (this l e ∷ later l e) (omega arith))
+  pub listed-same : termsIn table ≡ readTerms s
+  unfolding listOf
+  listed-same = let ts = is-some (readTerms s) g in held-terms table n (listOf (readTerms s)) listed ∙ rw (ts .1)
 
 -- ── schema URIs ─────────────────────────────────────────────────────────────────────────────
 
 -- so many terms are written, and the properties from an offset on have not joined
 pub record Adding (s : List ℕ) (before : List Term) (table : List ℕ) (at n : ℕ) : Type 0 where
   pub current : List Term
-  pub holding : Holding table current n
+  pub held : HeldTerms table n current
   pub good : isSome (recordsAt readEntry s at) ≡ true
   pub whole : withProperties (listOf (readSchema s)) before ≡ withProperties (listOf (recordsAt readEntry s at)) current
 
@@ -300,7 +370,7 @@ unfolding listOf
 adding-start s table n a g h =
     record {
       current = terms table n h .0;
-      holding = holding-of table n a h;
+      held = held-of table n a h;
       good = ap isSome (sym (schema-at s)) ∙ g;
       whole = ap₂ withProperties (ap listOf (schema-at s)) (ap listOf (terms table n h .1));
     }
@@ -310,7 +380,7 @@ module _ (s : List ℕ) (before : List Term) (table : List ℕ) (at n : ℕ) (i 
   unfolding listOf withProperties
   adding-end l =
       let same : withProperties (listOf (readSchema s)) before ≡ i .current = i .whole ∙ ap (λ o. withProperties (listOf o) (i .current)) (at-end readEntry entry-forward s at l) in
-      rw same (added-all table (i .current) n (i .holding))
+      rw same (added-all table n (i .current) (i .held))
 
   module _ (l : at < length s) where
     pub entry-good : isSome (readEntry s at) ≡ true
@@ -352,49 +422,21 @@ module _ (s : List ℕ) (before : List Term) (table : List ℕ) (at n : ℕ) (i 
 
       with-term : withTerm (slotTerm slot) (termsIn table) ≡ joined-terms
       unfolding withTerm joined-terms
-      with-term = ap₂ withTerm slot-term (holding-terms table (i .current) n (i .holding))
+      with-term = ap₂ withTerm slot-term (held-terms table n (i .current) (i .held))
 
-      module _ {r : Added} {after : List ℕ} (e : r ≡ addedOf (withTerm (slotTerm slot) (termsIn table))) (f : after ≡ tableOf (withTerm (slotTerm slot) (termsIn table))) where
-        pub adding-next : {m : ℕ} → r ≡ Count m → Adding s before after (at + entryWidth) m
+      module _ {m : ℕ} {after : List ℕ} (e : m ≡ length (withTerm (slotTerm slot) (termsIn table))) (f : after ≡ tableOf (withTerm (slotTerm slot) (termsIn table))) where
+        pub adding-next : m ≤ termLimit → Adding s before after (at + entryWidth) m
         unfolding joined-terms entries listOf
-        adding-next {m} c =
+        adding-next few =
             record {
               current = joined-terms;
-              holding = holding-added joined-terms (all-numbered Valid (Term.uri property) (i .current) (i .holding .valid) valid) m (sym c ∙ e ∙ ap addedOf with-term) (f ∙ ap tableOf with-term);
+              held = held-joined joined-terms (all-numbered Valid (Term.uri property) (i .current) (i .held .valid) valid) m (e ∙ ap length with-term) few (f ∙ ap tableOf with-term);
               good = good-rest readEntry entry-forward s at (i .good) l (entry-ends s at entry-good);
               whole = all-entries ∙ sym (ap (λ o. withProperties (listOf o) joined-terms) (rest readEntry entry-forward s at (i .good) l (entry-ends s at entry-good) .1));
             }
 
-        pub adding-full : r ≡ Full → (Full ≡ addedOf (withProperties (listOf (readSchema s)) before)) × (after ≡ tableOf (withProperties (listOf (readSchema s)) before))
-        adding-full c =
+        pub adding-full : termLimit < m → (Full ≡ addedOf (withProperties (listOf (readSchema s)) before)) × (after ≡ tableOf (withProperties (listOf (readSchema s)) before))
+        adding-full over =
             let more = properties-append entries joined-terms in
-            let x = full-more joined-terms (more .0) (sym c ∙ e ∙ ap addedOf with-term) in
+            let x = full-more joined-terms (more .0) (omega (arith, e, ap length with-term)) in
             rw (all-entries ∙ more .1) (x .0, f ∙ ap tableOf with-term ∙ x .1)
-
--- ── the terms that loading numbers ──────────────────────────────────────────────────────────
-
-module _ (s : List ℕ) (g : isSome (readTerms s) ≡ true) {r : Added} {table : List ℕ}
-    (e : r ≡ addedOf (listOf (readTerms s))) (f : table ≡ tableOf (listOf (readTerms s))) where
-  pub listed-full : (S : Schema) → r ≡ Full → (Full ≡ addedOf (withProperties S (listOf (readTerms s)))) × (table ≡ tableOf (withProperties S (listOf (readTerms s))))
-  listed-full S c =
-      let more = properties-append S (listOf (readTerms s)) in
-      let x = full-more (listOf (readTerms s)) (more .0) (sym c ∙ e) in
-      rw (more .1) (x .0, f ∙ x .1)
-
-  module _ {n : ℕ} (c : r ≡ Count n) where
-    listed : Holding table (listOf (readTerms s)) n
-    unfolding listOf
-    listed =
-        let ts = is-some (readTerms s) g in
-        holding-added (listOf (readTerms s)) (subst (λ (o : Option (List Term)). All Valid (listOf o)) (sym (ts .1)) (terms-valid s (ts .0) (ts .1))) n (sym c ∙ e) f
-
-    pub listed-holds : HoldsTerms table n
-    listed-holds = holds-of table (listOf (readTerms s)) n listed
-
-    pub listed-terms : listOf (termsIn table) ≡ listOf (readTerms s)
-    unfolding listOf
-    listed-terms = ap listOf (holding-terms table (listOf (readTerms s)) n listed)
-
-    pub listed-same : termsIn table ≡ readTerms s
-    unfolding listOf
-    listed-same = let ts = is-some (readTerms s) g in holding-terms table (listOf (readTerms s)) n listed ∙ rw (ts .1)

@@ -11,7 +11,8 @@ use borrow.Author.Tests.{ne-eqb}
 use Rattle.definitions.specs.Limits.{textWidth, slotWidth, entryWidth, uriWidth}
 use Rattle.definitions.specs.Bytes.{byte, part, sameBytes, allZero, provided}
 use Rattle.definitions.specs.Types.{Datatype, datatypeCode, datatypeOfCode, datatypeRows, typeCode}
-use Rattle.definitions.specs.Terms.{Text, Term, Entry, Schema, Sort, termKind, bodyWidth, uriText, ofTermKind, termOfBody, bodyOf, slotOf, readTerm, readEntry, datatypeIn, sortOf, isInteger, isDecimal, isDateTime}
+use Rattle.definitions.specs.Terms.{Text, Term, Entry, Schema, Sort, termKind, bodyWidth, uriText, ofTermKind, termOfBody, bodyOf, slotOf, readTerm, readEntry, datatypeIn, sortOf}
+use Rattle.definitions.specs.Terms.{isInteger, isDecimal, isDateTime}
 use Rattle.definitions.specs.Saved.{slotTerm}
 use Rattle.laws.proofs.Options.{some-is, some-not-none, onward-inv, provided-inv}
 use Rattle.laws.proofs.Bytes.{AreBytes}

@@ -1,19 +1,12 @@
 // Records one after the other: how many there are, and whether one is there twice.
-use crate::numbering::list_terms;
-use crate::schema::hash_entries;
 use definitions::ENTRY_WIDTH;
 use definitions::Read;
-use definitions::SCHEMA_WIDTH;
-use definitions::TERM_TABLE_WIDTH;
 use definitions::TEXT_WIDTH;
 use fields::Counted;
 use fields::bodies::body_width;
 use fields::reading::read_entry;
-use fields::reading::read_term;
 use fields::reading::read_triple;
-use table::Added;
 use table::hashes::is_in;
-use table::slots::slots_distinct;
 ghost use mathlib.Core.Path.{_≡_};
 ghost use mathlib.Core.Bool.{true};
 ghost use Rattle.definitions.specs.Terms.{sameTerm, sameProperty, readTerm, readEntry, readTerms, readSchema, readPage};
@@ -22,22 +15,7 @@ ghost use Rattle.laws.specs.ReadAnswers.{isSome, nextOf};
 ghost use Rattle.fields.specs.Answers.{countOf, sameIn, againIn, distinctIn};
 ghost use Rattle.table.specs.Hashes.{HashedEntries};
 
-// How many term, schema or page records there are. Ruled out: the count up to the first bad record; one more for bytes left over.
-pub fn count_terms(s: &[u8]) -> Counted
-    ensures { λ r. ⌜ r ≡ countOf (readTerms (now (s .entry))) ⌝ }
-{
-    let mut n = 0;
-    let mut at = 0;
-    while at < s.len() {
-        let Read::Next(next) = read_term(s, at) else {
-            return Counted::Malformed;
-        };
-        at = next;
-        n += 1;
-    }
-    Counted::Count(n)
-}
-
+// How many schema or page records there are. Ruled out: the count up to the first bad record; one more for bytes left over.
 pub fn count_entries(s: &[u8]) -> Counted
     ensures { λ r. ⌜ r ≡ countOf (readSchema (now (s .entry))) ⌝ }
 {
@@ -104,7 +82,8 @@ fn term_again(s: &[u8], at: usize, from: usize) -> bool
 }
 
 // Whether good term records are all different, record by record.
-fn records_distinct(s: &[u8]) -> bool
+// Ruled out: neighbours alone compared; integer 3 and decimal 3.0 taken for one term.
+pub fn records_distinct(s: &[u8]) -> bool
     requires { ⌜ isSome (readTerms (now s)) ≡ true ⌝ }
     ensures { λ r. ⌜ r ≡ distinctIn sameTerm (readTerms (now (s .entry))) ⌝ }
 {
@@ -117,19 +96,6 @@ fn records_distinct(s: &[u8]) -> bool
         at = next;
     }
     true
-}
-
-// Whether good term records are all different: by their slots, where a table has room for them.
-// Ruled out: neighbours alone compared; integer 3 and decimal 3.0 taken for one term.
-pub fn terms_distinct(s: &[u8]) -> bool
-    requires { ⌜ isSome (readTerms (now s)) ≡ true ⌝ }
-    ensures { λ r. ⌜ r ≡ distinctIn sameTerm (readTerms (now (s .entry))) ⌝ }
-{
-    let mut table = [0u8; TERM_TABLE_WIDTH];
-    let Added::Count(n) = list_terms(s, &mut table) else {
-        return records_distinct(s);
-    };
-    slots_distinct(&table, n)
 }
 
 fn same_property(s: &[u8], a: usize, b: usize) -> bool
@@ -161,7 +127,8 @@ fn property_again(s: &[u8], at: usize, from: usize) -> bool
 }
 
 // Whether good schema records are of different properties, record by record.
-fn entries_distinct(s: &[u8]) -> bool
+// Ruled out: a property twice with two datatypes let pass; neighbours alone compared.
+pub fn entries_distinct(s: &[u8]) -> bool
     requires { ⌜ isSome (readSchema (now s)) ≡ true ⌝ }
     ensures { λ r. ⌜ r ≡ distinctIn sameProperty (readSchema (now (s .entry))) ⌝ }
 {
@@ -176,8 +143,9 @@ fn entries_distinct(s: &[u8]) -> bool
     true
 }
 
-// Whether good schema records are of different properties: records are compared only where their URIs' hashes are the same.
-fn hashed_distinct(s: &[u8], hashes: &[u16]) -> bool
+// The same of a schema that has no more than it may: records are compared only where their URIs' hashes are the same.
+// Ruled out: URIs with the same hash taken for the same; the last record left out.
+pub fn hashed_distinct(s: &[u8], hashes: &[u16]) -> bool
     requires { ⌜ isSome (readSchema (now s)) ≡ true ⌝ }
     requires { ⌜ HashedEntries (now s) (now hashes) ⌝ }
     ensures { λ r. ⌜ r ≡ distinctIn sameProperty (readSchema (now (s .entry))) ⌝ }
@@ -195,17 +163,4 @@ fn hashed_distinct(s: &[u8], hashes: &[u16]) -> bool
         i = next;
     }
     true
-}
-
-// Whether good schema records are of different properties: by their URIs' hashes, where there are no more than a schema may have.
-// Ruled out: a property twice with two datatypes let pass; neighbours alone compared.
-pub fn properties_distinct(s: &[u8]) -> bool
-    requires { ⌜ isSome (readSchema (now s)) ≡ true ⌝ }
-    ensures { λ r. ⌜ r ≡ distinctIn sameProperty (readSchema (now (s .entry))) ⌝ }
-{
-    if SCHEMA_WIDTH < s.len() {
-        return entries_distinct(s);
-    }
-    let hashes = hash_entries(s);
-    hashed_distinct(s, &hashes)
 }

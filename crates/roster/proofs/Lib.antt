@@ -1,3 +1,2 @@
--- MadeLaws says what values of plain data mean, Distances what print writes of a number.
-mod MadeLaws
+-- Distances says what print writes of a number.
 mod Distances

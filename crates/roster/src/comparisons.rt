@@ -1,7 +1,7 @@
 // Equal and less. A line has the sign between two values: < and > by less, = by equal, ? where neither holds either way.
-use crate::made;
 use crate::print;
-use crate::rows;
+use cases::made;
+use cases::rows;
 use definitions::TAG_WIDTH;
 use definitions::TEXT_WIDTH;
 use values::Value;
@@ -35,7 +35,8 @@ fn sign(less: bool, equal: bool, more: bool) -> u8
 fn relation(a: Value, b: Value) -> u8
     requires { ⌜ Good a ⌝ }
     requires { ⌜ Good b ⌝ }
-    ensures { λ r. ⌜ ((l e m : Bool) → compared lessPair (meaning a) (meaning b) ≡ ok l → compared equalPair (meaning a) (meaning b) ≡ ok e → compared lessPair (meaning b) (meaning a) ≡ ok m → r ≡ signOf l e m) ⌝ }
+    ensures { λ r. ⌜ ((l e m : Bool) → compared lessPair (meaning a) (meaning b) ≡ ok l → compared equalPair (meaning a) (meaning b) ≡ ok e
+        → compared lessPair (meaning b) (meaning a) ≡ ok m → r ≡ signOf l e m) ⌝ }
 {
     let less = values::comparison::less(a, b);
     let equal = values::comparison::equal(a, b);

@@ -1,6 +1,6 @@
 // str of dateTimes.
-use crate::made;
 use crate::print;
+use cases::made;
 
 // A number of seconds for each case.
 const SECONDS: [i64; 35] = [

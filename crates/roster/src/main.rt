@@ -1,12 +1,10 @@
 // The roster: cases of document 01's values, a line of output for each. docs/ROSTER.md says where the expected lines come from.
 mod comparisons;
 mod dates;
-mod made;
 mod numbers;
 mod patterns;
 mod print;
 mod ranges;
-mod rows;
 
 fn main() {
     dates::cases();

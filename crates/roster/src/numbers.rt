@@ -1,6 +1,6 @@
 // str of numbers, and arithmetic at the limits.
-use crate::made;
 use crate::print;
+use cases::made;
 use values::Value;
 ghost use Rattle.values.specs.Meaning.{Good};
 

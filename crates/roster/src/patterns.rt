@@ -1,7 +1,7 @@
 // Patterns on texts.
-use crate::made;
 use crate::print;
-use crate::rows;
+use cases::made;
+use cases::rows;
 use definitions::PATTERN_WIDTH;
 use definitions::TEXT_WIDTH;
 use values::Value;

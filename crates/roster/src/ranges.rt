@@ -1,7 +1,7 @@
 // Language ranges on tags.
-use crate::made;
 use crate::print;
-use crate::rows;
+use cases::made;
+use cases::rows;
 use definitions::LANGUAGE_RANGE_WIDTH;
 use definitions::TAG_WIDTH;
 use values::Value;

@@ -8,7 +8,7 @@ use lib.IntN.{ℤ}
 use Rattle.definitions.specs.Typing.{typeAt}
 use Rattle.definitions.specs.Outcome.{Outcome}
 use Rattle.definitions.specs.Machine.{State, Next, step, stand, Run, still, preceded, goOn, run, lastOf}
-use Rattle.definitions.specs.Calls.{Checked}
+use Rattle.definitions.specs.Calls.{Checked, settingOf}
 use Rattle.definitions.specs.declared.RunState.the-variants.{Spent}
 use Rattle.laws.specs.Lists.{All}
 use Rattle.laws.specs.Outcomes.{Fine, fine}
@@ -31,11 +31,11 @@ module _ (c : Checked) (accepted : Accepted c) (clock : ℤ) where
       fine {a = preceded s r} (record { passed = (h, p .passed); steps = omega (arith, p .steps); spent = λ e. omega (arith, p .spent e) })
   go-on-sound budget more k (stand r) h = fine {a = still r} (record { passed = tt; steps = omega arith; spent = λ e. absurd (h e) })
 
-  pub run-sound : (budget : ℕ) (s : State) → Sound c s → Fine (RunSound c budget) (run (c .schema) (typeAt (c .types)) clock budget s)
+  pub run-sound : (budget : ℕ) (s : State) → Sound c s → Fine (RunSound c budget) (run (settingOf c clock) (typeAt (c .types)) budget s)
   unfolding run
   run-sound zero s h = fine-then (look-sound c accepted clock s h) λ r p. fine (record { passed = tt; steps = omega arith; spent = λ e. refl })
   run-sound (suc budget) s h =
-      fine-then (next-sound c accepted clock s h) λ n p. go-on-sound budget (run (c .schema) (typeAt (c .types)) clock budget) (run-sound budget) n p
+      fine-then (next-sound c accepted clock s h) λ n p. go-on-sound budget (run (settingOf c clock) (typeAt (c .types)) budget) (run-sound budget) n p
 
 pub last-sound : (c : Checked) (s : State) (passed : List State) → Sound c s → All (Sound c) passed → Sound c (lastOf s passed)
 last-sound c s [] h k = h

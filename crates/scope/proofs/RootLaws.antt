@@ -19,7 +19,7 @@ use Rattle.laws.proofs.Options.{some-is, provided-inv, onward-inv}
 use Rattle.laws.proofs.Reading.{same-read}
 use Rattle.laws.proofs.ReadBounds.{parsed-bounded}
 use Rattle.laws.specs.Walks.{Loads, Walked}
-use Rattle.laws.specs.ReadAnswers.{isSome, holdsOf}
+use Rattle.laws.specs.ReadAnswers.{isSome, passes}
 use Rattle.laws.specs.Lists.{flag}
 use Rattle.scope.specs.Uses.{withUses}
 use Rattle.scope.specs.Bindings.{bindAll, unbound}
@@ -69,14 +69,14 @@ module _ (terms : ℕ) (s : List ℕ) (e : isSome (parsed terms s) ≡ true) whe
   pub scope-is : {free : List Bool} {b : Bound} {t : Bool} {m n : ℕ}
       → Walked (λ c. free ≡ withUses (replicate variableLimit false) (replicate variableLimit false) (λ v. isFree v c)) (readScript s terms depthLimit 0) m
       → Walked (λ c. b ≡ bindAll (variablesOf (bindersOf c)) (unbound (replicate variableLimit false))) (readScript s terms depthLimit 0) n
-      → t ≡ every not free → (t && not (b .twice)) ≡ holdsOf inScope (parsed terms s)
-  unfolding inScope
+      → t ≡ every not free → (t && not (b .twice)) ≡ passes inScope (parsed terms s)
+  unfolding inScope passes
   scope-is x y h =
       let w = whole-of terms s e in
       let vs = variablesOf (bindersOf (w .root)) in
       ap₂ _&&_ (h ∙ ap (every not) (of-root x ∙ free-uses (λ v. isFree v (w .root))))
       (ap (λ (b : Bound). not (b .twice)) (of-root y) ∙ once-is vs (script-small terms (w .root) (parsed-bounded terms s (w .root) (w .parses))))
-      ∙ ap (holdsOf inScope) (sym (w .parses))
+      ∙ ap (passes inScope) (sym (w .parses))
 
   pub place-is : (wanted : ℕ) {r : Place} {n : ℕ} → Walked (λ c. r ≡ placeOf (placeFrom 1 c wanted)) (readScript s terms depthLimit 0) n → r ≡ placeAt (parsed terms s) wanted
   unfolding placeAt placeIn

@@ -8,7 +8,7 @@ use definitions::COUNT_OFFSET;
 use definitions::DEPTH_LIMIT;
 use definitions::PAIRS_OFFSET;
 use definitions::QUERY_OFFSET;
-use definitions::VARIABLES;
+use definitions::VARIABLE_LIMIT;
 ghost use mathlib.Core.Path.{_≡_};
 ghost use mathlib.Core.Bool.{true, not};
 ghost use Prim.Native.Nat.{_+_, _<_};
@@ -18,14 +18,14 @@ ghost use Rattle.definitions.specs.Bytes.{byte};
 ghost use Rattle.definitions.specs.Scope.{isFree, bindersOf, variablesOf, inScope};
 ghost use Rattle.definitions.specs.Reading.{readScript, parsed};
 ghost use Rattle.laws.specs.Walks.{Loads, Walked};
-ghost use Rattle.laws.specs.ReadAnswers.{isSome, holdsOf};
+ghost use Rattle.laws.specs.ReadAnswers.{isSome, passes};
 ghost use Rattle.scope.specs.Uses.{withUses, freeIn};
 ghost use Rattle.scope.specs.Bindings.{PairsAt, bindOne, bindAll, unbound};
 ghost use Rattle.laws.specs.Pairs.{pairVariables};
 
 // Flags for the variables bound so far, and whether one was bound by two pairs.
 pub struct Bound {
-    pub flags: [bool; VARIABLES],
+    pub flags: [bool; VARIABLE_LIMIT],
     pub twice: bool,
 }
 
@@ -65,7 +65,7 @@ pub fn bind_pairs(script: &[u8], at: usize, bound: Bound) -> Bound
 }
 
 // The hidden variables, and those that the block at an offset hides.
-fn hide_pairs(script: &[u8], at: usize, hidden: [bool; VARIABLES]) -> [bool; VARIABLES]
+fn hide_pairs(script: &[u8], at: usize, hidden: [bool; VARIABLE_LIMIT]) -> [bool; VARIABLE_LIMIT]
     requires { ⌜ PairsAt (now script) at ⌝ }
     ensures { λ r. ⌜ r ≡ bindAll (pairVariables (byte (now (script .entry)) (at + countOffset)) (now (script .entry)) (at + pairsOffset)) (unbound hidden) .flags ⌝ }
 {
@@ -87,8 +87,8 @@ pub fn script_uses(
     terms: usize,
     at: usize,
     left: u8,
-    hidden: [bool; VARIABLES],
-    free: [bool; VARIABLES],
+    hidden: [bool; VARIABLE_LIMIT],
+    free: [bool; VARIABLE_LIMIT],
 ) -> Uses
     requires { ⌜ Loads (readScript (now script) terms left at) ⌝ }
     ensures { λ r. ⌜ Walked (λ c. r .free ≡ withUses hidden free (λ v. isFree v c)) (readScript (now (script .entry)) terms left at) (r .next) ⌝ }
@@ -119,11 +119,11 @@ pub fn script_uses(
 
 // The free variables of the script at an offset, as flags.
 // Ruled out: the variables that stand in it, bound there or not; those of the whole script.
-pub fn free_in(script: &[u8], terms: usize, at: usize, left: u8) -> [bool; VARIABLES]
+pub fn free_in(script: &[u8], terms: usize, at: usize, left: u8) -> [bool; VARIABLE_LIMIT]
     requires { ⌜ Loads (readScript (now script) terms left at) ⌝ }
     ensures { λ r. ⌜ r ≡ freeIn (readScript (now (script .entry)) terms left at) ⌝ }
 {
-    let none = [false; VARIABLES];
+    let none = [false; VARIABLE_LIMIT];
     let found = script_uses(script, terms, at, left, none, none);
     found.free
 }
@@ -157,11 +157,11 @@ pub fn bind_script(script: &[u8], terms: usize, at: usize, left: u8, bound: Boun
 }
 
 // Whether no flag is set.
-fn none_set(flags: [bool; VARIABLES]) -> bool
+fn none_set(flags: [bool; VARIABLE_LIMIT]) -> bool
     ensures { λ r. ⌜ r ≡ every not flags ⌝ }
 {
     let mut i = 0;
-    while i < VARIABLES {
+    while i < VARIABLE_LIMIT {
         if flags[i] {
             return false;
         }
@@ -174,9 +174,9 @@ fn none_set(flags: [bool; VARIABLES]) -> bool
 // Ruled out: a use before its block let pass; two blocks in sequence that bind one variable let pass.
 pub fn in_scope(script: &[u8], terms: usize) -> bool
     requires { ⌜ isSome (parsed terms (now script)) ≡ true ⌝ }
-    ensures { λ r. ⌜ r ≡ holdsOf inScope (parsed terms (now (script .entry))) ⌝ }
+    ensures { λ r. ⌜ r ≡ passes inScope (parsed terms (now (script .entry))) ⌝ }
 {
-    let none = [false; VARIABLES];
+    let none = [false; VARIABLE_LIMIT];
     let found = script_uses(script, terms, 0, DEPTH_LIMIT, none, none);
     let free = found.free;
     let walked = bind_script(

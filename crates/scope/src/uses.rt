@@ -2,7 +2,7 @@
 // beside those flagged already, all but the hidden ones.
 use definitions::LANG_MATCHES_TEXT_OFFSET;
 use definitions::REGEX_TEXT_OFFSET;
-use definitions::VARIABLES;
+use definitions::VARIABLE_LIMIT;
 ghost use mathlib.Core.Path.{_≡_};
 ghost use Rattle.definitions.specs.Reading.{readName, readExpr, readCond, readQuery};
 ghost use Rattle.definitions.specs.Scope.{inName, inExpr, inCond, inQuery};
@@ -12,7 +12,7 @@ ghost use Rattle.scope.specs.Uses.{withUses};
 // The offset after what was walked, and the flags.
 pub struct Uses {
     pub next: usize,
-    pub free: [bool; VARIABLES],
+    pub free: [bool; VARIABLE_LIMIT],
 }
 
 // Ruled out: a hidden variable flagged; a constant's number flagged as a variable.
@@ -21,8 +21,8 @@ pub fn name_uses(
     terms: usize,
     at: usize,
     left: u8,
-    hidden: [bool; VARIABLES],
-    free: [bool; VARIABLES],
+    hidden: [bool; VARIABLE_LIMIT],
+    free: [bool; VARIABLE_LIMIT],
 ) -> Uses
     requires { ⌜ Loads (readName (now script) terms left at) ⌝ }
     ensures { λ r. ⌜ Walked (λ n. r .free ≡ withUses hidden free (λ v. inName v n)) (readName (now (script .entry)) terms left at) (r .next) ⌝ }
@@ -49,8 +49,8 @@ pub fn expr_uses(
     terms: usize,
     at: usize,
     left: u8,
-    hidden: [bool; VARIABLES],
-    free: [bool; VARIABLES],
+    hidden: [bool; VARIABLE_LIMIT],
+    free: [bool; VARIABLE_LIMIT],
 ) -> Uses
     requires { ⌜ Loads (readExpr (now script) terms left at) ⌝ }
     ensures { λ r. ⌜ Walked (λ e. r .free ≡ withUses hidden free (λ v. inExpr v e)) (readExpr (now (script .entry)) terms left at) (r .next) ⌝ }
@@ -83,8 +83,8 @@ pub fn cond_uses(
     terms: usize,
     at: usize,
     left: u8,
-    hidden: [bool; VARIABLES],
-    free: [bool; VARIABLES],
+    hidden: [bool; VARIABLE_LIMIT],
+    free: [bool; VARIABLE_LIMIT],
 ) -> Uses
     requires { ⌜ Loads (readCond (now script) terms left at) ⌝ }
     ensures { λ r. ⌜ Walked (λ b. r .free ≡ withUses hidden free (λ v. inCond v b)) (readCond (now (script .entry)) terms left at) (r .next) ⌝ }
@@ -134,8 +134,8 @@ pub fn query_uses(
     terms: usize,
     at: usize,
     left: u8,
-    hidden: [bool; VARIABLES],
-    free: [bool; VARIABLES],
+    hidden: [bool; VARIABLE_LIMIT],
+    free: [bool; VARIABLE_LIMIT],
 ) -> Uses
     requires { ⌜ Loads (readQuery (now script) terms left at) ⌝ }
     ensures { λ r. ⌜ Walked (λ q. r .free ≡ withUses hidden free (λ v. inQuery v q)) (readQuery (now (script .entry)) terms left at) (r .next) ⌝ }

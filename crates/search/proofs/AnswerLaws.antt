@@ -8,14 +8,15 @@ use mathlib.Core.Option.{none}
 use lib.Dec.{T, eqb, eqb→eq, eqb-refl}
 use lib.ListN.{length, getD, set}
 use lib.Seq.{getD-set-same, getD-set-other}
-use Rattle.definitions.specs.Bytes.{signed}
 use Rattle.definitions.specs.Lists.{isIn}
 use Rattle.definitions.specs.Outcome.{ok}
-use Rattle.definitions.specs.Evaluate.{Bindings, Quad}
+use Rattle.definitions.specs.Evaluate.{Bindings}
 use Rattle.query.specs.Seek.{clear, find, fastAnswer}
 use Rattle.query.specs.Codes.{freeCode, numberAt, bindingsOf}
+use Rattle.query.specs.declared.Context.{Context}
+use Rattle.query.specs.StoreLent.{settingIn}
 use Rattle.search.specs.Ready.{Ready}
-use Rattle.search.specs.Finding.{numbersFrom, tupleOf, lastOf, Level, FindOf, AnswerOf}
+use Rattle.search.specs.Finding.{numbersFrom, tupleOf, lastOf, World, setting, ReadyFor, FindOf, AnswerOf}
 use Rattle.search.specs.declared.Block.{Block}
 use Rattle.search.specs.declared.Found.{Found}
 use Rattle.search.proofs.FastAnswer.{distinct-once, fast-answer}
@@ -61,42 +62,19 @@ clear-start vars size γ = let e : size - 0 ≡ size = omega arith in rw e refl
 
 -- ── the answer ──────────────────────────────────────────────────────────────────────────────
 
-module _ (script : List ℕ) (loaded : ℕ) (block : Block) (table leasts known opened : List ℕ) (clock : ℕ) (rows : List Quad) (started : Bool)
+module _ {script table quads leasts : List ℕ} {x : Context} {block : Block} (w : World script table quads leasts x block) (known opened : List ℕ) (started : Bool)
     (cleared : bindingsOf opened ≡ clear (numbersFrom (block .size) (block .vars) 0) (bindingsOf known)) where
-  pub answer-is : (r : Found) → FindOf script loaded block table leasts opened clock rows 0 started r
-      → AnswerOf script loaded block table leasts known clock rows started r
-  unfolding fastAnswer
-  answer-is r h w apart ready =
+  pub answer-is : (r : Found) → FindOf w opened 0 started r → AnswerOf w known started r
+  unfolding fastAnswer settingIn
+  answer-is r h apart ready =
       let vs = numbersFrom (block .size) (block .vars) 0 in
       let all : block .size - 0 ≡ block .size = omega arith in
-      let r₁ : Ready (w .schema) (w .typing) (w .terms) (bindingsOf opened) vs (w .tree) =
+      let last = lastOf started (block .last) 0 (block .size) in
+      let r₁ : ReadyFor w opened vs =
       subst⁻¹ (λ (δ : Bindings). Ready (w .schema) (w .typing) (w .terms) δ vs (w .tree)) cleared
-      (ready-clear (w .schema) (w .typing) (signed clock) (w .terms) rows (bindingsOf known) (w .tree) vs ready) in
-      let found : tupleOf r 0 (block .size)
-      ≡ find (w .schema) (w .typing) (signed clock) (w .terms) rows (w .tree) vs (bindingsOf opened) (lastOf started (block .last) 0 (block .size)) =
-      subst (λ (n : ℕ). Ready (w .schema) (w .typing) (w .terms) (bindingsOf opened) (numbersFrom n (block .vars) 0) (w .tree)
-      → tupleOf r 0 n ≡ find (w .schema) (w .typing) (signed clock) (w .terms) rows (w .tree) (numbersFrom n (block .vars) 0) (bindingsOf opened)
-      (lastOf started (block .last) 0 n)) all (h w) r₁ in
-      fast-answer (w .schema) (w .typing) (signed clock) (w .terms) rows (bindingsOf known) vs (distinct-once vs apart) (w .tree) ready
-      (lastOf started (block .last) 0 (block .size))
-      ∙ ap ok (sym (found ∙ ap (λ (δ : Bindings). find (w .schema) (w .typing) (signed clock) (w .terms) rows (w .tree) vs δ
-      (lastOf started (block .last) 0 (block .size))) cleared))
-
-pub level-opened : {script : List ℕ} {loaded : ℕ} {block : Block} {table leasts known opened : List ℕ} {count clock : ℕ} {quads : List ℕ} {n k : ℕ}
-    → Level script loaded block table leasts known count clock quads n k → length opened ≡ 16 → Level script loaded block table leasts opened count clock quads n k
-level-opened p h = record {
-  loads = p .loads;
-  lent = record {
-    terms = p .lent .terms;
-    tabled = p .lent .tabled;
-    counted = p .lent .counted;
-    size = p .lent .size;
-    variables = h;
-    clocked = p .lent .clocked;
-  };
-  rows = p .rows;
-  leastOfEach = p .leastOfEach;
-  size = p .size;
-  within = p .within;
-  small = p .small;
-}
+      (ready-clear (w .schema) (w .typing) (w .terms) (bindingsOf known) (w .tree) vs ready) in
+      let found : tupleOf r 0 (block .size) ≡ find (setting w) (w .typing) (w .terms) (w .rows) (w .tree) vs (bindingsOf opened) last =
+      subst (λ (n : ℕ). ReadyFor w opened (numbersFrom n (block .vars) 0)
+      → tupleOf r 0 n ≡ find (setting w) (w .typing) (w .terms) (w .rows) (w .tree) (numbersFrom n (block .vars) 0) (bindingsOf opened) (lastOf started (block .last) 0 n)) all h r₁ in
+      fast-answer (setting w) (w .typing) (w .terms) (w .rows) (bindingsOf known) vs (distinct-once vs apart) (w .tree) ready last
+      ∙ ap ok (sym (found ∙ ap (λ (δ : Bindings). find (setting w) (w .typing) (w .terms) (w .rows) (w .tree) vs δ last) cleared))

@@ -1,32 +1,32 @@
 -- A block on top of the stack of a sound state: its search is ready, and what the search finds is the machine's answer.
-use Prim.Native.Nat.{ℕ, _<_}
+use Prim.Native.Nat.{ℕ, _≤_, _<_}
 use mathlib.Core.Path.{_≡_, subst}
 use mathlib.Core.List.{List, [], _∷_, _++_}
 use mathlib.Core.Bool.{Bool, not, _||_}
 use mathlib.Core.Option.{some}
 use lib.Dec.{T, eqb}
-use lib.ListN.{length, getD, getElem?}
+use lib.ListN.{length, getD}
+use Rattle.definitions.specs.Limits.{variableLimit, pairLimit}
 use Rattle.definitions.specs.Bytes.{signed}
 use Rattle.definitions.specs.Lists.{every, distinct, isIn}
 use Rattle.definitions.specs.Types.{typeOfCode}
-use Rattle.definitions.specs.Terms.{Term, sortOf}
 use Rattle.definitions.specs.Tree.{Binder, Query, Script, block}
 use Rattle.definitions.specs.Scope.{variables, variablesOf, inQuery, isFree, bindersOf, inScope}
 use Rattle.definitions.specs.Reading.{readQuery}
 use Rattle.definitions.specs.Typing.{typeAt, queryTyped, scriptTyped}
 use Rattle.definitions.specs.Outcome.{ok}
-use Rattle.definitions.specs.Evaluate.{Bindings, Quad}
+use Rattle.definitions.specs.Evaluate.{Bindings}
 use Rattle.definitions.specs.Search.{answer}
 use Rattle.definitions.specs.Machine.{Item, State, answerNow}
-use Rattle.definitions.specs.Saved.{termsIn}
-use Rattle.definitions.specs.Calls.{Checked, constantsOf}
+use Rattle.definitions.specs.Calls.{Checked, constantsOf, settingOf}
 use Rattle.laws.proofs.Tests.{andLeft, andRight, andMake, orLeft}
-use Rattle.laws.specs.Sorts.{least}
 use Rattle.laws.specs.Bindings.{BoundIn}
 use Rattle.laws.proofs.Places.{At, inherits, bounded-at, typed-at}
 use Rattle.laws.specs.Sound.{Accepted, Sound}
 use Rattle.laws.proofs.SoundMeans.{ItemFacts, StackFacts, facts}
 use Rattle.query.specs.Codes.{bindingsOf}
+use Rattle.query.specs.declared.Context.{Context}
+use Rattle.query.specs.StoreLent.{settingIn, Told, StoreLent}
 use Rattle.search.specs.Ready.{Ready}
 use Rattle.search.specs.Finding.{numbersFrom, tupleOf, lastOf, World, AnswerOf}
 use Rattle.search.specs.declared.Block.{Block}
@@ -102,36 +102,42 @@ module _ (c : Checked) (accepted : Accepted c) (s : State) (sound : Sound c s) w
     ready : Ready (c .schema) (typeAt (c .types)) (s .store .terms) (s .control .bindings) (variablesOf bs) q
     ready = block-ready placed (subst (λ (x : Script). BoundIn (s .control .bindings) (λ v. isFree v x)) is (top .bound))
 
-    module _ (script : List ℕ) (loaded : ℕ) (b : Block) (table leasts known : List ℕ) (clock : ℕ) (rows : List Quad) (started : Bool) (r : Found) (next : ℕ)
-        (tabled : termsIn table ≡ some (s .store .terms)) (read : readQuery script loaded (b .left) (b .«at») ≡ some (q, next))
-        (leastOfEach : (i : ℕ) (t : Term) → getElem? (s .store .terms) i ≡ some t → typeOfCode (getD leasts i 0) ≡ some (least (sortOf (c .schema) t)))
-        (typeOfEach : (k : ℕ) → k < b .size → typeOfCode (getD (b .types) k 0) ≡ some (typeAt (c .types) (getD (b .vars) k 0)))
-        (variablesAre : numbersFrom (b .size) (b .vars) 0 ≡ variablesOf bs) (bindingsAre : bindingsOf known ≡ s .control .bindings)
-        (quadsAre : rows ≡ s .store .quads) where
-      pub answer-now : AnswerOf script loaded b table leasts known clock rows started r
-          → answerNow (c .schema) (typeAt (c .types)) (signed clock) s (variablesOf bs) q (lastOf started (b .last) 0 (b .size)) ≡ ok (tupleOf r 0 (b .size))
-      answer-now h =
-          let w : World script loaded b table leasts = record {
+    module _ (script : List ℕ) {table quads leasts : List ℕ} {x : Context} (told : Told x) (lent : StoreLent table quads leasts x (c .schema) (s .store .terms) (s .store .quads))
+        (b : Block) (next : ℕ) (read : readQuery script (x .loaded) (b .left) (b .«at») ≡ some (q, next)) (size : b .size ≤ pairLimit)
+        (small : (j : ℕ) → getD (b .vars) j 0 < variableLimit)
+        (types : (k : ℕ) → k < b .size → typeOfCode (getD (b .types) k 0) ≡ some (typeAt (c .types) (getD (b .vars) k 0))) where
+      -- what is lent stands for
+      abbrev pub world : World script table quads leasts x b
+      world =
+          record {
             schema = c .schema;
             typing = typeAt (c .types);
             terms = s .store .terms;
+            rows = s .store .quads;
             tree = q;
             next = next;
-            tabled = tabled;
+            told = told;
+            lent = lent;
             read = read;
-            least = leastOfEach;
-            types = typeOfEach;
-          } in
-          moved variablesAre bindingsAre quadsAre (h w)
-        where
-          Given : List ℕ → Bindings → List Quad → Type 0
-          Given vs β quads =
-              T (distinct eqb vs) → Ready (c .schema) (typeAt (c .types)) (s .store .terms) β vs q
-              → answer (c .schema) (typeAt (c .types)) (signed clock) (s .store .terms) quads β vs q (lastOf started (b .last) 0 (b .size)) ≡ ok (tupleOf r 0 (b .size))
+            types = types;
+            size = size;
+            small = small;
+          }
 
-          moved : {vs : List ℕ} {β : Bindings} {quads : List Quad} → vs ≡ variablesOf bs → β ≡ s .control .bindings → quads ≡ s .store .quads → Given vs β quads
-              → answerNow (c .schema) (typeAt (c .types)) (signed clock) s (variablesOf bs) q (lastOf started (b .last) 0 (b .size)) ≡ ok (tupleOf r 0 (b .size))
-          moved {vs} {β} {quads} ev eb eq g =
-              let g₁ : Given (variablesOf bs) β quads = subst (λ (x : List ℕ). Given x β quads) ev g in
-              let g₂ : Given (variablesOf bs) (s .control .bindings) quads = subst (λ (x : Bindings). Given (variablesOf bs) x quads) eb g₁ in
-              subst (Given (variablesOf bs) (s .control .bindings)) eq g₂ (block-apart scope placed) ready
+      module _ (known : List ℕ) (started : Bool) (r : Found) (variablesAre : numbersFrom (b .size) (b .vars) 0 ≡ variablesOf bs)
+          (bindingsAre : bindingsOf known ≡ s .control .bindings) where
+        pub answer-now : AnswerOf world known started r
+            → answerNow (settingOf c (signed (x .clock))) (typeAt (c .types)) s (variablesOf bs) q (lastOf started (b .last) 0 (b .size)) ≡ ok (tupleOf r 0 (b .size))
+        unfolding settingIn
+        answer-now h = moved variablesAre bindingsAre h
+          where
+            Given : List ℕ → Bindings → Type 0
+            Given vs β =
+                T (distinct eqb vs) → Ready (c .schema) (typeAt (c .types)) (s .store .terms) β vs q
+                → answer (settingOf c (signed (x .clock))) (typeAt (c .types)) (s .store .terms) (s .store .quads) β vs q (lastOf started (b .last) 0 (b .size)) ≡ ok (tupleOf r 0 (b .size))
+
+            moved : {vs : List ℕ} {β : Bindings} → vs ≡ variablesOf bs → β ≡ s .control .bindings → Given vs β
+                → answerNow (settingOf c (signed (x .clock))) (typeAt (c .types)) s (variablesOf bs) q (lastOf started (b .last) 0 (b .size)) ≡ ok (tupleOf r 0 (b .size))
+            moved {vs} {β} ev eb g =
+                let g₁ : Given (variablesOf bs) β = subst (λ (y : List ℕ). Given y β) ev g in
+                subst (Given (variablesOf bs)) eb g₁ (block-apart scope placed) ready

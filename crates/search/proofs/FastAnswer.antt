@@ -8,13 +8,12 @@ use mathlib.Core.Bool.{Bool, true, false, cond, not, _||_}
 use mathlib.Core.Option.{Option, none, some}
 use lib.Dec.{T, eqb, ltb, eqb→eq, eqb-refl, lt→ltb, T-not}
 use lib.ListN.{length}
-use lib.IntN.{ℤ}
 use Rattle.definitions.specs.Lists.{isIn, every, distinct}
 use Rattle.definitions.specs.Terms.{Term, Schema}
 use Rattle.definitions.specs.Tree.{Query}
 use Rattle.definitions.specs.Outcome.{ok}
 use Rattle.definitions.specs.Values.{before}
-use Rattle.definitions.specs.Evaluate.{Bindings, Quad, query}
+use Rattle.definitions.specs.Evaluate.{Setting, Bindings, Quad, query}
 use Rattle.definitions.specs.Search.{Typing, Tuple, earlier, bind, answer}
 use Rattle.laws.proofs.Tests.{andLeft, andRight, andMake, orLeft, orRight, orCases, by-test, isTrue, isFalse}
 use Rattle.laws.proofs.Options.{some-not-none}
@@ -108,31 +107,31 @@ module _ (S : Schema) (Γ : Typing) (terms : List Term) where
 
 -- ── one level ───────────────────────────────────────────────────────────────────────────────
 
-module _ (S : Schema) (Γ : Typing) (clock : ℤ) (terms : List Term) (quads : List Quad) (q : Query) where
+module _ (σ : Setting) (Γ : Typing) (terms : List Term) (quads : List Quad) (q : Query) where
   abbrev holds : Bindings → Bool
-  holds δ = passes (query S clock terms quads δ q)
+  holds δ = passes (query σ terms quads δ q)
 
   abbrev least : Bindings → ℕ → ℕ → ℕ
-  least γ v lo = seek S clock terms quads γ v q lo
+  least γ v lo = seek σ terms quads γ v q lo
 
   abbrev Good : List ℕ → Bindings → Option Tuple → Tuple → Type 0
-  Good vs γ last t = Fits S Γ terms vs t × T (isAfter last t) × T (holds (bind vs t γ))
+  Good vs γ last t = Fits (σ .schema) Γ terms vs t × T (isAfter last t) × T (holds (bind vs t γ))
 
   -- where a variable has a number that passes, two passes of the seek stay below the end
   module _ (γ δ : Bindings) (u : Under γ δ) (p : T (holds δ)) where
-    seek-has : (w : ℕ) → Has S Γ terms δ w → T (ltb (least γ w (least γ w zero)) (length terms))
+    seek-has : (w : ℕ) → Has (σ .schema) Γ terms δ w → T (ltb (least γ w (least γ w zero)) (length terms))
     seek-has w h =
         let j = h .number in
-        let a : least γ w zero ≤ j = seek-reaches S clock terms quads γ w δ u j (h .is) q zero (omega arith) p in
-        let b : least γ w (least γ w zero) ≤ j = seek-reaches S clock terms quads γ w δ u j (h .is) q (least γ w zero) a p in
+        let a : least γ w zero ≤ j = seek-reaches σ terms quads γ w δ u j (h .is) q zero (omega arith) p in
+        let b : least γ w (least γ w zero) ≤ j = seek-reaches σ terms quads γ w δ u j (h .is) q (least γ w zero) a p in
         let l = h .small in
         lt→ltb (least γ w (least γ w zero)) (length terms) (omega arith)
 
-    hopeful-true : (ws : List ℕ) → ((w : ℕ) → T (isIn w ws) → Has S Γ terms δ w) → T (hopeful S Γ clock terms quads q γ ws)
+    hopeful-true : (ws : List ℕ) → ((w : ℕ) → T (isIn w ws) → Has (σ .schema) Γ terms δ w) → T (hopeful σ Γ terms quads q γ ws)
     unfolding hopeful
     hopeful-true [] h = tt
     hopeful-true (w ∷ ws) h =
-        andMake (ltb (least γ w (least γ w zero)) (length terms)) (hopeful S Γ clock terms quads q γ ws)
+        andMake (ltb (least γ w (least γ w zero)) (length terms)) (hopeful σ Γ terms quads q γ ws)
         (seek-has w (h w (orLeft (eqb w w) (isIn w ws) (eqb-refl w)))) (hopeful-true ws (λ x m. h x (orRight (eqb x w) (isIn x ws) m)))
 
   ahead-in : (w : ℕ) (last : Option Tuple) (vs : List ℕ) → T (isIn w (ahead last vs)) → T (isIn w vs)
@@ -142,19 +141,19 @@ module _ (S : Schema) (Γ : Typing) (clock : ℤ) (terms : List Term) (quads : L
 
   module _ (γ : Bindings) (v : ℕ) where
     abbrev step : ℕ → ℕ
-    step lo = next S Γ clock terms quads q γ v lo
+    step lo = next σ Γ terms quads q γ v lo
 
     pub next-floor : (lo : ℕ) → step lo < length terms → lo ≤ step lo
     unfolding next
     next-floor lo h =
         let i = least γ v lo in
-        let a = seek-floor S clock terms quads γ v (min lo (length terms)) (omega arith) q lo (omega arith) in
-        let b = skip-floor S (Γ v) terms (length terms - i) i in
+        let a = seek-floor σ terms quads γ v (min lo (length terms)) (omega arith) q lo (omega arith) in
+        let b = skip-floor (σ .schema) (Γ v) terms (length terms - i) i in
         omega arith
 
-    pub next-holds : (lo : ℕ) → step lo < length terms → Holds S terms (step lo) (Γ v)
+    pub next-holds : (lo : ℕ) → step lo < length terms → Holds (σ .schema) terms (step lo) (Γ v)
     unfolding next
-    next-holds lo h = test-holds S terms (Γ v) _ (skip-typed S (Γ v) terms (length terms - least γ v lo) (least γ v lo) (omega arith) h)
+    next-holds lo h = test-holds (σ .schema) terms (Γ v) _ (skip-typed (σ .schema) (Γ v) terms (length terms - least γ v lo) (least γ v lo) (omega arith) h)
 
   module _ (v : ℕ) (vs : List ℕ) (d : T (isIn v vs) → ⊥) (γ : Bindings) (c : Cleared (v ∷ vs) γ) (last : Option Tuple) where
     bound-here : (j : ℕ) (t : Tuple) → bind (v ∷ vs) (j ∷ t) γ v ≡ some j
@@ -168,30 +167,30 @@ module _ (S : Schema) (Γ : Typing) (clock : ℤ) (terms : List Term) (quads : L
     narrow : (i : ℕ) (t : Tuple) → Good (v ∷ vs) γ last (i ∷ t) → Good vs (set v i γ) (restOf last i) t
     narrow i t g = (g .0 .1, after-rest last i t (g .1), subst (λ δ. T (holds δ)) (later i t) (g .2))
 
-    widen : (i : ℕ) → Holds S terms i (Γ v) → startAt last ≤ i → (t : Tuple) → Good vs (set v i γ) (restOf last i) t → Good (v ∷ vs) γ last (i ∷ t)
+    widen : (i : ℕ) → Holds (σ .schema) terms i (Γ v) → startAt last ≤ i → (t : Tuple) → Good vs (set v i γ) (restOf last i) t → Good (v ∷ vs) γ last (i ∷ t)
     widen i h l t g = ((h, g .0), after-both last i t l (g .1), subst⁻¹ (λ δ. T (holds δ)) (later i t) (g .2))
 
     next-reaches : (lo j : ℕ) (t : Tuple) → lo ≤ j → Good (v ∷ vs) γ last (j ∷ t) → step γ v lo ≤ j
     unfolding next
     next-reaches lo j t l g =
-        skip-reaches S (Γ v) terms _ (least γ v lo) j
-        (seek-reaches S clock terms quads γ v (bind (v ∷ vs) (j ∷ t) γ) (under-bind (v ∷ vs) (j ∷ t) γ c) j (bound-here j t) q lo l (g .2))
-        (holds-test S terms (Γ v) j (g .0 .0))
+        skip-reaches (σ .schema) (Γ v) terms _ (least γ v lo) j
+        (seek-reaches σ terms quads γ v (bind (v ∷ vs) (j ∷ t) γ) (under-bind (v ∷ vs) (j ∷ t) γ c) j (bound-here j t) q lo l (g .2))
+        (holds-test (σ .schema) terms (Γ v) j (g .0 .0))
 
     abbrev asked : ℕ → List ℕ
     asked i = ahead (restOf last i) vs
 
-    no-hope : (i : ℕ) → T (not (hopeful S Γ clock terms quads q (set v i γ) (asked i))) → (t : Tuple) → Good (v ∷ vs) γ last (i ∷ t) → ⊥
+    no-hope : (i : ℕ) → T (not (hopeful σ Γ terms quads q (set v i γ) (asked i))) → (t : Tuple) → Good (v ∷ vs) γ last (i ∷ t) → ⊥
     no-hope i n t g =
         let k = narrow i t g in
-        T-not (hopeful S Γ clock terms quads q (set v i γ) (asked i)) n
+        T-not (hopeful σ Γ terms quads q (set v i γ) (asked i)) n
         (hopeful-true (set v i γ) (bind vs t (set v i γ)) (under-bind vs t (set v i γ) (cleared-set v i vs γ d c)) (k .2) (asked i)
-        (λ w m. tuple-has S Γ terms vs t (set v i γ) (k .0) w (ahead-in w (restOf last i) vs m)))
+        (λ w m. tuple-has (σ .schema) Γ terms vs t (set v i γ) (k .0) w (ahead-in w (restOf last i) vs m)))
 
   -- ── the levels ────────────────────────────────────────────────────────────────────────────
 
   pub find-first : (vs : List ℕ) → Once vs → (γ : Bindings) → Cleared vs γ → (last : Option Tuple)
-      → First (Good vs γ last) (find S Γ clock terms quads q vs γ last)
+      → First (Good vs γ last) (find σ Γ terms quads q vs γ last)
   unfolding find bind before
   find-first [] o γ c none = by-test (First (Good [] γ none)) (holds γ) (some []) none (λ p. ((tt, tt, p), least-one)) out
     where
@@ -225,10 +224,10 @@ module _ (S : Schema) (Γ : Typing) (clock : ℤ) (terms : List Term) (quads : L
       (length terms) (omega arith) (λ j t g. after-start last j t (g .1))
     where
       hope : ℕ → Bool
-      hope i = hopeful S Γ clock terms quads q (set v i γ) (ahead (restOf last i) vs)
+      hope i = hopeful σ Γ terms quads q (set v i γ) (ahead (restOf last i) vs)
 
       rest : ℕ → Option Tuple
-      rest i = find S Γ clock terms quads q vs (set v i γ) (restOf last i)
+      rest i = find σ Γ terms quads q vs (set v i γ) (restOf last i)
 
       body : ℕ → Option Tuple
       body i = cond (hope i) (rest i) none
@@ -247,19 +246,19 @@ distinct-once (v ∷ vs) h =
         let e = andLeft (not (eqb v w)) (every (λ y. not (eqb v y)) ws) h in
         ⊎-elim (T-not (eqb v w) e) (apart ws (andRight (not (eqb v w)) (every (λ y. not (eqb v y)) ws) h)) (orCases (eqb v w) (isIn v ws) m)
 
-module _ (S : Schema) (Γ : Typing) (clock : ℤ) (terms : List Term) (quads : List Quad) (β : Bindings) (vs : List ℕ) (once : Once vs) (q : Query)
-    (ready : Ready S Γ terms β vs q) where
+module _ (σ : Setting) (Γ : Typing) (terms : List Term) (quads : List Quad) (β : Bindings) (vs : List ℕ) (once : Once vs) (q : Query)
+    (ready : Ready (σ .schema) Γ terms β vs q) where
   clear-cleared : Cleared vs (clear vs β)
   clear-cleared x m = rw (isTrue (isIn x vs) m) refl
 
-  clear-bind : (t : Tuple) → Fits S Γ terms vs t → bind vs t (clear vs β) ≡ bind vs t β
-  clear-bind t h = fun-ext λ x. covered-bind S Γ terms vs t h (clear vs β) β x (λ k. rw (isFalse (isIn x vs) k) refl)
+  clear-bind : (t : Tuple) → Fits (σ .schema) Γ terms vs t → bind vs t (clear vs β) ≡ bind vs t β
+  clear-bind t h = fun-ext λ x. covered-bind (σ .schema) Γ terms vs t h (clear vs β) β x (λ k. rw (isFalse (isIn x vs) k) refl)
 
-  pub fast-answer : (last : Option Tuple) → answer S Γ clock terms quads β vs q last ≡ ok (fastAnswer S Γ clock terms quads q β vs last)
+  pub fast-answer : (last : Option Tuple) → answer σ Γ terms quads β vs q last ≡ ok (fastAnswer σ Γ terms quads q β vs last)
   unfolding fastAnswer
   fast-answer last =
-      answer-first S Γ clock terms quads β vs q ready last (find S Γ clock terms quads q vs (clear vs β) last)
-      (first-map (Good S Γ clock terms quads q vs (clear vs β) last) (GoodAnswer S Γ clock terms quads β vs q ready last)
-      (λ u g. (g .0, g .1, subst (λ δ. T (passes (query S clock terms quads δ q))) (clear-bind u (g .0)) (g .2)))
-      (λ u g. (g .0, g .1, subst⁻¹ (λ δ. T (passes (query S clock terms quads δ q))) (clear-bind u (g .0)) (g .2)))
-      (find S Γ clock terms quads q vs (clear vs β) last) (find-first S Γ clock terms quads q vs once (clear vs β) clear-cleared last))
+      answer-first σ Γ terms quads β vs q ready last (find σ Γ terms quads q vs (clear vs β) last)
+      (first-map (Good σ Γ terms quads q vs (clear vs β) last) (GoodAnswer σ Γ terms quads β vs q ready last)
+      (λ u g. (g .0, g .1, subst (λ δ. T (passes (query σ terms quads δ q))) (clear-bind u (g .0)) (g .2)))
+      (λ u g. (g .0, g .1, subst⁻¹ (λ δ. T (passes (query σ terms quads δ q))) (clear-bind u (g .0)) (g .2)))
+      (find σ Γ terms quads q vs (clear vs β) last) (find-first σ Γ terms quads q vs once (clear vs β) clear-cleared last))

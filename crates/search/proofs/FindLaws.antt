@@ -7,25 +7,27 @@ use mathlib.Core.List.{List, [], _∷_}
 use mathlib.Core.Bool.{Bool, true, false, cond, _&&_}
 use mathlib.Core.Option.{Option, none, some}
 use lib.Dec.{T, eqb, ltb, eqb→eq}
-use lib.ListN.{length, getD, set, length-set}
+use lib.ListN.{length, getD, set}
 use lib.Seq.{getD-set-same, getD-set-other}
 use borrow.Author.Tests.{lt-ltb, le-ltb}
-use Rattle.definitions.specs.Bytes.{signed}
+use Rattle.definitions.specs.Limits.{variableLimit}
+use Rattle.definitions.specs.Tree.{Query}
 use Rattle.definitions.specs.Reading.{readQuery}
 use Rattle.definitions.specs.Evaluate.{Bindings, Quad, query}
 use Rattle.definitions.specs.Search.{Tuple}
 use Rattle.laws.proofs.Ranges.{split}
-use Rattle.laws.proofs.Options.{same-some}
 use Rattle.laws.proofs.Reading.{same-read}
-use Rattle.laws.specs.Walks.{Walked}
+use Rattle.laws.specs.Walks.{Loads, Walked}
 use Rattle.laws.proofs.NoFault.{fine-ok}
 use Rattle.laws.specs.Bindings.{Holds}
 use Rattle.query.specs.Seek.{passes, seek, skip, set as bindTo, restOf, tries, ahead, next, hopeful, find}
 use Rattle.query.specs.Codes.{soughtCode, freeCode, numberAt, bindingsOf}
+use Rattle.query.specs.declared.Context.{Context}
+use Rattle.query.specs.StoreLent.{settingIn, rowsOf}
 use Rattle.query.specs.Eval.{Lent, HoldsOf}
 use Rattle.search.specs.Seeking.{SeekOf}
 use Rattle.search.specs.Ready.{Ready}
-use Rattle.search.specs.Finding.{numbersFrom, tupleOf, lastOf, skipTypes, Level, World, later, NextOf, HopeAt, HopeOf, FindOf}
+use Rattle.search.specs.Finding.{numbersFrom, tupleOf, lastOf, skipTypes, World, later, setting, ReadyFor, NextOf, HopeAt, hopeFrom, HopeOf, findFrom, FindOf}
 use Rattle.search.specs.declared.Block.{Block}
 use Rattle.search.specs.declared.Found.{Found}
 use Rattle.query.proofs.Outcomes.{ok-passes}
@@ -50,61 +52,17 @@ module _ (known : List ℕ) (v i : ℕ) (inside : v < length known) (small : i <
           go true e f = rw (e tt, getD-set-same known v i freeCode inside, lt-ltb i soughtCode small) refl
           go false e f = rw (getD-set-other known v x i freeCode (λ e. f e)) refl
 
-pub lent-set : {table known : List ℕ} {count clock : ℕ} (v i : ℕ) → Lent table known count clock → Lent table (set known v i) count clock
-lent-set {table} {known} v i l = record {
-  terms = l .terms;
-  tabled = l .tabled;
-  counted = l .counted;
-  size = l .size;
-  variables = length-set known v i ∙ l .variables;
-  clocked = l .clocked;
-}
+-- ── what is lent to the search ──────────────────────────────────────────────────────────────
 
--- the same at another level
-pub level-at : {script : List ℕ} {loaded : ℕ} {block : Block} {table leasts known : List ℕ} {count clock : ℕ} {quads : List ℕ} {n k j : ℕ}
-    → Level script loaded block table leasts known count clock quads n k → j ≤ block .size → Level script loaded block table leasts known count clock quads n j
-level-at p h = record {
-  loads = p .loads;
-  lent = p .lent;
-  rows = p .rows;
-  leastOfEach = p .leastOfEach;
-  size = p .size;
-  within = h;
-  small = p .small;
-}
+module _ {script table quads leasts : List ℕ} {x : Context} {block : Block} (w : World script table quads leasts x block) where
+  pub loads-here : Loads (readQuery script (x .loaded) (block .left) (block .«at»))
+  loads-here = (w .tree, w .next, w .read)
 
--- and with one more variable known
-pub level-set : {script : List ℕ} {loaded : ℕ} {block : Block} {table leasts known : List ℕ} {count clock : ℕ} {quads : List ℕ} {n k j : ℕ}
-    → Level script loaded block table leasts known count clock quads n k → (v i : ℕ) → j ≤ block .size
-    → Level script loaded block table leasts (set known v i) count clock quads n j
-level-set p v i h = record {
-  loads = p .loads;
-  lent = lent-set v i (p .lent);
-  rows = p .rows;
-  leastOfEach = p .leastOfEach;
-  size = p .size;
-  within = h;
-  small = p .small;
-}
+  pub lent-here : (known : List ℕ) → length known ≡ variableLimit → Lent table known x
+  lent-here known h = record { terms = w .terms; tabled = w .lent .tabled; told = w .told; variables = h }
 
-module _ (script : List ℕ) (loaded : ℕ) (block : Block) (table leasts known : List ℕ) (clock : ℕ) (rows : List Quad) where
-  abbrev Told : Type 0
-  Told = World script loaded block table leasts
-
-  abbrev γ : Bindings
-  γ = bindingsOf known
-
-  -- what is lent is ready for the variables vs
-  abbrev ReadyFor : Told → List ℕ → Type 0
-  ReadyFor w vs = Ready (w .schema) (w .typing) (w .terms) γ vs (w .tree)
-
-  abbrev nextAt : Told → ℕ → ℕ → ℕ
-  nextAt w v lo = next (w .schema) (w .typing) (signed clock) (w .terms) rows (w .tree) γ v lo
-
-  abbrev findAt : Told → List ℕ → Bindings → Option Tuple → Option Tuple
-  findAt w vs δ o = find (w .schema) (w .typing) (signed clock) (w .terms) rows (w .tree) vs δ o
-
-  -- ── a level's loop ────────────────────────────────────────────────────────────────────────
+  counted : x .count ≡ length (w .terms)
+  counted = sym (w .lent .tabled .counted)
 
   abbrev vars : List ℕ
   vars = block .vars
@@ -112,193 +70,196 @@ module _ (script : List ℕ) (loaded : ℕ) (block : Block) (table leasts known 
   abbrev size : ℕ
   size = block .size
 
-  module _ (k : ℕ) (tight : Bool) where
-    abbrev lastHere : Option Tuple
-    lastHere = lastOf tight (block .last) k (size - k)
+  module _ (known : List ℕ) where
+    abbrev γ : Bindings
+    γ = bindingsOf known
 
-    abbrev whole : Told → Option Tuple
-    whole w = findAt w (numbersFrom (size - k) vars k) γ lastHere
+    abbrev nextAt : ℕ → ℕ → ℕ
+    nextAt v lo = next (setting w) (w .typing) (w .terms) (w .rows) (w .tree) γ v lo
 
-    -- what the levels after this one find, with number i here
-    abbrev body : Told → ℕ → Option Tuple
-    body w i =
-        let rest = numbersFrom (size - (k + 1)) vars (k + 1) in
-        let δ = bindTo (getD vars k 0) i γ in
-        cond (hopeful (w .schema) (w .typing) (signed clock) (w .terms) rows (w .tree) δ (ahead (restOf lastHere i) rest)) (findAt w rest δ (restOf lastHere i)) none
+    abbrev findAt : List ℕ → Bindings → Option Tuple → Option Tuple
+    findAt vs δ o = find (setting w) (w .typing) (w .terms) (w .rows) (w .tree) vs δ o
 
-    abbrev pub level : Told → ℕ → Option Tuple
-    level w lo = tries (body w) (nextAt w (getD vars k 0)) (length (w .terms)) (length (w .terms)) lo
+    abbrev seekAt : ℕ → ℕ → ℕ
+    seekAt v lo = seek (setting w) (w .terms) (w .rows) γ v (w .tree) lo
 
-    -- the level from lo on gives the result
-    abbrev pub SoFar : ℕ → Type 0
-    SoFar lo = (w : Told) → ReadyFor w (numbersFrom (size - k) vars k) → whole w ≡ level w lo
-
-  module _ (count : ℕ) (l : Lent table known count clock) where
-    counted : (w : Told) → count ≡ length (w .terms)
-    counted w = sym (l .counted) ∙ ap length (same-some (l .tabled) (w .tabled))
+    -- what a walk over the block's query gives
+    abbrev Sought : (Query → Type 0) → ℕ → Type 0
+    Sought P n = Walked P (readQuery script (x .loaded) (block .left) (block .«at»)) n
 
     -- ── the seek ──────────────────────────────────────────────────────────────────────────────
 
-    seek-is : (v lo : ℕ) {a n : ℕ} → Walked (SeekOf table known count clock rows v lo a) (readQuery script loaded (block .left) (block .«at»)) n
-        → (w : Told) (vs : List ℕ) → ReadyFor w vs → a ≡ seek (w .schema) (signed clock) (w .terms) rows γ v (w .tree) lo
-    seek-is v lo {a} s w vs r =
-        let same : s .tree ≡ w .tree = same-read (s .read) (w .read) .0 in
-        let h : SeekOf table known count clock rows v lo a (w .tree) = subst (SeekOf table known count clock rows v lo a) same (s .holds) in
-        h .1 (w .schema) (w .terms) (w .tabled) (ready-sure (w .schema) (w .typing) (signed clock) (w .terms) rows γ (w .tree) vs r)
+    seek-is : (v lo : ℕ) {a n : ℕ} → Sought (SeekOf table known x (rowsOf quads x) v lo a) n → (vs : List ℕ) → ReadyFor w known vs → a ≡ seekAt v lo
+    unfolding settingIn
+    seek-is v lo {a} s vs r =
+        let h : SeekOf table known x (w .rows) v lo a (w .tree) =
+        subst (λ (rows : List Quad). SeekOf table known x rows v lo a (w .tree)) (w .lent .quadsAre)
+        (subst (SeekOf table known x (rowsOf quads x) v lo a) (same-read (s .read) (w .read) .0) (s .holds)) in
+        h .1 (w .schema) (w .terms) (w .lent .tabled .reads) (ready-sure (setting w) (w .typing) (w .terms) (w .rows) γ (w .tree) vs r)
 
-    module _ (k : ℕ) (below : k < block .size) where
+    module _ (k : ℕ) (below : k < size) where
       abbrev v : ℕ
-      v = getD (block .vars) k 0
+      v = getD vars k 0
 
-      skipped : (w : Told) (i : ℕ) → skipTypes leasts (getD (block .types) k 0) (count - i) i ≡ skip (w .schema) (w .typing v) (w .terms) (length (w .terms) - i) i
+      skipped : (i : ℕ) → skipTypes leasts (getD (block .types) k 0) (x .count - i) i ≡ skip (w .schema) (w .typing v) (w .terms) (length (w .terms) - i) i
       unfolding skipTypes skip
-      skipped w i =
-          let e = counted w in
+      skipped i =
+          let e = counted in
           ⊎-elim
-          (λ h. let z : count - i ≡ 0 = omega arith in let y : length (w .terms) - i ≡ 0 = omega arith in rw (z, y) refl)
+          (λ h. let z : x .count - i ≡ 0 = omega arith in let y : length (w .terms) - i ≡ 0 = omega arith in rw (z, y) refl)
           (λ h. ap (λ n. skipTypes leasts (getD (block .types) k 0) (n - i) i) e
-          ∙ skip-is (w .schema) (w .terms) leasts (w .least) (getD (block .types) k 0) (w .typing v) (w .types k below) (length (w .terms) - i) i (omega arith))
-          (split count i)
+          ∙ skip-is (w .schema) (w .terms) leasts (w .lent .leastOf) (getD (block .types) k 0) (w .typing v) (w .types k below) (length (w .terms) - i) i (omega arith))
+          (split (x .count) i)
 
-      pub next-is : (lo : ℕ) {a n r : ℕ} → Walked (SeekOf table known count clock rows v lo a) (readQuery script loaded (block .left) (block .«at»)) n
-          → r ≡ skipTypes leasts (getD (block .types) k 0) (count - a) a → NextOf script loaded block table leasts known clock rows count k lo r
-      unfolding next
+      pub next-is : (lo : ℕ) {a n r : ℕ} → Sought (SeekOf table known x (rowsOf quads x) v lo a) n
+          → r ≡ skipTypes leasts (getD (block .types) k 0) (x .count - a) a → NextOf w known k lo r
+      unfolding next settingIn
       next-is lo {a} s e = (
-        omega (arith, s .holds .0, skip-low leasts (getD (block .types) k 0) (count - a) a),
-        λ w r.
-            let i = seek-is v lo s w (later script loaded block table leasts known clock rows k) r in
-            e ∙ (skipped w a ∙ ap (λ j. skip (w .schema) (w .typing v) (w .terms) (length (w .terms) - j) j) i),
+        omega (arith, s .holds .0, skip-low leasts (getD (block .types) k 0) (x .count - a) a),
+        λ r.
+            let i = seek-is v lo s (later block k) r in
+            e ∙ (skipped a ∙ ap (λ j. skip (w .schema) (w .typing v) (w .terms) (length (w .terms) - j) j) i),
       )
 
-      pub hope-is : {a b m n : ℕ} → Walked (SeekOf table known count clock rows v 0 a) (readQuery script loaded (block .left) (block .«at»)) m
-          → Walked (SeekOf table known count clock rows v a b) (readQuery script loaded (block .left) (block .«at»)) n
-          → HopeAt script loaded block table leasts known clock rows k (ltb b count)
-      hope-is {a} x y w vs r =
-          ap₂ ltb (seek-is v a y w vs r ∙ ap (seek (w .schema) (signed clock) (w .terms) rows γ v (w .tree)) (seek-is v 0 x w vs r)) (counted w)
+      pub hope-is : {a b m n : ℕ} → Sought (SeekOf table known x (rowsOf quads x) v 0 a) m → Sought (SeekOf table known x (rowsOf quads x) v a b) n
+          → HopeAt w known k (ltb b (x .count))
+      hope-is {a} p q vs r = ap₂ ltb (seek-is v a q vs r ∙ ap (seekAt v) (seek-is v 0 p vs r)) counted
 
       -- the first pass finds none, so the second finds none
-      pub hope-none : {a m : ℕ} → Walked (SeekOf table known count clock rows v 0 a) (readQuery script loaded (block .left) (block .«at»)) m → count ≤ a
-          → HopeAt script loaded block table leasts known clock rows k false
-      hope-none {a} x h w vs r =
-          let e = seek-is v 0 x w vs r in
-          let n = counted w in
-          let i = seek (w .schema) (signed clock) (w .terms) rows γ v (w .tree) 0 in
-          let f = seek-floor (w .schema) (signed clock) (w .terms) rows γ v (length (w .terms)) (omega arith) (w .tree) i (omega arith) in
-          sym (le-ltb (seek (w .schema) (signed clock) (w .terms) rows γ v (w .tree) i) (length (w .terms)) f)
+      pub hope-none : {a m : ℕ} → Sought (SeekOf table known x (rowsOf quads x) v 0 a) m → x .count ≤ a → HopeAt w known k false
+      hope-none {a} p h vs r =
+          let e = seek-is v 0 p vs r in
+          let n = counted in
+          let i = seekAt v 0 in
+          let f = seek-floor (setting w) (w .terms) (w .rows) γ v (length (w .terms)) (omega arith) (w .tree) i (omega arith) in
+          sym (le-ltb (seekAt v i) (length (w .terms)) f)
 
     -- ── the later variables ───────────────────────────────────────────────────────────────────
 
-    abbrev pub hopeFrom : Told → ℕ → Bool
-    hopeFrom w j = hopeful (w .schema) (w .typing) (signed clock) (w .terms) rows (w .tree) γ (later script loaded block table leasts known clock rows j)
-
     module _ (j : ℕ) where
-      pub hopeful-ends : block .size ≤ j → (w : Told) → hopeFrom w j ≡ true
+      pub hopeful-ends : size ≤ j → hopeFrom w known j ≡ true
       unfolding hopeful
-      hopeful-ends h w = rw (numbers-none (block .vars) (block .size) j h) refl
+      hopeful-ends h = rw (numbers-none vars size j h) refl
 
-      module _ (h : j < block .size) {b : Bool} (e : HopeAt script loaded block table leasts known clock rows j b) (w : Told) (vs : List ℕ) (r : ReadyFor w vs) where
-        opened : hopeFrom w j ≡ b && hopeFrom w (j + 1)
+      module _ (h : j < size) {b : Bool} (e : HopeAt w known j b) (vs : List ℕ) (r : ReadyFor w known vs) where
+        opened : hopeFrom w known j ≡ b && hopeFrom w known (j + 1)
         unfolding hopeful
-        opened = rw (numbers-more (block .vars) (block .size) j h) (ap (λ x. x && hopeFrom w (j + 1)) (sym (e w vs r)))
+        opened = rw (numbers-more vars size j h) (ap (λ x. x && hopeFrom w known (j + 1)) (sym (e vs r)))
 
-        pub hopeful-lost : b ≡ false → hopeFrom w j ≡ false
+        pub hopeful-lost : b ≡ false → hopeFrom w known j ≡ false
         hopeful-lost f = opened ∙ rw f refl
 
-        pub hopeful-on : b ≡ true → hopeFrom w j ≡ hopeFrom w (j + 1)
+        pub hopeful-on : b ≡ true → hopeFrom w known j ≡ hopeFrom w known (j + 1)
         hopeful-on f = opened ∙ rw f refl
 
-    -- ── past the last level ───────────────────────────────────────────────────────────────────
-
-    module _ (k : ℕ) (tight : Bool) (over : block .size ≤ k) (t : List ℕ) where
-      none-left : block .size - k ≡ 0
-      none-left = omega arith
-
-      pub find-tight : tight ≡ true → FindOf script loaded block table leasts known clock rows k tight (record { found = false; tuple = t })
-      unfolding find
-      find-tight e w r = rw (numbers-none (block .vars) (block .size) k over, e) refl
-
-      pub find-test : tight ≡ false → {b : Bool} {n : ℕ} → Walked (HoldsOf table known clock rows b) (readQuery script loaded (block .left) (block .«at»)) n
-          → FindOf script loaded block table leasts known clock rows k tight (record { found = b; tuple = t })
-      unfolding find numbersFrom
-      find-test e {b} x w r =
-          let same : x .tree ≡ w .tree = same-read (x .read) (w .read) .0 in
-          let h : HoldsOf table known clock rows b (w .tree) = subst (HoldsOf table known clock rows b) same (x .holds) in
-          let r₀ : ReadyFor w [] = subst (ReadyFor w) (numbers-none (block .vars) (block .size) k over) r in
-          let f = fine-ok (ready-fine (w .schema) (w .typing) (signed clock) (w .terms) rows γ (w .tree) r₀) in
-          let p : b ≡ passes (query (w .schema) (signed clock) (w .terms) rows γ (w .tree)) =
-          h (w .schema) (w .terms) (w .tabled) (f .0) (f .1) ∙ sym (ok-passes (f .1)) in
-          rw (none-left, e) (ap (λ c. cond c (some []) none) p)
-
-    -- ── a level ───────────────────────────────────────────────────────────────────────────────
-
     module _ (k : ℕ) (tight : Bool) where
-      module _ (below : k < size) where
-        pub level-enter : (lo : ℕ) → lo ≡ cond tight (getD (block .last) k 0) 0 → SoFar k tight lo
+      -- ── past the last level ─────────────────────────────────────────────────────────────────
+
+      module _ (over : size ≤ k) (t : List ℕ) where
+        none-left : size - k ≡ 0
+        none-left = omega arith
+
+        pub find-tight : tight ≡ true → FindOf w known k tight (record { found = false; tuple = t })
         unfolding find
-        level-enter lo e w r =
-            rw (numbers-more vars size k below) (ap (level k tight w) (start-of tight (block .last) size k below ∙ sym e))
+        find-tight e r = rw (numbers-none vars size k over, e) refl
 
-        module _ (lo : ℕ) (so-far : SoFar k tight lo) (t : List ℕ) where
-          floor : (w : Told) → (lo : ℕ) → nextAt w (getD vars k 0) lo < length (w .terms) → lo ≤ nextAt w (getD vars k 0) lo
-          floor w lo h = next-floor (w .schema) (w .typing) (signed clock) (w .terms) rows (w .tree) γ (getD vars k 0) lo h
+        pub find-test : tight ≡ false → {b : Bool} {n : ℕ} → Sought (HoldsOf table known x (rowsOf quads x) b) n
+            → FindOf w known k tight (record { found = b; tuple = t })
+        unfolding find numbersFrom settingIn
+        find-test e {b} s r =
+            let h : HoldsOf table known x (w .rows) b (w .tree) =
+            subst (λ (rows : List Quad). HoldsOf table known x rows b (w .tree)) (w .lent .quadsAre)
+            (subst (HoldsOf table known x (rowsOf quads x) b) (same-read (s .read) (w .read) .0) (s .holds)) in
+            let r₀ : ReadyFor w known [] = subst (ReadyFor w known) (numbers-none vars size k over) r in
+            let f = fine-ok (ready-fine (setting w) (w .typing) (w .terms) (w .rows) γ (w .tree) r₀) in
+            let p : b ≡ passes (query (setting w) (w .terms) (w .rows) γ (w .tree)) =
+            h (w .schema) (w .terms) (w .lent .tabled .reads) (f .0) (f .1) ∙ sym (ok-passes (f .1)) in
+            rw (none-left, e) (ap (λ c. cond c (some []) none) p)
 
-          pub find-past : count ≤ lo → FindOf script loaded block table leasts known clock rows k tight (record { found = false; tuple = t })
-          find-past h w r = level-past (body k tight w) (nextAt w (getD vars k 0)) (length (w .terms)) (floor w) lo (whole k tight w) (so-far w r) (omega (arith, counted w))
+      -- ── a level's loop ──────────────────────────────────────────────────────────────────────
 
-          module _ (i : ℕ) (ei : NextOf script loaded block table leasts known clock rows count k lo i) where
-            pub find-none : count ≤ i → FindOf script loaded block table leasts known clock rows k tight (record { found = false; tuple = t })
-            find-none h w r =
-                level-none (body k tight w) (nextAt w (getD vars k 0)) (length (w .terms)) (floor w) lo (whole k tight w) (so-far w r) i (ei .1 w r) (omega (arith, counted w))
+      abbrev lastHere : Option Tuple
+      lastHere = lastOf tight (block .last) k (size - k)
 
-            module _ (small : i < count) (inside : getD vars k 0 < length known) where
+      -- what the levels after this one find, with number i here
+      abbrev body : ℕ → Option Tuple
+      body i =
+          let rest = later block (k + 1) in
+          let δ = bindTo (getD vars k 0) i γ in
+          cond (hopeful (setting w) (w .typing) (w .terms) (w .rows) (w .tree) δ (ahead (restOf lastHere i) rest)) (findAt rest δ (restOf lastHere i)) none
+
+      abbrev level : ℕ → Option Tuple
+      level lo = tries body (nextAt (getD vars k 0)) (length (w .terms)) (length (w .terms)) lo
+
+      -- the level from lo on gives the result
+      abbrev pub SoFar : ℕ → Type 0
+      SoFar lo = ReadyFor w known (later block k) → findFrom w known k tight ≡ level lo
+
+      module _ (below : k < size) where
+        pub level-enter : (lo : ℕ) → lo ≡ cond tight (getD (block .last) k 0) 0 → SoFar lo
+        unfolding find
+        level-enter lo e r = rw (numbers-more vars size k below) (ap level (start-of tight (block .last) size k below ∙ sym e))
+
+        module _ (lo : ℕ) (so-far : SoFar lo) (t : List ℕ) where
+          floor : (lo : ℕ) → nextAt (getD vars k 0) lo < length (w .terms) → lo ≤ nextAt (getD vars k 0) lo
+          floor lo h = next-floor (setting w) (w .typing) (w .terms) (w .rows) (w .tree) γ (getD vars k 0) lo h
+
+          pub find-past : x .count ≤ lo → FindOf w known k tight (record { found = false; tuple = t })
+          find-past h r = level-past body (nextAt (getD vars k 0)) (length (w .terms)) floor lo (findFrom w known k tight) (so-far r) (omega (arith, counted))
+
+          module _ (i : ℕ) (ei : NextOf w known k lo i) where
+            pub find-none : x .count ≤ i → FindOf w known k tight (record { found = false; tuple = t })
+            find-none h r =
+                level-none body (nextAt (getD vars k 0)) (length (w .terms)) floor lo (findFrom w known k tight) (so-far r) i (ei .1 r) (omega (arith, counted))
+
+            module _ (small : i < x .count) (inside : getD vars k 0 < length known) where
               abbrev with : List ℕ
               with = set known (getD vars k 0) i
 
               abbrev rest : List ℕ
-              rest = numbersFrom (size - (k + 1)) vars (k + 1)
+              rest = later block (k + 1)
 
               with-is : bindingsOf with ≡ bindTo (getD vars k 0) i γ
-              with-is = set-bindings known (getD vars k 0) i inside (omega (arith, few table known count clock l))
+              with-is = set-bindings known (getD vars k 0) i inside (omega (arith, few table x (w .terms) (w .lent .tabled)))
 
-              ready-rest : (w : Told) → ReadyFor w (numbersFrom (size - k) vars k) → Ready (w .schema) (w .typing) (w .terms) (bindingsOf with) rest (w .tree)
-              ready-rest w r =
-                  let r₁ : ReadyFor w (getD vars k 0 ∷ rest) = subst (ReadyFor w) (numbers-more vars size k below) r in
-                  let h = next-holds (w .schema) (w .typing) (signed clock) (w .terms) rows (w .tree) γ (getD vars k 0) lo
-                  (subst (λ x. x < length (w .terms)) (ei .1 w r) (omega (arith, counted w))) in
+              ready-rest : ReadyFor w known (later block k) → ReadyFor w with rest
+              unfolding settingIn
+              ready-rest r =
+                  let r₁ : ReadyFor w known (getD vars k 0 ∷ rest) = subst (ReadyFor w known) (numbers-more vars size k below) r in
+                  let h = next-holds (setting w) (w .typing) (w .terms) (w .rows) (w .tree) γ (getD vars k 0) lo
+                  (subst (λ x. x < length (w .terms)) (ei .1 r) (omega (arith, counted))) in
                   subst⁻¹ (λ (δ : Bindings). Ready (w .schema) (w .typing) (w .terms) δ rest (w .tree)) with-is
-                  (ready-set (w .schema) (w .typing) (signed clock) (w .terms) rows γ (w .tree) (getD vars k 0) i rest r₁
-                  (subst⁻¹ (λ x. Holds (w .schema) (w .terms) x (w .typing (getD vars k 0))) (ei .1 w r) h))
+                  (ready-set (w .schema) (w .typing) (w .terms) γ (w .tree) (getD vars k 0) i rest r₁
+                  (subst⁻¹ (λ x. Holds (w .schema) (w .terms) x (w .typing (getD vars k 0))) (ei .1 r) h))
 
-              turn : SoFar k tight lo → (w : Told) → ReadyFor w (numbersFrom (size - k) vars k) → body k tight w i ≡ none → whole k tight w ≡ level k tight w (i + 1)
-              turn f w r b =
-                  level-on (body k tight w) (nextAt w (getD vars k 0)) (length (w .terms)) (floor w) lo (whole k tight w) (f w r) i (ei .1 w r) (omega (arith, counted w)) b
+              turn : ReadyFor w known (later block k) → body i ≡ none → findFrom w known k tight ≡ level (i + 1)
+              turn r b =
+                  level-on body (nextAt (getD vars k 0)) (length (w .terms)) floor lo (findFrom w known k tight) (so-far r) i (ei .1 r) (omega (arith, counted)) b
 
               -- where the numbers so far are the last tuple's, no variable is asked
               module _ (still : Bool) (es : still ≡ tight && eqb i (getD (block .last) k 0)) (from : ℕ) (ea : from ≡ cond still size (k + 2))
-                  (f : Bool) (ef : HopeOf script loaded block table leasts with clock rows from f) where
-                body-is : (w : Told) → ReadyFor w (numbersFrom (size - k) vars k) → body k tight w i ≡ cond f (findAt w rest (bindingsOf with) (restOf (lastHere k tight) i)) none
-                body-is w r =
-                    let h = ef w rest (ready-rest w r) in
-                    ap₂ (λ (c : Bool) (δ : Bindings). cond c (findAt w rest δ (restOf (lastHere k tight) i)) none)
-                    (ap₂ (λ (δ : Bindings) (vs : List ℕ). hopeful (w .schema) (w .typing) (signed clock) (w .terms) rows (w .tree) δ vs)
-                    (sym with-is) (ahead-of tight (block .last) size k below vars i from (ea ∙ ap (λ t. cond t size (k + 2)) es)) ∙ sym h) (sym with-is)
+                  (f : Bool) (ef : HopeOf w with from f) where
+                body-is : ReadyFor w known (later block k) → body i ≡ cond f (findAt rest (bindingsOf with) (restOf lastHere i)) none
+                body-is r =
+                    ap₂ (λ (c : Bool) (δ : Bindings). cond c (findAt rest δ (restOf lastHere i)) none)
+                    (ap₂ (λ (δ : Bindings) (vs : List ℕ). hopeful (setting w) (w .typing) (w .terms) (w .rows) (w .tree) δ vs)
+                    (sym with-is) (ahead-of tight (block .last) size k below vars i from (ea ∙ ap (λ t. cond t size (k + 2)) es)) ∙ sym (ef rest (ready-rest r))) (sym with-is)
 
-                pub find-skip : f ≡ false → SoFar k tight (i + 1)
-                find-skip e w r = turn so-far w r (body-is w r ∙ rw e refl)
+                pub find-skip : f ≡ false → SoFar (i + 1)
+                find-skip e r = turn r (body-is r ∙ rw e refl)
 
-                module _ (e : f ≡ true) (x : Found) (ex : FindOf script loaded block table leasts with clock rows (k + 1) still x) where
-                  rest-is : (w : Told) → ReadyFor w (numbersFrom (size - k) vars k) → body k tight w i ≡ tupleOf x (k + 1) (size - (k + 1))
-                  rest-is w r =
-                      body-is w r ∙ (ap (λ c. cond c (findAt w rest (bindingsOf with) (restOf (lastHere k tight) i)) none) e
-                      ∙ (ap (findAt w rest (bindingsOf with)) (rest-of tight (block .last) size k below i
-                      ∙ ap (λ t. lastOf t (block .last) (k + 1) (size - (k + 1))) (sym es)) ∙ sym (ex w (ready-rest w r))))
+                module _ (e : f ≡ true) (y : Found) (ey : FindOf w with (k + 1) still y) where
+                  rest-is : ReadyFor w known (later block k) → body i ≡ tupleOf y (k + 1) (size - (k + 1))
+                  rest-is r =
+                      body-is r ∙ (ap (λ c. cond c (findAt rest (bindingsOf with) (restOf lastHere i)) none) e
+                      ∙ (ap (findAt rest (bindingsOf with)) (rest-of tight (block .last) size k below i
+                      ∙ ap (λ t. lastOf t (block .last) (k + 1) (size - (k + 1))) (sym es)) ∙ sym (ey (ready-rest r))))
 
-                  pub find-on : x .found ≡ false → SoFar k tight (i + 1)
-                  find-on g w r = turn so-far w r (rest-is w r ∙ rw g refl)
+                  pub find-on : y .found ≡ false → SoFar (i + 1)
+                  find-on g r = turn r (rest-is r ∙ rw g refl)
 
-                  pub find-hit : x .found ≡ true → k < length (x .tuple)
-                      → FindOf script loaded block table leasts known clock rows k tight (record { found = true; tuple = set (x .tuple) k i })
-                  find-hit g h w r =
-                      ap some (tuple-set x size k i below h)
-                      ∙ level-found (body k tight w) (nextAt w (getD vars k 0)) (length (w .terms)) (floor w) lo (whole k tight w) (so-far w r) i (ei .1 w r) (omega (arith, counted w))
-                      (numbersFrom (size - (k + 1)) (x .tuple) (k + 1)) (rest-is w r ∙ rw g refl)
+                  pub find-hit : y .found ≡ true → k < length (y .tuple) → FindOf w known k tight (record { found = true; tuple = set (y .tuple) k i })
+                  find-hit g h r =
+                      ap some (tuple-set y size k i below h)
+                      ∙ level-found body (nextAt (getD vars k 0)) (length (w .terms)) floor lo (findFrom w known k tight) (so-far r) i (ei .1 r) (omega (arith, counted))
+                      (numbersFrom (size - (k + 1)) (y .tuple) (k + 1)) (rest-is r ∙ rw g refl)

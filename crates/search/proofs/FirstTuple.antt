@@ -6,12 +6,11 @@ use mathlib.Core.List.{List, [], _∷_, List·Memᴰ·head, List·Memᴰ·tail, 
 use mathlib.Core.Bool.{Bool, true, false}
 use mathlib.Core.Option.{Option, none, some}
 use lib.Dec.{T}
-use lib.IntN.{ℤ}
-use Rattle.definitions.specs.Terms.{Term, Schema}
+use Rattle.definitions.specs.Terms.{Term}
 use Rattle.definitions.specs.Tree.{Query}
 use Rattle.definitions.specs.Scope.{inQuery}
 use Rattle.definitions.specs.Outcome.{Outcome, ok, fault, _>>=_}
-use Rattle.definitions.specs.Evaluate.{Bindings, Quad, query}
+use Rattle.definitions.specs.Evaluate.{Setting, Bindings, Quad, query}
 use Rattle.definitions.specs.Search.{Typing, Tuple, tuples, earlier, after, first, bind, answer}
 use Rattle.laws.specs.Lists.{_∈_}
 use Rattle.laws.proofs.Lists.{here, there}
@@ -76,35 +75,35 @@ module _ (test : Tuple → Outcome Bool) where
 
 -- ── a block's answer ────────────────────────────────────────────────────────────────────────
 
-module _ (S : Schema) (Γ : Typing) (clock : ℤ) (terms : List Term) (quads : List Quad) (β : Bindings) (vs : List ℕ) (q : Query)
-    (ready : Ready S Γ terms β vs q) where
+module _ (σ : Setting) (Γ : Typing) (terms : List Term) (quads : List Quad) (β : Bindings) (vs : List ℕ) (q : Query)
+    (ready : Ready (σ .schema) Γ terms β vs q) where
   abbrev tried : Tuple → Outcome Bool
-  tried t = query S clock terms quads (bind vs t β) q
+  tried t = query σ terms quads (bind vs t β) q
 
   -- a tuple that fits, after the last, at which the query holds
   abbrev pub Good : Option Tuple → Tuple → Type 0
-  Good last t = Fits S Γ terms vs t × T (isAfter last t) × T (passes (tried t))
+  Good last t = Fits (σ .schema) Γ terms vs t × T (isAfter last t) × T (passes (tried t))
 
-  tried-fine : (t : Tuple) → Fits S Γ terms vs t → Fine Any (tried t)
+  tried-fine : (t : Tuple) → Fits (σ .schema) Γ terms vs t → Fine Any (tried t)
   tried-fine t h =
-      query-fine S Γ clock (ready .loaded) terms (ready .extends) quads (bind vs t β) (bind-typed S Γ terms β vs t h (ready .wellBound)) q (ready .bounded)
-      (bound-reached S Γ terms β vs t h (λ v. inQuery v q) (ready .bound)) (ready .typed)
+      query-fine σ Γ (ready .loaded) terms (ready .extends) quads (bind vs t β) (bind-typed (σ .schema) Γ terms β vs t h (ready .wellBound)) q (ready .bounded)
+      (bound-reached (σ .schema) Γ terms β vs t h (λ v. inQuery v q) (ready .bound)) (ready .typed)
 
-  pub answer-first : (last : Option Tuple) (o : Option Tuple) → First (Good last) o → answer S Γ clock terms quads β vs q last ≡ ok o
+  pub answer-first : (last : Option Tuple) (o : Option Tuple) → First (Good last) o → answer σ Γ terms quads β vs q last ≡ ok o
   unfolding answer
   answer-first last o h = go o h
     where
       ts : List Tuple
-      ts = after last (tuples S Γ terms vs)
+      ts = after last (tuples (σ .schema) Γ terms vs)
 
       fines : All (λ u. Fine Any (tried u)) ts
-      fines = all-weaken (Fits S Γ terms vs) (λ u. Fine Any (tried u)) tried-fine ts (after-fit S Γ terms vs last)
+      fines = all-weaken (Fits (σ .schema) Γ terms vs) (λ u. Fine Any (tried u)) tried-fine ts (after-fit (σ .schema) Γ terms vs last)
 
       good : (u : Tuple) → u ∈ ts → T (passes (tried u)) → Good last u
-      good u m p = (all-at (Fits S Γ terms vs) m (after-fit S Γ terms vs last), after-only S Γ terms vs last u m, p)
+      good u m p = (all-at (Fits (σ .schema) Γ terms vs) m (after-fit (σ .schema) Γ terms vs last), after-only (σ .schema) Γ terms vs last u m, p)
 
       go : (o : Option Tuple) → First (Good last) o → first tried ts ≡ ok o
       go none h = first-none tried ts fines (λ u m p. h u (good u m p))
       go (some t) h =
-          first-is tried t (h .0 .2) ts fines (after-sorted S Γ terms vs last) (λ u m e p. h .1 u (good u m p) e)
-          (after-all S Γ terms vs last t (h .0 .0) (h .0 .1))
+          first-is tried t (h .0 .2) ts fines (after-sorted (σ .schema) Γ terms vs last) (λ u m e p. h .1 u (good u m p) e)
+          (after-all (σ .schema) Γ terms vs last t (h .0 .0) (h .0 .1))

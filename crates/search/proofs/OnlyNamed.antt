@@ -4,11 +4,10 @@ use mathlib.Core.Path.{_≡_, refl, ap}
 use mathlib.Core.List.{List}
 use mathlib.Core.Bool.{Bool, _||_}
 use lib.Dec.{T, eqb-refl}
-use lib.IntN.{ℤ}
-use Rattle.definitions.specs.Terms.{Term, Schema}
+use Rattle.definitions.specs.Terms.{Term}
 use Rattle.definitions.specs.Tree.{Name, var, const, Expr, Cond}
 use Rattle.definitions.specs.Scope.{inName, inExpr, inCond}
-use Rattle.definitions.specs.Evaluate.{Bindings, Quad, named, termOfNumber, expression, condition}
+use Rattle.definitions.specs.Evaluate.{Setting, Bindings, Quad, named, termOfNumber, expression, condition}
 use Rattle.laws.proofs.Tests.{orLeft, orRight}
 
 -- two bindings with the same terms for the variables that a test names
@@ -22,17 +21,17 @@ module _ (β γ : Bindings) (f g : ℕ → Bool) (a : Agree β γ (λ v. f v || 
   agree-right : Agree β γ g
   agree-right v m = a v (orRight (f v) (g v) m)
 
-module _ (S : Schema) (clock : ℤ) (terms : List Term) (quads : List Quad) (β γ : Bindings) where
+module _ (σ : Setting) (terms : List Term) (quads : List Quad) (β γ : Bindings) where
   named-agrees : (n : Name) → Agree β γ (λ v. inName v n) → named terms β n ≡ named terms γ n
   unfolding named inName
   named-agrees (var v) a = ap (termOfNumber terms) (a v (eqb-refl v))
   named-agrees (const c) a = refl
 
   abbrev ExprAgrees : Expr → Type 0
-  ExprAgrees e = expression S clock terms quads β e ≡ expression S clock terms quads γ e
+  ExprAgrees e = expression σ terms quads β e ≡ expression σ terms quads γ e
 
   abbrev CondAgrees : Cond → Type 0
-  CondAgrees c = condition S clock terms quads β c ≡ condition S clock terms quads γ c
+  CondAgrees c = condition σ terms quads β c ≡ condition σ terms quads γ c
 
   -- the two sides of an operator
   module _ (e f : Expr) (a : Agree β γ (λ v. inExpr v e || inExpr v f)) where

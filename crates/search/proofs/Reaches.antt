@@ -3,18 +3,17 @@ use Prim.Native.Nat.{ℕ, _≤_, min}
 use native.Mathlib.Omega.{arith}
 use mathlib.Core.Path.{_≡_, refl, subst⁻¹}
 use mathlib.Core.List.{List}
-use mathlib.Core.Bool.{Bool, true, false, cond, not, _&&_, _||_}
+use mathlib.Core.Bool.{Bool, true, false, cond, _&&_, _||_}
 use mathlib.Core.Option.{Option, none, some}
 use lib.Dec.{T, eqb, eqb→eq, T-not}
 use lib.ListN.{length}
-use lib.IntN.{ℤ}
-use Rattle.definitions.specs.Terms.{Term, Schema}
+use Rattle.definitions.specs.Terms.{Term}
 use Rattle.definitions.specs.Tree.{Name, var, const, Query}
 use Rattle.definitions.specs.Scope.{inCond}
 use Rattle.definitions.specs.Outcome.{Outcome, ok, fault, _>>=_}
-use Rattle.definitions.specs.Evaluate.{Bindings, Quad, stored, numberOf, condition, query}
+use Rattle.definitions.specs.Evaluate.{Setting, Bindings, Quad, stored, numberOf, condition, query}
 use Rattle.laws.proofs.Tests.{andLeft, andRight, by-test, trueIs}
-use Rattle.query.specs.Seek.{passes, Place, sought, known, placeOf, placesOf, condKnown, seek}
+use Rattle.query.specs.Seek.{passes, sought, known, placeOf, placesOf, condKnown, seek}
 use Rattle.search.proofs.OnlyNamed.{condition-agrees}
 use Rattle.query.proofs.Outcomes.{passes-ok}
 use Rattle.query.proofs.Patterns.{pattern-ok}
@@ -50,25 +49,25 @@ union-pass (ok false) (ok b) P f g h = g h
 
 -- ── the seek ────────────────────────────────────────────────────────────────────────────────
 
-module _ (S : Schema) (clock : ℤ) (terms : List Term) (quads : List Quad) (γ : Bindings) (v : ℕ) where
+module _ (σ : Setting) (terms : List Term) (quads : List Quad) (γ : Bindings) (v : ℕ) where
   abbrev test : Bindings → Query → Bool
-  test δ q = passes (query S clock terms quads δ q)
+  test δ q = passes (query σ terms quads δ q)
 
-  pub seek-floor : (m : ℕ) → m ≤ length terms → (q : Query) (lo : ℕ) → m ≤ lo → m ≤ seek S clock terms quads γ v q lo
+  pub seek-floor : (m : ℕ) → m ≤ length terms → (q : Query) (lo : ℕ) → m ≤ lo → m ≤ seek σ terms quads γ v q lo
   unfolding seek
   seek-floor m h (Query.pattern g s p o) lo l = scan-floor (placesOf γ v g s p o) lo m (length terms) quads l h
-  seek-floor m h (Query.both q r) lo l = seek-floor m h r (seek S clock terms quads γ v q lo) (seek-floor m h q lo l)
+  seek-floor m h (Query.both q r) lo l = seek-floor m h r (seek σ terms quads γ v q lo) (seek-floor m h q lo l)
   seek-floor m h (Query.union q r) lo l = omega (arith, seek-floor m h q lo l, seek-floor m h r lo l)
   seek-floor m h (Query.filter c) lo l =
       by-test (λ x. m ≤ x) (condKnown γ c) _ lo
-      (λ k. by-test (λ x. m ≤ x) (passes (condition S clock terms quads γ c)) lo (length terms) (λ k. l) (λ k. h)) (λ k. l)
+      (λ k. by-test (λ x. m ≤ x) (passes (condition σ terms quads γ c)) lo (length terms) (λ k. l) (λ k. h)) (λ k. l)
   seek-floor m h Query.empty lo l = l
 
   module _ (δ : Bindings) (u : Under γ δ) (j : ℕ) (is : δ v ≡ some j) where
-    pub seek-reaches : (q : Query) (lo : ℕ) → lo ≤ j → T (test δ q) → seek S clock terms quads γ v q lo ≤ j
+    pub seek-reaches : (q : Query) (lo : ℕ) → lo ≤ j → T (test δ q) → seek σ terms quads γ v q lo ≤ j
     unfolding seek query
     seek-reaches (Query.pattern g s p o) lo l h =
-        let m = pattern-ok S clock terms quads δ g s p o true (passes-ok (query S clock terms quads δ (Query.pattern g s p o)) h) in
+        let m = pattern-ok σ terms quads δ g s p o true (passes-ok (query σ terms quads δ (Query.pattern g s p o)) h) in
         let r = m .quad in
         let places = placesOf γ v g s p o in
         let fit : Matches places j r = record {
@@ -79,19 +78,19 @@ module _ (S : Schema) (clock : ℤ) (terms : List Term) (quads : List Quad) (γ 
         } in
         omega (arith, scan-here places lo (length terms) r quads (trueIs (stored r quads) (m .isStored)) (row-fits places lo j l r fit), row-top places lo j l r fit)
     seek-reaches (Query.both q r) lo l h =
-        let k = both-pass (query S clock terms quads δ q) (query S clock terms quads δ r) h in
-        seek-reaches r (seek S clock terms quads γ v q lo) (seek-reaches q lo l (k .0)) (k .1)
+        let k = both-pass (query σ terms quads δ q) (query σ terms quads δ r) h in
+        seek-reaches r (seek σ terms quads γ v q lo) (seek-reaches q lo l (k .0)) (k .1)
     seek-reaches (Query.union q r) lo l h =
-        let a = seek S clock terms quads γ v q lo in
-        let b = seek S clock terms quads γ v r lo in
-        union-pass (query S clock terms quads δ q) (query S clock terms quads δ r) (min a b ≤ j)
+        let a = seek σ terms quads γ v q lo in
+        let b = seek σ terms quads γ v r lo in
+        union-pass (query σ terms quads δ q) (query σ terms quads δ r) (min a b ≤ j)
         (λ k. omega (arith, seek-reaches q lo l k)) (λ k. omega (arith, seek-reaches r lo l k)) h
     seek-reaches (Query.filter c) lo l h =
         by-test (λ x. x ≤ j) (condKnown γ c) _ lo
         (λ k.
-        let same = condition-agrees S clock terms quads γ δ c (bound-agrees γ δ u (λ x. inCond x c) (cond-bound γ c k)) in
-        let p : T (passes (condition S clock terms quads γ c)) = subst⁻¹ (λ m. T (passes m)) same h in
-        by-test (λ x. x ≤ j) (passes (condition S clock terms quads γ c)) lo (length terms) (λ t. l)
-        (λ t. absurd (T-not (passes (condition S clock terms quads γ c)) t p)))
+        let same = condition-agrees σ terms quads γ δ c (bound-agrees γ δ u (λ x. inCond x c) (cond-bound γ c k)) in
+        let p : T (passes (condition σ terms quads γ c)) = subst⁻¹ (λ m. T (passes m)) same h in
+        by-test (λ x. x ≤ j) (passes (condition σ terms quads γ c)) lo (length terms) (λ t. l)
+        (λ t. absurd (T-not (passes (condition σ terms quads γ c)) t p)))
         (λ k. l)
     seek-reaches Query.empty lo l h = l

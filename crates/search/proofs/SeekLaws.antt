@@ -7,7 +7,6 @@ use mathlib.Core.Bool.{Bool, true, false, cond}
 use mathlib.Core.Option.{some}
 use mathlib.Core.Logic.{_⊎_, inl, inr}
 use lib.ListN.{length}
-use Rattle.definitions.specs.Bytes.{signed}
 use Rattle.definitions.specs.Terms.{Term, Schema}
 use Rattle.definitions.specs.Tree.{Cond, Query}
 use Rattle.definitions.specs.Evaluate.{Quad, condition}
@@ -17,6 +16,8 @@ use Rattle.laws.proofs.Options.{same-some}
 use Rattle.laws.proofs.NoFault.{fine-ok}
 use Rattle.query.specs.Seek.{passes, placesOf, scan, condKnown, seek}
 use Rattle.query.specs.Codes.{placesAt, bindingsOf, Coded}
+use Rattle.query.specs.declared.Context.{Context}
+use Rattle.query.specs.StoreLent.{settingIn}
 use Rattle.query.specs.Eval.{Lent, TruthOf}
 use Rattle.search.specs.Seeking.{Sure, SeekOf}
 use Rattle.query.specs.declared.Four.{Four}
@@ -25,19 +26,19 @@ use Rattle.query.proofs.CodeLaws.{code-place}
 use Rattle.query.proofs.ScanLaws.{scan-floor}
 use Rattle.search.proofs.Reaches.{seek-floor}
 
-module _ (table known : List ℕ) (count clock : ℕ) (l : Lent table known count clock) (rows : List Quad) (v : ℕ) where
-  counted : (terms : List Term) → termsIn table ≡ some terms → count ≡ length terms
-  counted terms t = sym (l .counted) ∙ ap length (same-some (l .tabled) t)
+module _ (table known : List ℕ) (x : Context) (l : Lent table known x) (rows : List Quad) (v : ℕ) where
+  counted : (terms : List Term) → termsIn table ≡ some terms → x .count ≡ length terms
+  counted terms t = sym (l .tabled .counted) ∙ ap length (same-some (l .tabled .reads) t)
 
-  pub pattern-seeks : (q : Query) (codes : Four) (lo least : ℕ) → Coded known v codes q → least ≡ scan (placesAt codes) lo count rows
-      → SeekOf table known count clock rows v lo least q
+  pub pattern-seeks : (q : Query) (codes : Four) (lo least : ℕ) → Coded known v codes q → least ≡ scan (placesAt codes) lo (x .count) rows
+      → SeekOf table known x rows v lo least q
   unfolding seek
   pattern-seeks (Query.both q r) codes lo least c = absurd c
   pattern-seeks (Query.union q r) codes lo least c = absurd c
   pattern-seeks (Query.filter c) codes lo least d = absurd d
   pattern-seeks Query.empty codes lo least c = absurd c
   pattern-seeks (Query.pattern g s p o) codes lo least c = λ e. (
-    rw e (scan-floor (placesAt codes) lo (min lo count) count rows (omega arith) (omega arith)),
+    rw e (scan-floor (placesAt codes) lo (min lo (x .count)) (x .count) rows (omega arith) (omega arith)),
     λ S terms t sure.
         let b = c .1 in
         let g′ = code-place known v g (b .0) in
@@ -49,64 +50,64 @@ module _ (table known : List ℕ) (count clock : ℕ) (l : Lent table known coun
         e ∙ ap₂ (λ P n. scan P lo n rows) same (counted terms t),
   )
 
-  pub both-seeks : (q r : Query) (lo a b : ℕ) → SeekOf table known count clock rows v lo a q → SeekOf table known count clock rows v a b r
-      → SeekOf table known count clock rows v lo b (Query.both q r)
+  pub both-seeks : (q r : Query) (lo a b : ℕ) → SeekOf table known x rows v lo a q → SeekOf table known x rows v a b r
+      → SeekOf table known x rows v lo b (Query.both q r)
   unfolding seek
   both-seeks q r lo a b h k = (
     omega (arith, h .0, k .0),
     λ S terms t sure.
-        k .1 S terms t (sure .1) ∙ ap (seek S (signed clock) terms rows (bindingsOf known) v r) (h .1 S terms t (sure .0)),
+        k .1 S terms t (sure .1) ∙ ap (seek (settingIn S x) terms rows (bindingsOf known) v r) (h .1 S terms t (sure .0)),
   )
 
   -- the second part is sought from lo on; or else the first gives lo, which is the least of all
-  pub union-seeks : (q r : Query) (lo a from b least : ℕ) → least ≡ min a b → (from ≡ lo) ⊎ ((from ≡ count) × (a ≡ lo) × (lo ≤ count))
-      → SeekOf table known count clock rows v lo a q → SeekOf table known count clock rows v from b r → SeekOf table known count clock rows v lo least (Query.union q r)
+  pub union-seeks : (q r : Query) (lo a from b least : ℕ) → least ≡ min a b → (from ≡ lo) ⊎ ((from ≡ x .count) × (a ≡ lo) × (lo ≤ x .count))
+      → SeekOf table known x rows v lo a q → SeekOf table known x rows v from b r → SeekOf table known x rows v lo least (Query.union q r)
   unfolding seek
   union-seeks q r lo a from b least e (inl f) h k = (
     omega (arith, h .0, k .0),
     λ S terms t sure.
-        let s = seek S (signed clock) terms rows (bindingsOf known) v r in
+        let s = seek (settingIn S x) terms rows (bindingsOf known) v r in
         e ∙ ap₂ min (h .1 S terms t (sure .0)) (k .1 S terms t (sure .1) ∙ ap s f),
   )
   union-seeks q r lo a from b least e (inr f) h k = (
     omega (arith, h .0, k .0, f),
     λ S terms t sure.
         let n = counted terms t in
-        let d = seek-floor S (signed clock) terms rows (bindingsOf known) v lo (omega (arith, f)) r lo (omega arith) in
+        let d = seek-floor (settingIn S x) terms rows (bindingsOf known) v lo (omega (arith, f)) r lo (omega arith) in
         omega (arith, e, f, h .1 S terms t (sure .0), k .0, d),
   )
 
-  pub empty-seeks : (lo : ℕ) → SeekOf table known count clock rows v lo lo Query.empty
+  pub empty-seeks : (lo : ℕ) → SeekOf table known x rows v lo lo Query.empty
   unfolding seek
   empty-seeks lo = (omega arith, λ S terms t sure. refl)
 
   -- a filter: not known, or known and true, or known and false
   module _ (c : Cond) (lo : ℕ) {k : Bool} (ek : k ≡ condKnown (bindingsOf known) c) where
     -- with nothing left to find it does not matter
-    pub ended-seeks : lo ≡ count → SeekOf table known count clock rows v lo lo (Query.filter c)
+    pub ended-seeks : lo ≡ x .count → SeekOf table known x rows v lo lo (Query.filter c)
     unfolding seek
-    ended-seeks e = (omega arith, λ S terms t sure. go (condKnown (bindingsOf known) c) (passes (condition S (signed clock) terms rows (bindingsOf known) c)) (e ∙ counted terms t))
+    ended-seeks e = (omega arith, λ S terms t sure. go (condKnown (bindingsOf known) c) (passes (condition (settingIn S x) terms rows (bindingsOf known) c)) (e ∙ counted terms t))
       where
         go : (a b : Bool) {n : ℕ} → lo ≡ n → lo ≡ cond a (cond b lo n) lo
         go true true h = refl
         go true false h = h
         go false b h = refl
 
-    pub unknown-seeks : k ≡ false → SeekOf table known count clock rows v lo lo (Query.filter c)
+    pub unknown-seeks : k ≡ false → SeekOf table known x rows v lo lo (Query.filter c)
     unfolding seek
     unknown-seeks e = (omega arith, λ S terms t sure. rw (sym ek ∙ e) refl)
 
-    module _ (e : k ≡ true) {b : Bool} (truth : TruthOf table known clock b c) where
-      tested : (S : Schema) (terms : List Term) → termsIn table ≡ some terms → Sure S (signed clock) terms rows (bindingsOf known) (Query.filter c)
-          → passes (condition S (signed clock) terms rows (bindingsOf known) c) ≡ b
+    module _ (e : k ≡ true) {b : Bool} (truth : TruthOf table known x b c) where
+      tested : (S : Schema) (terms : List Term) → termsIn table ≡ some terms → Sure (settingIn S x) terms rows (bindingsOf known) (Query.filter c)
+          → passes (condition (settingIn S x) terms rows (bindingsOf known) c) ≡ b
       tested S terms t sure =
           let f = fine-ok (sure (trueIs (condKnown (bindingsOf known) c) (sym ek ∙ e))) in
           ok-passes (f .1) ∙ sym (truth S terms rows t (f .0) (f .1))
 
-      pub true-seeks : b ≡ true → SeekOf table known count clock rows v lo lo (Query.filter c)
+      pub true-seeks : b ≡ true → SeekOf table known x rows v lo lo (Query.filter c)
       unfolding seek
       true-seeks h = (omega arith, λ S terms t sure. rw (sym ek ∙ e, tested S terms t sure ∙ h) refl)
 
-      pub false-seeks : b ≡ false → SeekOf table known count clock rows v lo count (Query.filter c)
+      pub false-seeks : b ≡ false → SeekOf table known x rows v lo (x .count) (Query.filter c)
       unfolding seek
       false-seeks h = (omega arith, λ S terms t sure. rw (sym ek ∙ e, tested S terms t sure ∙ h) (counted terms t))

@@ -1,28 +1,25 @@
 -- What the search over a block's variables is given, and what it promises: the model's `find`, from a level on.
-use Prim.Native.Nat.{ℕ, zero, suc, _+_, _-_, _*_, _≤_, _<_, min}
+use Prim.Native.Nat.{ℕ, zero, suc, _+_, _-_, _≤_, _<_, min}
 use mathlib.Core.Path.{_≡_}
 use mathlib.Core.List.{List, [], _∷_}
 use mathlib.Core.Bool.{Bool, cond}
 use mathlib.Core.Option.{Option, none, some}
 use lib.Dec.{T, eqb}
-use lib.ListN.{length, getD, getElem?}
+use lib.ListN.{getD}
 use Rattle.definitions.specs.Lists.{distinct}
 use Rattle.definitions.specs.Limits.{variableLimit, pairLimit}
-use Rattle.definitions.specs.Bytes.{signed}
 use Rattle.definitions.specs.Types.{typeOfCode}
-use Rattle.definitions.specs.Terms.{Term, Schema, sortOf}
+use Rattle.definitions.specs.Terms.{Term, Schema}
 use Rattle.definitions.specs.Tree.{Query}
 use Rattle.definitions.specs.Reading.{readQuery}
-use Rattle.definitions.specs.Evaluate.{Quad}
+use Rattle.definitions.specs.Evaluate.{Setting, Quad}
 use Rattle.definitions.specs.Outcome.{ok}
 use Rattle.definitions.specs.Search.{Typing, Tuple, answer}
-use Rattle.definitions.specs.Saved.{termsIn}
-use Rattle.laws.specs.Sorts.{least}
-use Rattle.laws.specs.Walks.{Loads}
 use Rattle.codes.specs.TypeCodes.{codeLeq}
 use Rattle.query.specs.Seek.{next, hopeAt, hopeful, find}
 use Rattle.query.specs.Codes.{bindingsOf}
-use Rattle.query.specs.Eval.{Lent}
+use Rattle.query.specs.StoreLent.{settingIn, Told, StoreLent}
+use Rattle.query.specs.declared.Context.{Context}
 use Rattle.search.specs.Ready.{Ready}
 use Rattle.search.specs.declared.Block.{Block}
 use Rattle.search.specs.declared.Found.{Found}
@@ -45,72 +42,64 @@ unfoldable pub skipTypes : (leasts : List ℕ) → (type n i : ℕ) → ℕ
 skipTypes leasts ty zero i = i
 skipTypes leasts ty (suc n) i = cond (codeLeq (getD leasts i 0) ty) i (skipTypes leasts ty n (i + 1))
 
--- what may be lent at a level
-pub record Level (script : List ℕ) (loaded : ℕ) (block : Block) (table leasts known : List ℕ) (count clock : ℕ) (quads : List ℕ) (n k : ℕ) : Type 0 where
-  pub loads : Loads (readQuery script loaded (block .left) (block .«at»))
-  pub lent : Lent table known count clock
-  pub rows : 4 * n ≤ length quads
-  pub leastOfEach : count ≤ length leasts
-  pub size : block .size ≤ pairLimit
-  pub within : k ≤ block .size
-  pub small : (j : ℕ) → getD (block .vars) j 0 < variableLimit
-
--- what it stands for: schema, typing, terms and query
-pub record World (script : List ℕ) (loaded : ℕ) (block : Block) (table leasts : List ℕ) : Type 0 where
+-- what is lent to the search of a block stands for schema, typing, store and query
+pub record World (script table quads leasts : List ℕ) (x : Context) (block : Block) : Type 0 where
   pub schema : Schema
   pub typing : Typing
   pub terms : List Term
+  pub rows : List Quad
   pub tree : Query
   pub next : ℕ
-  pub tabled : termsIn table ≡ some terms
-  pub read : readQuery script loaded (block .left) (block .«at») ≡ some (tree, next)
-  pub least : (i : ℕ) (t : Term) → getElem? terms i ≡ some t → typeOfCode (getD leasts i 0) ≡ some (least (sortOf schema t))
+  pub told : Told x
+  pub lent : StoreLent table quads leasts x schema terms rows
+  pub read : readQuery script (x .loaded) (block .left) (block .«at») ≡ some (tree, next)
   pub types : (k : ℕ) → k < block .size → typeOfCode (getD (block .types) k 0) ≡ some (typing (getD (block .vars) k 0))
+  pub size : block .size ≤ pairLimit
+  pub small : (j : ℕ) → getD (block .vars) j 0 < variableLimit
 
--- ── promises, for what the bytes stand for, where soundness holds of what is known ──────────
+-- the block's variables from place k on
+abbrev pub later : Block → (k : ℕ) → List ℕ
+later block k = numbersFrom (block .size - k) (block .vars) k
 
-module _ (script : List ℕ) (loaded : ℕ) (block : Block) (table leasts known : List ℕ) (clock : ℕ) (rows : List Quad) where
-  -- the variables still to choose, from place k on
-  abbrev pub later : ℕ → List ℕ
-  later k = numbersFrom (block .size - k) (block .vars) k
+-- ── promises, where soundness holds of what is known ────────────────────────────────────────
 
-  -- it never goes back
-  abbrev pub NextOf : (count k lo r : ℕ) → Type 0
-  NextOf count k lo r =
-      (min lo count ≤ r)
-      × ((w : World script loaded block table leasts) → Ready (w .schema) (w .typing) (w .terms) (bindingsOf known) (later k) (w .tree)
-      → r ≡ next (w .schema) (w .typing) (signed clock) (w .terms) rows (w .tree) (bindingsOf known) (getD (block .vars) k 0) lo)
+module _ {script table quads leasts : List ℕ} {x : Context} {block : Block} (w : World script table quads leasts x block) where
+  abbrev pub setting : Setting
+  setting = settingIn (w .schema) x
 
-  -- which variables are still to choose does not matter here
-  abbrev pub HopeAt : (j : ℕ) → Bool → Type 0
-  HopeAt j r =
-      (w : World script loaded block table leasts) (vs : List ℕ) → Ready (w .schema) (w .typing) (w .terms) (bindingsOf known) vs (w .tree)
-      → r ≡ hopeAt (w .schema) (w .typing) (signed clock) (w .terms) rows (w .tree) (bindingsOf known) (getD (block .vars) j 0)
+  module _ (known : List ℕ) where
+    -- ready for the variables that are still to choose
+    abbrev pub ReadyFor : List ℕ → Type 0
+    ReadyFor vs = Ready (w .schema) (w .typing) (w .terms) (bindingsOf known) vs (w .tree)
 
-  abbrev pub HopeOf : (from : ℕ) → Bool → Type 0
-  HopeOf from r =
-      (w : World script loaded block table leasts) (vs : List ℕ) → Ready (w .schema) (w .typing) (w .terms) (bindingsOf known) vs (w .tree)
-      → r ≡ hopeful (w .schema) (w .typing) (signed clock) (w .terms) rows (w .tree) (bindingsOf known) (later from)
+    -- it never goes back
+    abbrev pub NextOf : (k lo r : ℕ) → Type 0
+    NextOf k lo r =
+        (min lo (x .count) ≤ r)
+        × (ReadyFor (later block k) → r ≡ next setting (w .typing) (w .terms) (w .rows) (w .tree) (bindingsOf known) (getD (block .vars) k 0) lo)
 
-  -- from place j on as from place i on
-  abbrev pub HopesOn : (i j : ℕ) → Type 0
-  HopesOn i j =
-      (w : World script loaded block table leasts) (vs : List ℕ) → Ready (w .schema) (w .typing) (w .terms) (bindingsOf known) vs (w .tree)
-      → hopeful (w .schema) (w .typing) (signed clock) (w .terms) rows (w .tree) (bindingsOf known) (later i)
-      ≡ hopeful (w .schema) (w .typing) (signed clock) (w .terms) rows (w .tree) (bindingsOf known) (later j)
+    -- which variables are still to choose does not matter here
+    abbrev pub HopeAt : (j : ℕ) → Bool → Type 0
+    HopeAt j r = (vs : List ℕ) → ReadyFor vs → r ≡ hopeAt setting (w .typing) (w .terms) (w .rows) (w .tree) (bindingsOf known) (getD (block .vars) j 0)
 
-  abbrev pub FindOf : (k : ℕ) (tight : Bool) → Found → Type 0
-  FindOf k tight r =
-      (w : World script loaded block table leasts) → Ready (w .schema) (w .typing) (w .terms) (bindingsOf known) (later k) (w .tree)
-      → tupleOf r k (block .size - k)
-      ≡ find (w .schema) (w .typing) (signed clock) (w .terms) rows (w .tree) (later k) (bindingsOf known) (lastOf tight (block .last) k (block .size - k))
+    abbrev pub hopeFrom : (from : ℕ) → Bool
+    hopeFrom from = hopeful setting (w .typing) (w .terms) (w .rows) (w .tree) (bindingsOf known) (later block from)
 
-  -- the machine's answer, for distinct variables
-  abbrev pub AnswerOf : (started : Bool) → Found → Type 0
-  AnswerOf started r =
-      (w : World script loaded block table leasts)
-      → T (distinct eqb (numbersFrom (block .size) (block .vars) 0))
-      → Ready (w .schema) (w .typing) (w .terms) (bindingsOf known) (numbersFrom (block .size) (block .vars) 0) (w .tree)
-      → answer (w .schema) (w .typing) (signed clock) (w .terms) rows (bindingsOf known) (numbersFrom (block .size) (block .vars) 0) (w .tree)
-      (lastOf started (block .last) 0 (block .size))
-      ≡ ok (tupleOf r 0 (block .size))
+    abbrev pub HopeOf : (from : ℕ) → Bool → Type 0
+    HopeOf from r = (vs : List ℕ) → ReadyFor vs → r ≡ hopeFrom from
+
+    -- the first tuple from place k on
+    abbrev pub findFrom : (k : ℕ) (tight : Bool) → Option Tuple
+    findFrom k tight =
+        find setting (w .typing) (w .terms) (w .rows) (w .tree) (later block k) (bindingsOf known) (lastOf tight (block .last) k (block .size - k))
+
+    abbrev pub FindOf : (k : ℕ) (tight : Bool) → Found → Type 0
+    FindOf k tight r = ReadyFor (later block k) → tupleOf r k (block .size - k) ≡ findFrom k tight
+
+    -- the machine's answer, for distinct variables
+    abbrev pub AnswerOf : (started : Bool) → Found → Type 0
+    AnswerOf started r =
+        T (distinct eqb (numbersFrom (block .size) (block .vars) 0)) → ReadyFor (numbersFrom (block .size) (block .vars) 0)
+        → answer setting (w .typing) (w .terms) (w .rows) (bindingsOf known) (numbersFrom (block .size) (block .vars) 0) (w .tree)
+        (lastOf started (block .last) 0 (block .size))
+        ≡ ok (tupleOf r 0 (block .size))

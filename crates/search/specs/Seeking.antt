@@ -4,32 +4,32 @@ use mathlib.Core.Path.{_≡_}
 use mathlib.Core.List.{List}
 use mathlib.Core.Option.{some}
 use lib.Dec.{T}
-use lib.IntN.{ℤ}
-use Rattle.definitions.specs.Bytes.{signed}
 use Rattle.definitions.specs.Terms.{Term, Schema}
 use Rattle.definitions.specs.Tree.{Cond, Query}
-use Rattle.definitions.specs.Evaluate.{Bindings, Quad, condition}
+use Rattle.definitions.specs.Evaluate.{Setting, Bindings, Quad, condition}
 use Rattle.definitions.specs.Saved.{termsIn}
 use Rattle.laws.specs.Outcomes.{Fine, Any}
 use Rattle.query.specs.Seek.{condKnown, seek}
 use Rattle.query.specs.Codes.{bindingsOf}
+use Rattle.query.specs.StoreLent.{settingIn}
+use Rattle.query.specs.declared.Context.{Context}
 
 -- every filter whose variables are all known meets no fault
-module _ (S : Schema) (clock : ℤ) (terms : List Term) (quads : List Quad) (γ : Bindings) where
+module _ (σ : Setting) (terms : List Term) (quads : List Quad) (γ : Bindings) where
   abbrev pub Sure : Query → Type 0
   Sure (Query.pattern g s p o) = Unit {0}
   Sure (Query.both q r) = Sure q × Sure r
   Sure (Query.union q r) = Sure q × Sure r
-  Sure (Query.filter c) = T (condKnown γ c) → Fine Any (condition S clock terms quads γ c)
+  Sure (Query.filter c) = T (condKnown γ c) → Fine Any (condition σ terms quads γ c)
   Sure Query.empty = Unit {0}
 
 -- `least` is what the seek of v from lo on gives; it never goes back
-abbrev pub SeekOf : (table known : List ℕ) (count clock : ℕ) (rows : List Quad) (v lo least : ℕ) → Query → Type 0
-SeekOf table known count clock rows v lo least q =
-    (min lo count ≤ least)
-    × ((S : Schema) (terms : List Term) → termsIn table ≡ some terms → Sure S (signed clock) terms rows (bindingsOf known) q
-    → least ≡ seek S (signed clock) terms rows (bindingsOf known) v q lo)
+abbrev pub SeekOf : (table known : List ℕ) (x : Context) (rows : List Quad) (v lo least : ℕ) → Query → Type 0
+SeekOf table known x rows v lo least q =
+    (min lo (x .count) ≤ least)
+    × ((S : Schema) (terms : List Term) → termsIn table ≡ some terms → Sure (settingIn S x) terms rows (bindingsOf known) q
+    → least ≡ seek (settingIn S x) terms rows (bindingsOf known) v q lo)
 
 -- the same of a filter's boolean; the quads and v do not matter
-abbrev pub FilterOf : (table known : List ℕ) (count clock lo least : ℕ) → Cond → Type 0
-FilterOf table known count clock lo least c = (rows : List Quad) (v : ℕ) → SeekOf table known count clock rows v lo least (Query.filter c)
+abbrev pub FilterOf : (table known : List ℕ) (x : Context) (lo least : ℕ) → Cond → Type 0
+FilterOf table known x lo least c = (rows : List Quad) (v : ℕ) → SeekOf table known x rows v lo least (Query.filter c)

@@ -3,15 +3,15 @@ ghost use mathlib.Core.Path.{_≡_};
 ghost use mathlib.Core.Bool.{cond};
 ghost use lib.ListN.{length};
 ghost use Prim.Native.Nat.{_-_, _≤_, _<_};
-ghost use Rattle.laws.specs.Quads.{rowsFrom};
-ghost use Rattle.search.specs.Finding.{skipTypes, Level, NextOf, HopeAt, HopeOf, FindOf};
+ghost use Rattle.search.specs.Finding.{skipTypes, World, NextOf, HopeAt, HopeOf, FindOf};
 use crate::Block;
 use crate::Found;
 use crate::seek::seek;
 use codes::has_type;
-ghost use Rattle.definitions.specs.Limits.{pairLimit};
+ghost use Rattle.definitions.specs.Limits.{pairLimit, variableLimit};
 use definitions::PAIR_LIMIT;
-use definitions::VARIABLES;
+use definitions::VARIABLE_LIMIT;
+use query::Context;
 use query::eval::eval_query;
 
 // The next term of a type, from a number on.
@@ -32,132 +32,76 @@ fn skip(leasts: &[u8], ty: u8, from: usize, count: usize) -> usize
 // The next number for the variable at place k, from lo on.
 fn next(
     script: &[u8],
-    loaded: usize,
+    context: Context,
     block: Block,
     table: &[u8],
-    count: usize,
-    clock: u64,
     quads: &[u16],
-    n: usize,
     leasts: &[u8],
     known: &[usize],
     k: usize,
     lo: usize,
 ) -> usize
-    requires { ⌜ Level (now script) loaded block (now table) (now leasts) (now known) count clock (now quads) n k ⌝ }
+    requires { ⌜ World (now script) (now table) (now quads) (now leasts) context block ⌝ }
+    requires { ⌜ length (now known) ≡ variableLimit ⌝ }
     requires { ⌜ k < block .size ⌝ }
-    ensures { λ r. ⌜ NextOf (now (script .entry)) loaded block (now (table .entry)) (now (leasts .entry)) (now (known .entry)) clock (rowsFrom n (now (quads .entry)) 0) count k lo r ⌝ }
+    ensures { λ r. ⌜ ((w : World (now (script .entry)) (now (table .entry)) (now (quads .entry)) (now (leasts .entry)) context block) → NextOf w (now (known .entry)) k lo r) ⌝ }
 {
     let at = block.at;
     let left = block.left;
     let vars = block.vars;
     let types = block.types;
-    let s = seek(
-        script,
-        loaded,
-        at,
-        left,
-        table,
-        count,
-        known,
-        clock,
-        quads,
-        n,
-        vars[k],
-        lo,
-    );
-    skip(leasts, types[k], s.least, count)
+    let s = seek(script, context, at, left, table, known, quads, vars[k], lo);
+    skip(leasts, types[k], s.least, context.count)
 }
 
 // Whether the variable at place j still has a number: two passes of the seek.
 fn hope(
     script: &[u8],
-    loaded: usize,
+    context: Context,
     block: Block,
     table: &[u8],
-    count: usize,
-    clock: u64,
     quads: &[u16],
-    n: usize,
     leasts: &[u8],
     known: &[usize],
     j: usize,
 ) -> bool
-    requires { ⌜ Level (now script) loaded block (now table) (now leasts) (now known) count clock (now quads) n j ⌝ }
+    requires { ⌜ World (now script) (now table) (now quads) (now leasts) context block ⌝ }
+    requires { ⌜ length (now known) ≡ variableLimit ⌝ }
     requires { ⌜ j < block .size ⌝ }
-    ensures { λ r. ⌜ HopeAt (now (script .entry)) loaded block (now (table .entry)) (now (leasts .entry)) (now (known .entry)) clock (rowsFrom n (now (quads .entry)) 0) j r ⌝ }
+    ensures { λ r. ⌜ ((w : World (now (script .entry)) (now (table .entry)) (now (quads .entry)) (now (leasts .entry)) context block) → HopeAt w (now (known .entry)) j r) ⌝ }
 {
     let at = block.at;
     let left = block.left;
+    let count = context.count;
     let vars = block.vars;
     let w = vars[j];
-    let a = seek(
-        script,
-        loaded,
-        at,
-        left,
-        table,
-        count,
-        known,
-        clock,
-        quads,
-        n,
-        w,
-        0,
-    );
+    let a = seek(script, context, at, left, table, known, quads, w, 0);
     if count <= a.least {
         return false;
     }
-    let b = seek(
-        script,
-        loaded,
-        at,
-        left,
-        table,
-        count,
-        known,
-        clock,
-        quads,
-        n,
-        w,
-        a.least,
-    );
+    let b = seek(script, context, at, left, table, known, quads, w, a.least);
     b.least < count
 }
 
 // Whether each variable from a place on still has a number.
 fn hopeful(
     script: &[u8],
-    loaded: usize,
+    context: Context,
     block: Block,
     table: &[u8],
-    count: usize,
-    clock: u64,
     quads: &[u16],
-    n: usize,
     leasts: &[u8],
     known: &[usize],
     from: usize,
 ) -> bool
-    requires { ⌜ Level (now script) loaded block (now table) (now leasts) (now known) count clock (now quads) n 0 ⌝ }
-    ensures { λ r. ⌜ HopeOf (now (script .entry)) loaded block (now (table .entry)) (now (leasts .entry)) (now (known .entry)) clock (rowsFrom n (now (quads .entry)) 0) from r ⌝ }
+    requires { ⌜ World (now script) (now table) (now quads) (now leasts) context block ⌝ }
+    requires { ⌜ length (now known) ≡ variableLimit ⌝ }
+    ensures { λ r. ⌜ ((w : World (now (script .entry)) (now (table .entry)) (now (quads .entry)) (now (leasts .entry)) context block) → HopeOf w (now (known .entry)) from r) ⌝ }
 {
     let size = block.size;
     let mut j = from;
     while j < size {
-        if !hope(
-            script,
-            loaded,
-            block,
-            table,
-            count,
-            clock,
-            quads,
-            n,
-            leasts,
-            known,
-            j,
-        ) {
+        if !hope(script, context, block, table, quads, leasts, known, j) {
             return false;
         }
         j += 1;
@@ -175,25 +119,23 @@ fn either(first: bool, a: usize, b: usize) -> usize
 // variables are not asked. Ruled out: a term skipped after each one tried; a number tried whatever its term's type is.
 pub fn find(
     script: &[u8],
-    loaded: usize,
+    context: Context,
     block: Block,
     table: &[u8],
-    count: usize,
-    clock: u64,
     quads: &[u16],
-    n: usize,
     leasts: &[u8],
-    known: [usize; VARIABLES],
+    known: [usize; VARIABLE_LIMIT],
     k: usize,
     tight: bool,
 ) -> Found
-    requires { ⌜ Level (now script) loaded block (now table) (now leasts) known count clock (now quads) n k ⌝ }
-    ensures { λ r. ⌜ FindOf (now (script .entry)) loaded block (now (table .entry)) (now (leasts .entry)) known clock (rowsFrom n (now (quads .entry)) 0) k tight r ⌝ }
+    requires { ⌜ World (now script) (now table) (now quads) (now leasts) context block ⌝ }
+    ensures { λ r. ⌜ ((w : World (now (script .entry)) (now (table .entry)) (now (quads .entry)) (now (leasts .entry)) context block) → FindOf w known k tight r) ⌝ }
     ensures { λ r. ⌜ length (r .tuple) ≡ pairLimit ⌝ }
 {
     let at = block.at;
     let left = block.left;
     let size = block.size;
+    let count = context.count;
     if size <= k {
         if tight {
             return Found {
@@ -201,18 +143,7 @@ pub fn find(
                 tuple: [0; PAIR_LIMIT],
             };
         }
-        let t = eval_query(
-            script,
-            loaded,
-            at,
-            left,
-            table,
-            count,
-            &known,
-            clock,
-            quads,
-            n,
-        );
+        let t = eval_query(script, context, at, left, table, &known, quads);
         return Found {
             found: t.holds,
             tuple: [0; PAIR_LIMIT],
@@ -224,20 +155,7 @@ pub fn find(
     let l = last[k];
     let mut lo = either(tight, l, 0);
     while lo < count {
-        let i = next(
-            script,
-            loaded,
-            block,
-            table,
-            count,
-            clock,
-            quads,
-            n,
-            leasts,
-            &known,
-            k,
-            lo,
-        );
+        let i = next(script, context, block, table, quads, leasts, &known, k, lo);
         if count <= i {
             return Found {
                 found: false,
@@ -248,28 +166,13 @@ pub fn find(
         with[v] = i;
         let still = tight & (i == l);
         let ahead = either(still, size, k + 2);
-        if hopeful(
-            script,
-            loaded,
-            block,
-            table,
-            count,
-            clock,
-            quads,
-            n,
-            leasts,
-            &with,
-            ahead,
-        ) {
+        if hopeful(script, context, block, table, quads, leasts, &with, ahead) {
             let r = find(
                 script,
-                loaded,
+                context,
                 block,
                 table,
-                count,
-                clock,
                 quads,
-                n,
                 leasts,
                 with,
                 k + 1,

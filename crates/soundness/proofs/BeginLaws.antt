@@ -7,7 +7,7 @@ use mathlib.Core.Bool.{Bool, true, false, not, _&&_}
 use mathlib.Core.Option.{Option}
 use lib.Dec.{T}
 use lib.ListN.{length, take, drop, replicate}
-use lib.Seq.{take-at, drop-at, take-append-le, take-length, take-append-add}
+use lib.Seq.{take-all, take-at, drop-at, take-append-le, take-length, take-append-add}
 use borrow.Author.Tests.{not-true, not-false}
 use Rattle.definitions.specs.Limits.{slotWidth, termTableWidth}
 use Rattle.definitions.specs.Bytes.{filled}
@@ -70,29 +70,29 @@ begin-slots (k ∷ ks) (t ∷ ts) vt h =
     ap₂ _++_ (ap slotOf same) (begin-slots ks ts (vt .1) (andRight (sameTerm k t) (beginsWith ks ts) h)) ∙ sym (slots-front k t ks ts (vt .0))
 
 -- two tables, compared as far as the first one's terms go
-module _ (loading table : List ℕ) (known count : ℕ) (hl : HoldsTerms loading known) (ht : HoldsTerms table count) where
+module _ (loading table : List ℕ) (loaded count : ℕ) (hl : HoldsTerms loading loaded) (ht : HoldsTerms table count) where
   ks : List Term
-  ks = terms loading known hl .0
+  ks = terms loading loaded hl .0
 
   ts : List Term
   ts = terms table count ht .0
 
   begins-is : beginsIn (termsIn loading) (termsIn table) ≡ beginsWith ks ts
   unfolding beginsIn ks ts
-  begins-is = ap₂ beginsIn (terms loading known hl .1) (terms table count ht .1)
+  begins-is = ap₂ beginsIn (terms loading loaded hl .1) (terms table count ht .1)
 
-  pub fewer : count < known → false ≡ beginsIn (termsIn loading) (termsIn table)
+  pub fewer : count < loaded → false ≡ beginsIn (termsIn loading) (termsIn table)
   unfolding ks ts
-  fewer h = too-few ks ts (omega (arith, terms-length loading known hl, terms-length table count ht)) ∙ sym begins-is
+  fewer h = too-few ks ts (omega (arith, terms-length loading loaded hl, terms-length table count ht)) ∙ sym begins-is
 
-  module _ (al : AreBytes loading) (at : AreBytes table) (h : known ≤ count) where
+  module _ (al : AreBytes loading) (at : AreBytes table) (h : loaded ≤ count) where
     sizes : length ks ≤ length ts
     unfolding ks ts
-    sizes = omega (arith, terms-length loading known hl, terms-length table count ht)
+    sizes = omega (arith, terms-length loading loaded hl, terms-length table count ht)
 
-    valid-known : All Valid ks
+    valid-loaded : All Valid ks
     unfolding ks
-    valid-known = terms-in-valid loading al (hl .width) ks (terms loading known hl .1)
+    valid-loaded = terms-in-valid loading al (hl .width) ks (terms loading loaded hl .1)
 
     valid-terms : All Valid ts
     unfolding ts
@@ -103,25 +103,25 @@ module _ (loading table : List ℕ) (known count : ℕ) (hl : HoldsTerms loading
     unfolding termTable filled
     front bytes us n e l = ap (take n) e ∙ take-append-le n (slots us) (replicate (termTableWidth - length (slots us)) 0) l
 
-    first-known : take (known * slotWidth) loading ≡ slots ks
+    first-loaded : take (loaded * slotWidth) loading ≡ slots ks
     unfolding ks
-    first-known =
-        let size : known * slotWidth ≡ length (slots ks) = omega (arith, slots-length ks valid-known, terms-length loading known hl) in
-        front loading ks (known * slotWidth) (terms-in-table loading al (hl .width) ks (terms loading known hl .1)) (omega arith)
+    first-loaded =
+        let size : loaded * slotWidth ≡ length (slots ks) = omega (arith, slots-length ks valid-loaded, terms-length loading loaded hl) in
+        front loading ks (loaded * slotWidth) (terms-in-table loading al (hl .width) ks (terms loading loaded hl .1)) (omega arith)
         ∙ ap (λ (n : ℕ). take n (slots ks)) size ∙ take-length (slots ks)
 
-    first-terms : take (known * slotWidth) table ≡ take (length ks * slotWidth) (slots ts)
+    first-terms : take (loaded * slotWidth) table ≡ take (length ks * slotWidth) (slots ts)
     unfolding ks ts
     first-terms =
-        let size : known ≡ length ks = sym (terms-length loading known hl) in
-        front table ts (known * slotWidth) (terms-in-table table at (ht .width) ts (terms table count ht .1)) (omega (arith, slots-length ts valid-terms, sizes))
+        let size : loaded ≡ length ks = sym (terms-length loading loaded hl) in
+        front table ts (loaded * slotWidth) (terms-in-table table at (ht .width) ts (terms table count ht .1)) (omega (arith, slots-length ts valid-terms, sizes))
         ∙ ap (λ (n : ℕ). take (n * slotWidth) (slots ts)) size
 
-    pub begins : {r : Bool} → Compared (take (known * slotWidth) loading) (take (known * slotWidth) table) r → r ≡ beginsIn (termsIn loading) (termsIn table)
+    pub begins : {r : Bool} → Compared (take (loaded * slotWidth) loading) (take (loaded * slotWidth) table) r → r ≡ beginsIn (termsIn loading) (termsIn table)
     begins {r} c =
         test-is r (beginsWith ks ts)
-        (λ t. slots-begin ks ts valid-known valid-terms sizes (sym first-known ∙ c .0 t ∙ first-terms))
-        (λ t. c .1 (first-known ∙ begin-slots ks ts valid-terms t ∙ sym first-terms))
+        (λ t. slots-begin ks ts valid-loaded valid-terms sizes (sym first-loaded ∙ c .0 t ∙ first-terms))
+        (λ t. c .1 (first-loaded ∙ begin-slots ks ts valid-terms t ∙ sym first-terms))
         ∙ sym begins-is
 
 -- ── both tests ──────────────────────────────────────────────────────────────────────────────
@@ -137,22 +137,22 @@ module _ (ks ts : Option (List Term)) {a : Bool} (ea : a ≡ beginsIn ks ts) whe
 
 -- ── no term has joined ──────────────────────────────────────────────────────────────────────
 
-begins-same : (ks ts : List Term) → T (beginsWith ks ts) → length ts ≡ length ks → ks ≡ ts
+pub begins-take : (ks ts : List Term) → T (beginsWith ks ts) → take (length ks) ts ≡ ks
 unfolding beginsWith
-begins-same [] [] h e = refl
-begins-same [] (t ∷ ts) h e = absurd (omega arith)
-begins-same (k ∷ ks) [] h e = absurd h
-begins-same (k ∷ ks) (t ∷ ts) h e =
-    ap₂ _∷_ (same-term k t (andLeft (sameTerm k t) (beginsWith ks ts) h)) (begins-same ks ts (andRight (sameTerm k t) (beginsWith ks ts) h) (omega arith))
+begins-take [] ts h = refl
+begins-take (k ∷ ks) [] h = absurd h
+begins-take (k ∷ ks) (t ∷ ts) h =
+    ap₂ _∷_ (sym (same-term k t (andLeft (sameTerm k t) (beginsWith ks ts) h))) (begins-take ks ts (andRight (sameTerm k t) (beginsWith ks ts) h))
 
-module _ (loading table : List ℕ) (known count : ℕ) (hl : HoldsTerms loading known) (ht : HoldsTerms table count) where
-  pub none-joined : distinctIn sameTerm (termsIn loading) ≡ true → (a : Bool) → a ≡ beginsIn (termsIn loading) (termsIn table) → not a ≡ false → count ≡ known
+module _ (loading table : List ℕ) (loaded count : ℕ) (hl : HoldsTerms loading loaded) (ht : HoldsTerms table count) where
+  pub none-joined : distinctIn sameTerm (termsIn loading) ≡ true → (a : Bool) → a ≡ beginsIn (termsIn loading) (termsIn table) → not a ≡ false → count ≡ loaded
       → true ≡ termsSound (termsIn loading) (termsIn table)
   unfolding termsSound beginsIn distinctIn
   none-joined d a ea t e =
-      let ks = terms loading known hl in
+      let ks = terms loading loaded hl in
       let ts = terms table count ht in
       let b : beginsWith (ks .0) (ts .0) ≡ true = rw (ks .1, ts .1) at (sym ea ∙ not-false a t) in
-      let same = begins-same (ks .0) (ts .0) (trueIs (beginsWith (ks .0) (ts .0)) b) (omega (arith, terms-length loading known hl, terms-length table count ht, e)) in
+      let all = take-all (length (ks .0)) (ts .0) (omega (arith, terms-length loading loaded hl, terms-length table count ht, e)) in
+      let same : ks .0 ≡ ts .0 = sym (begins-take (ks .0) (ts .0) (trueIs (beginsWith (ks .0) (ts .0)) b)) ∙ all in
       let apart : distinct sameTerm (ks .0) ≡ true = rw (ks .1) at d in
       rw (ks .1, ts .1) (sym (ap₂ _&&_ b (ap (distinct sameTerm) (sym same) ∙ apart)))

@@ -1,5 +1,5 @@
 -- The tests together are the clauses of the definition.
-use Prim.Native.Nat.{ℕ, zero, suc, _+_, _*_, _≤_, _<_}
+use Prim.Native.Nat.{ℕ, _*_, _≤_, _<_}
 use native.Mathlib.Omega.{arith}
 use mathlib.Core.Path.{_≡_, refl, sym, ap, _∙_}
 use mathlib.Core.List.{List}
@@ -14,19 +14,21 @@ use Rattle.definitions.specs.Bytes.{allZero, provided, onward}
 use Rattle.definitions.specs.Terms.{Term, Schema, sameTerm}
 use Rattle.definitions.specs.Evaluate.{Quad, sameQuad}
 use Rattle.definitions.specs.Machine.{Store, inLimits}
-use Rattle.definitions.specs.Saved.{termsIn, quadsFrom, quadsIn}
-use Rattle.definitions.specs.Sound.{beginsWith, quadSound, isURINumber}
-use Rattle.definitions.specs.declared.SavedRun.{SavedRun}
+use Rattle.definitions.specs.Saved.{termsIn, quadsFrom, quadsIn, heldStore}
+use Rattle.definitions.specs.Sound.{beginsWith, quadSound, isURINumber, storeSound}
+use Rattle.definitions.specs.declared.SavedStore.{SavedStore}
 use Rattle.laws.proofs.Tests.{andLeft, trueIs}
 use Rattle.laws.proofs.Options.{some-is}
 use Rattle.laws.proofs.SlotAt.{terms-few}
-use Rattle.laws.specs.ReadAnswers.{isSome}
+use Rattle.laws.specs.ReadAnswers.{isSome, passes}
+use Rattle.laws.specs.Sorts.{LeastOf}
+use Rattle.laws.proofs.Saved.{quads-from-count}
 use Rattle.fields.specs.Answers.{distinctIn}
 use Rattle.table.specs.Table.{HoldsTerms}
 use Rattle.laws.proofs.ReadAnswers.{provided-is}
 use Rattle.table.proofs.TableLaws.{terms, terms-length}
 use Rattle.laws.specs.Quads.{rowsFrom}
-use Rattle.soundness.specs.Store.{storeIn, storeSound, passes, LeastOf, beginsIn, termsSound, uriNumber, quadNumbers, quadsTest, SoundStore}
+use Rattle.soundness.specs.Store.{beginsIn, termsSound, uriNumber, quadNumbers, quadsTest, storeTest}
 use Rattle.soundness.proofs.TermTests.{uri-number, quad-numbers, every-same}
 
 -- no test is both
@@ -55,6 +57,18 @@ module _ (table : List ℕ) (n : ℕ) (fetched leasts : List ℕ) (count : ℕ) 
         unfolding quadsTest
         quads-all t e = e ∙ rw (sym ea ∙ not-false a ta, sym eb ∙ not-false b tb, ← er, sym ec ∙ not-false c t)
 
+-- ── the fetched list's limit ────────────────────────────────────────────────────────────────
+
+module _ (table : List ℕ) (saved : SavedStore) (leasts : List ℕ) (count : ℕ) where
+  pub many-graphs : graphLimit < saved .graphs → false ≡ storeTest table saved leasts count
+  unfolding storeTest
+  many-graphs h = rw (lt-leb (saved .graphs) graphLimit h)
+
+  pub few-graphs : saved .graphs ≤ graphLimit → {r : Bool} → r ≡ quadsTest table (saved .quads) (take (saved .graphs) (saved .fetched)) leasts count
+      → r ≡ storeTest table saved leasts count
+  unfolding storeTest
+  few-graphs h e = e ∙ rw (le-leb (saved .graphs) graphLimit h)
+
 -- ── all clauses ─────────────────────────────────────────────────────────────────────────────
 
 and-false : (x : Bool) → x && false ≡ false
@@ -81,11 +95,6 @@ in-all true false b d f u q s l e = and-false (b && d)
 in-all false true b d f u q s l e = and-false (b && d)
 in-all false false b d f u q s l e = and-false (b && d)
 
-quads-count : (n : ℕ) (table : List ℕ) (at : ℕ) → length (quadsFrom n table at) ≡ n
-unfolding quadsFrom
-quads-count zero table at = refl
-quads-count (suc n) table at = ap suc (quads-count n table (at + quadWidth))
-
 passes-provided : {A : Type 0} (p : A → Bool) (b : Bool) (a : A) → passes p (provided b (some a)) ≡ b && p a
 unfolding passes provided
 passes-provided p true a = refl
@@ -97,13 +106,7 @@ unfolding provided onward passes
 passes-both p true c a f = passes-provided p c (f a)
 passes-both p false c a f = refl
 
-module _ (loading tt qt : List ℕ) (known count : ℕ) (hl : HoldsTerms loading known) (ht : HoldsTerms tt count) (saved : SavedRun) (leasts : List ℕ) where
-  -- the tests in the code's order
-  abbrev tests : Bool
-  tests =
-      termsSound (termsIn loading) (termsIn tt)
-      && (leb (saved .graphs) graphLimit && quadsTest qt (saved .quads) (take (saved .graphs) (saved .fetched)) leasts count)
-
+module _ (loading tt qt : List ℕ) (count : ℕ) (ht : HoldsTerms tt count) (saved : SavedStore) (leasts : List ℕ) where
   module _ (S : Schema) (ks ts : List Term) (ek : termsIn loading ≡ some ks) (et : termsIn tt ≡ some ts) (each : LeastOf S ts leasts) where
     abbrev fetched : List ℕ
     fetched = take (saved .graphs) (saved .fetched)
@@ -123,8 +126,8 @@ module _ (loading tt qt : List ℕ) (known count : ℕ) (hl : HoldsTerms loading
     size : length ts ≡ count
     size = omega (arith, terms-length tt count ht, ap length (some-is (sym et ∙ terms tt count ht .1)))
 
-    store-is : passes (storeSound S ks) (storeIn tt qt saved) ≡ held? && (few? && storeSound S ks store)
-    unfolding storeIn onward quadsIn
+    store-is : passes (storeSound S ks) (heldStore tt qt saved) ≡ held? && (few? && storeSound S ks store)
+    unfolding heldStore onward quadsIn
     store-is =
         rw et (passes-both (storeSound S ks) held? few? quads (λ quads. record { terms = ts; quads = quads; fetched = fetched }))
 
@@ -132,27 +135,15 @@ module _ (loading tt qt : List ℕ) (known count : ℕ) (hl : HoldsTerms loading
     unfolding inLimits
     limits h g =
         let n : length quads ≤ quadLimit =
-        omega (arith, quads-count (saved .quads) qt 0, leb→le (saved .quads) quadLimit (andLeft (leb (saved .quads) quadLimit) (allZero (drop (quadWidth * saved .quads) qt)) h)) in
+        omega (arith, quads-from-count (saved .quads) qt 0, leb→le (saved .quads) quadLimit (andLeft (leb (saved .quads) quadLimit) (allZero (drop (quadWidth * saved .quads) qt)) h)) in
         let m : length fetched ≤ graphLimit = omega (arith, length-take (saved .graphs) (saved .fetched), leb→le (saved .graphs) graphLimit g) in
         rw (le-leb (length ts) termLimit (terms-few tt ts et), le-leb (length quads) quadLimit n, le-leb (length fetched) graphLimit m)
 
-    tests-are : tests ≡ passes (storeSound S ks) (storeIn tt qt saved)
-    unfolding termsSound beginsIn distinctIn quadsTest storeSound quadsIn
-    tests-are =
+    -- the tests in the code's order
+    pub store-tests : termsSound (termsIn loading) (termsIn tt) && storeTest qt saved leasts count ≡ passes (storeSound S ks) (heldStore tt qt saved)
+    unfolding termsSound beginsIn distinctIn storeTest quadsTest storeSound quadsIn
+    store-tests =
         rw (ek, et, provided-is held? quads, every-same (uri-number S ts leasts count size each) fetched, every-same (quad-numbers S ts leasts count size each fetched) quads)
         (in-all held? few? (beginsWith ks ts) (distinct sameTerm ts) (distinct eqb fetched) (every (isURINumber S ts) fetched) (distinct sameQuad quads)
         (every (quadSound S ts fetched) quads) (inLimits store) limits)
         ∙ sym store-is
-
-  -- one test after another
-  module _ {a : Bool} (ea : a ≡ termsSound (termsIn loading) (termsIn tt)) where
-    pub bad-terms : not a ≡ true → SoundStore loading tt qt saved leasts false
-    bad-terms t S ks ts ek et each = rw (sym ea ∙ not-true a t) at (tests-are S ks ts ek et each)
-
-    module _ (ta : not a ≡ false) where
-      pub many-graphs : graphLimit < saved .graphs → SoundStore loading tt qt saved leasts false
-      many-graphs h S ks ts ek et each = rw (sym ea ∙ not-false a ta, lt-leb (saved .graphs) graphLimit h) at (tests-are S ks ts ek et each)
-
-      pub store-sound : saved .graphs ≤ graphLimit → {r : Bool} → r ≡ quadsTest qt (saved .quads) (take (saved .graphs) (saved .fetched)) leasts count
-          → SoundStore loading tt qt saved leasts r
-      store-sound h e S ks ts ek et each = e ∙ rw (sym ea ∙ not-false a ta, le-leb (saved .graphs) graphLimit h) at (tests-are S ks ts ek et each)

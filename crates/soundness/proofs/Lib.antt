@@ -5,8 +5,3 @@ pub mod HashLaws
 pub mod QuadLaws
 pub mod StoreLaws
 pub mod Clauses
-pub mod TypeLaws
-pub mod BindingLaws
-pub mod StackLaws
-pub mod ControlLaws
-pub mod StateLaws

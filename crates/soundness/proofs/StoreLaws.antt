@@ -8,7 +8,8 @@ use lib.ListN.{getD}
 use borrow.Author.Tests.{lt-ltb, le-ltb, le-leb, lt-leb, not-true, not-false}
 use Rattle.definitions.specs.Lists.{isIn}
 use Rattle.definitions.specs.Evaluate.{Quad}
-use Rattle.soundness.specs.Store.{uriNumber, codeFits, pairNumbers, quadNumbers}
+use Rattle.codes.specs.TypeCodes.{codeLeq}
+use Rattle.soundness.specs.Store.{uriNumber, pairNumbers, quadNumbers}
 
 -- ── the number of a URI ─────────────────────────────────────────────────────────────────────
 
@@ -38,7 +39,7 @@ module _ (leasts : List ℕ) (count p o : ℕ) where
       unfolding pairNumbers
       no-range h = rw (lt-ltb p count hp, lt-ltb o count ho, lt-leb 9 (getD leasts p 0) h)
 
-      pub pair-is : 9 ≤ getD leasts p 0 → {r : Bool} → r ≡ codeFits (getD leasts o 0) (getD leasts p 0 - 8) → r ≡ pairNumbers leasts count p o
+      pub pair-is : 9 ≤ getD leasts p 0 → {r : Bool} → r ≡ codeLeq (getD leasts o 0) (getD leasts p 0 - 8) → r ≡ pairNumbers leasts count p o
       unfolding pairNumbers
       pair-is h e = e ∙ rw (lt-ltb p count hp, lt-ltb o count ho, le-leb 9 (getD leasts p 0) h)
 

@@ -18,21 +18,22 @@ use Rattle.definitions.specs.Evaluate.{Quad}
 use Rattle.definitions.specs.Sound.{isURINumber, pairFits, quadSound}
 use Rattle.laws.proofs.TestEquations.{agree, agreed, type-equal}
 use Rattle.laws.proofs.Order.{byType, byDatatype, everyType}
-use Rattle.laws.specs.Sorts.{least}
+use Rattle.laws.specs.Sorts.{least, LeastOf}
 use Rattle.laws.proofs.Sorts.{has-least}
 use Rattle.laws.proofs.Bindings.{there-is}
+use Rattle.codes.specs.TypeCodes.{codeLeq}
 use Rattle.codes.proofs.CodeLaws.{code-of}
-use Rattle.soundness.specs.Store.{LeastOf, uriNumber, codeFits, pairNumbers, quadNumbers}
+use Rattle.soundness.specs.Store.{uriNumber, pairNumbers, quadNumbers}
 
 -- ── codes ───────────────────────────────────────────────────────────────────────────────────
 
 uri-code : (τ : Ty) → (eqb (typeCode τ) 1 || leb 9 (typeCode τ)) ≡ leq τ (plain Datatype.anyURI)
 uri-code = type-equal (λ τ. eqb (typeCode τ) 1 || leb 9 (typeCode τ)) (λ τ. leq τ (plain Datatype.anyURI)) tt
 
-range-code : (σ : Ty) (d : Datatype) → (leb 9 (typeCode (range d)) && codeFits (typeCode σ) (typeCode (range d) - 8)) ≡ leq σ (plain d)
+range-code : (σ : Ty) (d : Datatype) → (leb 9 (typeCode (range d)) && codeLeq (typeCode σ) (typeCode (range d) - 8)) ≡ leq σ (plain d)
 range-code σ d =
-    let same : Datatype → Ty → Bool = λ d σ. agree (leb 9 (typeCode (range d)) && codeFits (typeCode σ) (typeCode (range d) - 8)) (leq σ (plain d)) in
-    agreed (leb 9 (typeCode (range d)) && codeFits (typeCode σ) (typeCode (range d) - 8)) (leq σ (plain d)) (byType (same d) (byDatatype (λ d. everyType (same d)) tt d) σ)
+    let same : Datatype → Ty → Bool = λ d σ. agree (leb 9 (typeCode (range d)) && codeLeq (typeCode σ) (typeCode (range d) - 8)) (leq σ (plain d)) in
+    agreed (leb 9 (typeCode (range d)) && codeLeq (typeCode σ) (typeCode (range d) - 8)) (leq σ (plain d)) (byType (same d) (byDatatype (λ d. everyType (same d)) tt d) σ)
 
 -- ── terms ───────────────────────────────────────────────────────────────────────────────────
 
@@ -43,12 +44,12 @@ none-there (x ∷ xs) (suc i) h = none-there xs i (omega arith)
 
 -- property and object by their least types
 pair-terms : (S : Schema) (p o : Term)
-    → (leb 9 (typeCode (least (sortOf S p))) && codeFits (typeCode (least (sortOf S o))) (typeCode (least (sortOf S p)) - 8)) ≡ pairFits S (some p) (some o)
+    → (leb 9 (typeCode (least (sortOf S p))) && codeLeq (typeCode (least (sortOf S o))) (typeCode (least (sortOf S p)) - 8)) ≡ pairFits S (some p) (some o)
 unfolding sortOf least
 pair-terms S (Term.uri u) o = go (datatypeIn S u) refl
   where
     go : (d : Option Datatype) → datatypeIn S u ≡ d
-        → (leb 9 (typeCode (least (Sort.uri d))) && codeFits (typeCode (least (sortOf S o))) (typeCode (least (Sort.uri d)) - 8)) ≡ objectFits S d o
+        → (leb 9 (typeCode (least (Sort.uri d))) && codeLeq (typeCode (least (sortOf S o))) (typeCode (least (Sort.uri d)) - 8)) ≡ objectFits S d o
     go none e = refl
     go (some d) e = range-code (least (sortOf S o)) d ∙ sym (has-least (sortOf S o) (plain d))
 pair-terms S (Term.string g t) o = refl

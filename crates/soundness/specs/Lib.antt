@@ -1,3 +1,2 @@
 pub mod Hashes
 pub mod Store
-pub mod Control

@@ -1,5 +1,4 @@
-// Whether saved run and tables are sound: refusal 10.
-pub mod control; // control.rt: the stack and the bindings
+// The store's half of soundness (refusal 10): whether tables and saved store are sound.
 pub mod graphs; // graphs.rt: the fetched graphs
 pub mod quads; // quads.rt: the quad table
 pub mod store; // store.rt: the store's half

@@ -9,8 +9,9 @@ ghost use Rattle.definitions.specs.Saved.{quadsFrom, quadsIn};
 ghost use Rattle.laws.specs.ReadAnswers.{isSome};
 ghost use Rattle.laws.specs.Quads.{rowAt, rowsFrom};
 ghost use Rattle.soundness.specs.Hashes.{quadHash, HashedQuads};
-ghost use Rattle.soundness.specs.Store.{codeFits, pairNumbers, quadNumbers};
+ghost use Rattle.soundness.specs.Store.{pairNumbers, quadNumbers};
 use crate::graphs::is_uri;
+use codes::has_type;
 use definitions::QUAD_LIMIT;
 use definitions::QUAD_WIDTH;
 use fields::numbers::is_zero;
@@ -137,13 +138,6 @@ pub fn quads_distinct(rows: &[u16], n: usize) -> bool
     true
 }
 
-// Whether a term of a least type has a datatype, both by their codes.
-fn code_fits(object: u8, datatype: u8) -> bool
-    ensures { λ r. ⌜ r ≡ codeFits object datatype ⌝ }
-{
-    (object == datatype) | (((object == 5) & (datatype == 3)) | ((9 <= object) & (datatype == 1)))
-}
-
 // Whether a property is one of the schema, and the object of its datatype.
 fn pair_fits(leasts: &[u8], count: usize, property: u16, object: u16) -> bool
     requires { ⌜ count ≤ length (now leasts) ⌝ }
@@ -161,7 +155,9 @@ fn pair_fits(leasts: &[u8], count: usize, property: u16, object: u16) -> bool
     if range < 9 {
         return false;
     }
-    code_fits(leasts[o], range - 8)
+    let least = leasts[o];
+    let datatype = range - 8;
+    has_type(least, datatype)
 }
 
 // Whether the quad at an offset is well typed, in a fetched graph.

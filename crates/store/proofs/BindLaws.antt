@@ -8,16 +8,16 @@ use lib.ListN.{length, getD, take, drop}
 use lib.Seq.{drop-cons}
 use Rattle.definitions.specs.Bytes.{byte}
 use Rattle.definitions.specs.Search.{bind}
-use Rattle.definitions.specs.Machine.{State}
-use Rattle.definitions.specs.Saved.{savedOf}
-use Rattle.definitions.specs.declared.SavedRun.{SavedRun}
+use Rattle.definitions.specs.Machine.{Control}
+use Rattle.definitions.specs.Saved.{savedControl}
+use Rattle.definitions.specs.declared.SavedControl.{SavedControl}
 use Rattle.laws.specs.Lists.{All}
 use Rattle.laws.specs.Pairs.{pairVariables}
 use Rattle.store.specs.Stack.{boundAll, boundTo}
-use Rattle.store.proofs.RunStates.{withBindings, saved-bind}
+use Rattle.store.proofs.ControlStates.{withBindings, saved-bind}
 
 -- one variable more, in front of those that are bound
-module _ (r next : SavedRun) (s tuple : List ℕ) (at count k m v i : ℕ) (one : suc m ≡ k) (some : k ≤ count) (four : count ≤ length tuple) where
+module _ (r next : SavedControl) (s tuple : List ℕ) (at count k m v i : ℕ) (one : suc m ≡ k) (some : k ≤ count) (four : count ≤ length tuple) where
   pub bind-next : v ≡ byte s (at + 2 * m) → i ≡ getD tuple m 0
       → next ≡ boundAll r (pairVariables (count - k) s (at + 2 * k)) (take (count - k) (drop k tuple))
       → boundTo next v i ≡ boundAll r (pairVariables (count - m) s (at + 2 * m)) (take (count - m) (drop m tuple))
@@ -34,12 +34,12 @@ module _ (r next : SavedRun) (s tuple : List ℕ) (at count k m v i : ℕ) (one 
       ∙ ap (λ (x : ℕ). boundAll r (pairVariables x s (at + 2 * m)) (take x (drop m tuple))) (sym a)))
 
 -- none is left to bind at first
-pub bind-none : (r : SavedRun) (s tuple : List ℕ) (at count : ℕ) → r ≡ boundAll r (pairVariables (count - count) s (at + 2 * count)) (take (count - count) (drop count tuple))
+pub bind-none : (r : SavedControl) (s tuple : List ℕ) (at count : ℕ) → r ≡ boundAll r (pairVariables (count - count) s (at + 2 * count)) (take (count - count) (drop count tuple))
 unfolding pairVariables boundAll
 bind-none r s tuple at count = let e : count - count ≡ 0 = omega arith in rw e refl
 
 -- and all at last
-pub bind-all : (r next : SavedRun) (s tuple : List ℕ) (at count k : ℕ) → k ≡ 0
+pub bind-all : (r next : SavedControl) (s tuple : List ℕ) (at count k : ℕ) → k ≡ 0
     → next ≡ boundAll r (pairVariables (count - k) s (at + 2 * k)) (take (count - k) (drop k tuple)) → next ≡ boundAll r (pairVariables count s at) (take count tuple)
 bind-all r next s tuple at count k e g =
     let a : at + 2 * 0 ≡ at = omega arith in
@@ -47,14 +47,14 @@ bind-all r next s tuple at count k e g =
     g ∙ (ap (λ (j : ℕ). boundAll r (pairVariables (count - j) s (at + 2 * j)) (take (count - j) (drop j tuple))) e
     ∙ (λ z. boundAll r (pairVariables (b z) s (a z)) (take (b z) tuple)))
 
--- ── what it does to the state ───────────────────────────────────────────────────────────────
+-- ── what it does to the control ─────────────────────────────────────────────────────────────
 
 -- all of a tuple's terms
-pub saved-bind-all : (types : List ℕ) (s : State) (vs t : List ℕ) → All (λ v. v < 16) vs
-    → boundAll (savedOf types s) vs t ≡ savedOf types (withBindings s (bind vs t (s .control .bindings)))
+pub saved-bind-all : (types : List ℕ) (c : Control) (vs t : List ℕ) → All (λ v. v < 16) vs
+    → boundAll (savedControl types c) vs t ≡ savedControl types (withBindings c (bind vs t (c .bindings)))
 unfolding boundAll bind
-saved-bind-all types s [] t h = refl
-saved-bind-all types s (v ∷ vs) [] h = refl
-saved-bind-all types s (v ∷ vs) (i ∷ t) h =
-    ap (λ (r : SavedRun). boundTo r v i) (saved-bind-all types s vs t (h .1))
-    ∙ saved-bind types (withBindings s (bind vs t (s .control .bindings))) v i (h .0)
+saved-bind-all types c [] t h = refl
+saved-bind-all types c (v ∷ vs) [] h = refl
+saved-bind-all types c (v ∷ vs) (i ∷ t) h =
+    ap (λ (r : SavedControl). boundTo r v i) (saved-bind-all types c vs t (h .1))
+    ∙ saved-bind types (withBindings c (bind vs t (c .bindings))) v i (h .0)

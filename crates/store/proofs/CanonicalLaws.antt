@@ -1,32 +1,32 @@
--- The saved run without what means nothing is the saved run of the state that is held.
-use Prim.Native.Nat.{ℕ, zero, suc, _+_, _-_, _*_, _≤_, _<_}
+-- Saved control and saved store without what means nothing are those of the state that is held.
+use Prim.Native.Nat.{ℕ, zero, suc, _+_, _-_, _≤_, _<_}
 use native.Mathlib.Omega.{arith}
 use mathlib.Core.Path.{_≡_, refl, ap, sym, _∙_}
 use mathlib.Core.List.{List, [], _∷_, _++_, map, map-append}
 use mathlib.Core.Bool.{Bool, true, false, cond, _&&_, and-false}
 use mathlib.Core.Option.{none, some}
 use lib.Dec.{eqb, ltb, leb, leb→le}
-use lib.ListN.{length, getD, take, drop, replicate, length-take, length-map}
+use lib.ListN.{length, getD, take, replicate, length-take, length-map}
 use lib.Seq.{take-suc, ext-getD}
 use borrow.Author.Tests.{eq-eqb, ne-eqb, lt-ltb, eqb-true}
-use Rattle.definitions.specs.Limits.{graphLimit, depthLimit, variableLimit, quadLimit, quadWidth}
-use Rattle.definitions.specs.Bytes.{byte, filled, allZero, onward}
+use Rattle.definitions.specs.Limits.{graphLimit, depthLimit, variableLimit}
+use Rattle.definitions.specs.Bytes.{byte, filled, onward}
 use Rattle.definitions.specs.Tree.{Script, success, fromNamed, block, sequence, Binder}
 use Rattle.definitions.specs.Reading.{readScript, parsed, isEach}
 use Rattle.definitions.specs.Scope.{variables}
-use Rattle.definitions.specs.Evaluate.{Quad}
-use Rattle.definitions.specs.Machine.{Item, State}
-use Rattle.definitions.specs.Saved.{Place, placeIn, lastTuple, noItem, stackFrom, savedItem, savedItems, zeroItem, savedOf, quadsFrom, quadsIn}
+use Rattle.definitions.specs.Machine.{Item, Control, Store}
+use Rattle.definitions.specs.Saved.{Place, placeIn, lastTuple, noItem, stackFrom, savedItem, savedItems, zeroItem, savedControl, savedStore}
 use Rattle.definitions.specs.Saved.{bindingsIn, isBound, numberOrZero, hasTuple, lastNumbers}
 use Rattle.definitions.specs.declared.SavedItem.{SavedItem}
-use Rattle.definitions.specs.declared.SavedRun.{SavedRun}
-use Rattle.laws.proofs.Options.{some-is, onward-inv, provided-inv}
+use Rattle.definitions.specs.declared.SavedControl.{SavedControl}
+use Rattle.definitions.specs.declared.SavedStore.{SavedStore}
+use Rattle.laws.proofs.Options.{some-is, onward-inv}
 use Rattle.laws.proofs.ScriptReads.{script-reads, parsed-reads}
 use Rattle.laws.proofs.ReadBounds.{binders-bounded}
 use Rattle.laws.proofs.Variables.{at-variable}
-use Rattle.laws.proofs.Saved.{Holding}
+use Rattle.laws.proofs.Saved.{HoldsControl, HoldsStore, quads-in-count}
 use Rattle.store.specs.Stack.{freshItem}
-use Rattle.store.specs.Canonical.{startedItem, cleanItem, cleanItems, numberOf, cleanBindings, canonicalOf}
+use Rattle.store.specs.Canonical.{startedItem, cleanItem, cleanItems, numberOf, cleanBindings, canonicalControl, canonicalStore}
 
 -- ── one item ────────────────────────────────────────────────────────────────────────────────
 
@@ -143,49 +143,37 @@ number-is true true n e = refl
 number-is true false n e = refl
 number-is false b n e = absurd (let z : _≡_ {A = ℕ} 0 1 = cc in omega arith)
 
-quads-count : (count : ℕ) (table : List ℕ) (qs : List Quad) → quadsIn count table ≡ some qs → length qs ≡ count
-unfolding quadsIn quadsFrom
-quads-count count table qs e =
-    let p = provided-inv (leb count quadLimit && allZero (drop (quadWidth * count) table)) (some (quadsFrom count table 0)) e in
-    ap length (sym (some-is (p .1))) ∙ from count 0
-  where
-    from : (n at : ℕ) → length (quadsFrom n table at) ≡ n
-    from zero at = refl
-    from (suc n) at = ap suc (from n (at + quadWidth))
-
 module _ (terms : ℕ) (script : List ℕ) (root : Script) (reads : parsed terms script ≡ some root) where
-  pub canonical-is : (termBytes quadBytes : List ℕ) (saved : SavedRun) (s : State) → length (saved .bound) ≡ variableLimit → length (saved .fetched) ≡ graphLimit → length (saved .items) ≡ depthLimit → Holding root termBytes quadBytes saved s
-      → canonicalOf script saved ≡ savedOf (saved .types) s
-  unfolding savedOf cleanItems cleanBindings bindingsIn
-  canonical-is termBytes quadBytes saved s sixteen places levels h =
+  pub control-is : (saved : SavedControl) (c : Control) → length (saved .bound) ≡ variableLimit → length (saved .items) ≡ depthLimit → HoldsControl root saved c
+      → canonicalControl script saved ≡ savedControl (saved .types) c
+  unfolding savedControl cleanItems cleanBindings bindingsIn
+  control-is saved c sixteen levels h =
       let low = leb→le (saved .height) depthLimit (h .height) in
-      let few = leb→le (saved .graphs) graphLimit (h .graphs) in
-      let β = s .control .bindings in
-      let k = items-are terms script root reads (saved .height) (saved .items) (s .control .stack) (omega (arith, levels)) (h .stack) in
+      let β = c .bindings in
+      let k = items-are terms script root reads (saved .height) (saved .items) (c .stack) (omega (arith, levels)) (h .stack) in
       let height = k .0 in
       let bound : saved .bound ≡ map (λ v. isBound (β v)) variables =
       ext-getD false (saved .bound) (map (λ v. isBound (β v)) variables) (sixteen) (λ v l.
       let w : v < 16 = omega (arith, sixteen) in
-      sym (at-variable (λ v. isBound (β v)) false v w ∙ (ap (λ b. isBound (b v)) (sym (h .bindings)) ∙ bound-is (ltb v 16) (getD (saved .bound) v false) (getD (saved .bindings) v 0) (lt-ltb v 16 w)))) in
+      sym (at-variable (λ v. isBound (β v)) false v w
+      ∙ (ap (λ b. isBound (b v)) (sym (h .bindings)) ∙ bound-is (ltb v 16) (getD (saved .bound) v false) (getD (saved .bindings) v 0) (lt-ltb v 16 w)))) in
       let number = numberOf (saved .bound) (saved .bindings) in
       let numbers : map number variables ≡ map (λ v. numberOrZero (β v)) variables =
       ext-getD 0 (map number variables) (map (λ v. numberOrZero (β v)) variables) refl (λ v w.
       at-variable number 0 v w
-      ∙ sym (at-variable (λ v. numberOrZero (β v)) 0 v w ∙ (ap (λ b. numberOrZero (b v)) (sym (h .bindings)) ∙ number-is (ltb v 16) (getD (saved .bound) v false) (getD (saved .bindings) v 0) (lt-ltb v 16 w)))) in
-      let graphs : saved .graphs ≡ length (s .store .fetched) =
-      omega (arith, length-take (saved .graphs) (saved .fetched), places, ap length (h .fetched)) in
-      let items : map (cleanItem script) (take (saved .height) (saved .items)) ++ replicate (24 - saved .height) zeroItem ≡ savedItems (s .control .stack) ++ replicate (24 - length (savedItems (s .control .stack))) zeroItem =
-      let size : saved .height ≡ length (savedItems (s .control .stack)) =
+      ∙ sym (at-variable (λ v. numberOrZero (β v)) 0 v w
+      ∙ (ap (λ b. numberOrZero (b v)) (sym (h .bindings)) ∙ number-is (ltb v 16) (getD (saved .bound) v false) (getD (saved .bindings) v 0) (lt-ltb v 16 w)))) in
+      let items : map (cleanItem script) (take (saved .height) (saved .items)) ++ replicate (24 - saved .height) zeroItem
+      ≡ savedItems (c .stack) ++ replicate (24 - length (savedItems (c .stack))) zeroItem =
+      let size : saved .height ≡ length (savedItems (c .stack)) =
       omega (arith, ap length (k .1), length-map (take (saved .height) (saved .items)) (cleanItem script), length-take (saved .height) (saved .items), levels) in
       λ t. sym (k .1) t ++ replicate (24 - size t) zeroItem in
-      λ t.
-      record {
-        height = sym height t;
-        quads = sym (quads-count (saved .quads) quadBytes (s .store .quads) (h .quads)) t;
-        graphs = graphs t;
-        types = saved .types;
-        bound = bound t;
-        bindings = numbers t;
-        fetched = filled 64 (h .fetched t);
-        items = items t;
-      }
+      λ t. record { height = sym height t; types = saved .types; bound = bound t; bindings = numbers t; items = items t }
+
+pub store-is : (termBytes quadBytes : List ℕ) (saved : SavedStore) (s : Store) → length (saved .fetched) ≡ graphLimit → HoldsStore termBytes quadBytes saved s
+    → canonicalStore saved ≡ savedStore s
+unfolding savedStore
+store-is termBytes quadBytes saved s places h =
+    let few = leb→le (saved .graphs) graphLimit (h .graphs) in
+    let graphs : saved .graphs ≡ length (s .fetched) = omega (arith, length-take (saved .graphs) (saved .fetched), places, ap length (h .fetched)) in
+    λ t. record { quads = sym (quads-in-count (saved .quads) quadBytes (s .quads) (h .quads)) t; graphs = graphs t; fetched = filled graphLimit (h .fetched t) }

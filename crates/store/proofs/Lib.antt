@@ -1,6 +1,6 @@
-pub mod RunStates
+pub mod ControlStates
 pub mod BindLaws
 pub mod FillLaws
 pub mod CanonicalLaws
 pub mod QuadLaws
-pub mod Fetched
+pub mod GraphLaws

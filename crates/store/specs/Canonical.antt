@@ -8,7 +8,8 @@ use Rattle.definitions.specs.Bytes.{byte, filled}
 use Rattle.definitions.specs.Scope.{variables}
 use Rattle.definitions.specs.Saved.{zeroItem}
 use Rattle.definitions.specs.declared.SavedItem.{SavedItem}
-use Rattle.definitions.specs.declared.SavedRun.{SavedRun}
+use Rattle.definitions.specs.declared.SavedControl.{SavedControl}
+use Rattle.definitions.specs.declared.SavedStore.{SavedStore}
 use Rattle.store.specs.Stack.{freshItem}
 
 -- an each block that has used a tuple: its mark is set, and the script has an each block there
@@ -32,15 +33,15 @@ numberOf bound bindings v = cond (getD bound v false) (getD bindings v 0) 0
 unfoldable pub cleanBindings : List Bool → List ℕ → List ℕ
 cleanBindings bound bindings = map (numberOf bound bindings) variables
 
-abbrev pub canonicalOf : List ℕ → SavedRun → SavedRun
-canonicalOf s r =
+abbrev pub canonicalControl : List ℕ → SavedControl → SavedControl
+canonicalControl s c =
     record {
-      height = r .height;
-      quads = r .quads;
-      graphs = r .graphs;
-      types = r .types;
-      bound = r .bound;
-      bindings = cleanBindings (r .bound) (r .bindings);
-      fetched = filled 64 (take (r .graphs) (r .fetched));
-      items = cleanItems s (r .height) (r .items);
+      height = c .height;
+      types = c .types;
+      bound = c .bound;
+      bindings = cleanBindings (c .bound) (c .bindings);
+      items = cleanItems s (c .height) (c .items);
     }
+
+abbrev pub canonicalStore : SavedStore → SavedStore
+canonicalStore s = record { quads = s .quads; graphs = s .graphs; fetched = filled 64 (take (s .graphs) (s .fetched)) }

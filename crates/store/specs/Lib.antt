@@ -1,3 +1,5 @@
+pub mod Bare
 pub mod Stack
+pub mod Graphs
 pub mod Canonical
 pub mod Quads

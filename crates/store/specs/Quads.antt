@@ -2,7 +2,6 @@
 use Prim.Native.Nat.{ℕ, _+_, _*_}
 use mathlib.Core.Bool.{cond}
 use mathlib.Core.List.{List, [], _∷_, _++_}
-use lib.Dec.{eqb}
 use lib.ListN.{take, drop}
 use Rattle.definitions.specs.Limits.{quadWidth}
 use Rattle.definitions.specs.Evaluate.{Quad}

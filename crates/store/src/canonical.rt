@@ -1,19 +1,19 @@
 // The saved run as a call hands it back: what means nothing in the one that was lent is zero.
 ghost use mathlib.Core.Path.{_≡_};
 ghost use mathlib.Core.Bool.{cond};
-ghost use mathlib.Core.List.{List};
-ghost use Prim.Native.Nat.{ℕ, _+_, _≤_};
+ghost use Prim.Native.Nat.{_+_, _≤_};
 ghost use lib.ListN.{take};
 ghost use Rattle.definitions.specs.Bytes.{byte, filled};
-ghost use Rattle.store.specs.Canonical.{cleanItem, cleanItems, cleanBindings, canonicalOf};
+ghost use Rattle.store.specs.Canonical.{cleanItem, cleanItems, cleanBindings, canonicalControl, canonicalStore};
 ghost use Rattle.definitions.specs.Limits.{depthLimit, graphLimit, pairLimit};
 use crate::stack::fresh_item;
 use definitions::GRAPH_LIMIT;
 use definitions::ITEM_LIMIT;
 use definitions::PAIR_LIMIT;
+use definitions::SavedControl;
 use definitions::SavedItem;
-use definitions::SavedRun;
-use definitions::VARIABLES;
+use definitions::SavedStore;
+use definitions::VARIABLE_LIMIT;
 
 // The byte at an offset of the script, 0 past its end.
 // Ruled out: a read past the script's end; the byte before the offset.
@@ -101,12 +101,15 @@ fn number_if(meant: bool, number: u16) -> u16
 }
 
 // The terms of the bound variables.
-fn clean_bindings(bound: [bool; VARIABLES], bindings: [u16; VARIABLES]) -> [u16; VARIABLES]
+fn clean_bindings(
+    bound: [bool; VARIABLE_LIMIT],
+    bindings: [u16; VARIABLE_LIMIT],
+) -> [u16; VARIABLE_LIMIT]
     ensures { λ r. ⌜ r ≡ cleanBindings bound bindings ⌝ }
 {
-    let mut clean = [0u16; VARIABLES];
+    let mut clean = [0u16; VARIABLE_LIMIT];
     let mut v = 0;
-    while v < VARIABLES {
+    while v < VARIABLE_LIMIT {
         clean[v] = number_if(bound[v], bindings[v]);
         v += 1;
     }
@@ -128,29 +131,38 @@ fn clean_fetched(graphs: u16, fetched: [u16; GRAPH_LIMIT]) -> [u16; GRAPH_LIMIT]
     clean
 }
 
-// The whole saved run.
+// The saved control of a call's end.
 // Ruled out: the last tuple of an item that has none kept; the number of an unbound variable kept.
-pub fn canonical(run: SavedRun, script: &[u8]) -> SavedRun
-    requires { ⌜ run .height ≤ depthLimit ⌝ }
-    requires { ⌜ run .graphs ≤ graphLimit ⌝ }
-    ensures { λ r. ⌜ r ≡ canonicalOf (now (script .entry)) run ⌝ }
+pub fn canonical_control(control: SavedControl, script: &[u8]) -> SavedControl
+    requires { ⌜ control .height ≤ depthLimit ⌝ }
+    ensures { λ r. ⌜ r ≡ canonicalControl (now (script .entry)) control ⌝ }
 {
-    let types = run.types;
-    let bound = run.bound;
-    let numbers = run.bindings;
-    let graphs = run.fetched;
-    let places = run.items;
+    let types = control.types;
+    let bound = control.bound;
+    let numbers = control.bindings;
+    let places = control.items;
     let bindings = clean_bindings(bound, numbers);
-    let fetched = clean_fetched(run.graphs, graphs);
-    let items = clean_items(run.height, places, script);
-    SavedRun {
-        height: run.height,
-        quads: run.quads,
-        graphs: run.graphs,
+    let items = clean_items(control.height, places, script);
+    SavedControl {
+        height: control.height,
         types,
         bound,
         bindings,
-        fetched,
         items,
+    }
+}
+
+// The saved store of a call's end.
+// Ruled out: a graph past the count kept; the last fetched graph dropped.
+pub fn canonical_store(store: SavedStore) -> SavedStore
+    requires { ⌜ store .graphs ≤ graphLimit ⌝ }
+    ensures { λ r. ⌜ r ≡ canonicalStore store ⌝ }
+{
+    let graphs = store.fetched;
+    let fetched = clean_fetched(store.graphs, graphs);
+    SavedStore {
+        quads: store.quads,
+        graphs: store.graphs,
+        fetched,
     }
 }

@@ -1,4 +1,6 @@
 // The saved run and the quad table: operations on stack, bindings and quads, and the form without what means nothing.
 pub mod quads; // quads.rt: the quad table
 pub mod stack; // stack.rt: stack and bindings
+pub mod graphs; // graphs.rt: the fetched list
+pub mod bare; // bare.rt: what stands where nothing does
 pub mod canonical; // canonical.rt: the saved run without what means nothing

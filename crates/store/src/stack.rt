@@ -1,25 +1,15 @@
-// Operations on the saved run: its stack and its bindings.
+// Operations on the saved control: its stack and its bindings.
 ghost use mathlib.Core.Path.{_≡_};
-ghost use mathlib.Core.Bool.{true};
 ghost use Prim.Native.Nat.{ℕ, _+_, _*_, _<_, _-_, _≤_};
 ghost use lib.ListN.{length, take};
 ghost use Rattle.definitions.specs.Bytes.{byte};
-ghost use Rattle.definitions.specs.Lists.{isIn};
-ghost use Rattle.store.specs.Stack.{pushed, popped, replaced, boundTo, freshItem, topOf, boundAll, graphFits, paged};
+ghost use Rattle.store.specs.Stack.{pushed, popped, replaced, boundTo, freshItem, topOf, boundAll};
 ghost use Rattle.laws.specs.Pairs.{pairVariables};
-ghost use Rattle.definitions.specs.Limits.{depthLimit, graphLimit, pairLimit, variableLimit};
-use definitions::GRAPH_LIMIT;
+ghost use Rattle.definitions.specs.Limits.{depthLimit, pairLimit, variableLimit};
 use definitions::PAIR_LIMIT;
+use definitions::SavedControl;
 use definitions::SavedItem;
-use definitions::SavedRun;
-
-// A byte as an index.
-// Ruled out: a byte that becomes another number; an index above 255.
-pub fn index(x: u8) -> usize
-    ensures { λ r. ⌜ r ≡ x ⌝ }
-{
-    x as usize
-}
+use fields::numbers::index;
 
 // An item that has used no tuple.
 // Ruled out: an item that starts after a tuple; one at another offset.
@@ -35,24 +25,24 @@ pub fn fresh_item(at: u16) -> SavedItem
 
 // The item on top.
 // Ruled out: the item at the bottom; the place above the top.
-pub fn top(run: SavedRun) -> SavedItem
-    requires { ⌜ 0 < run .height ⌝ }
-    requires { ⌜ run .height ≤ depthLimit ⌝ }
-    ensures { λ r. ⌜ r ≡ topOf run ⌝ }
+pub fn top(control: SavedControl) -> SavedItem
+    requires { ⌜ 0 < control .height ⌝ }
+    requires { ⌜ control .height ≤ depthLimit ⌝ }
+    ensures { λ r. ⌜ r ≡ topOf control ⌝ }
 {
-    let n = run.height - 1;
+    let n = control.height - 1;
     let place = n as usize;
-    run.items[place]
+    control.items[place]
 }
 
 // One item more.
 // Ruled out: an item that replaces the top; a height that stays.
-pub fn push(run: SavedRun, item: SavedItem) -> SavedRun
-    requires { ⌜ run .height < depthLimit ⌝ }
-    ensures { λ r. ⌜ r ≡ pushed run item ⌝ }
+pub fn push(control: SavedControl, item: SavedItem) -> SavedControl
+    requires { ⌜ control .height < depthLimit ⌝ }
+    ensures { λ r. ⌜ r ≡ pushed control item ⌝ }
 {
-    let mut next = run;
-    let n = run.height;
+    let mut next = control;
+    let n = control.height;
     let place = n as usize;
     next.items[place] = item;
     next.height = n + 1;
@@ -61,13 +51,13 @@ pub fn push(run: SavedRun, item: SavedItem) -> SavedRun
 
 // One item less; its place is zero again.
 // Ruled out: an item left above the height; the bottom one dropped.
-pub fn pop(run: SavedRun) -> SavedRun
-    requires { ⌜ 0 < run .height ⌝ }
-    requires { ⌜ run .height ≤ depthLimit ⌝ }
-    ensures { λ r. ⌜ r ≡ popped run ⌝ }
+pub fn pop(control: SavedControl) -> SavedControl
+    requires { ⌜ 0 < control .height ⌝ }
+    requires { ⌜ control .height ≤ depthLimit ⌝ }
+    ensures { λ r. ⌜ r ≡ popped control ⌝ }
 {
-    let mut next = run;
-    let n = run.height - 1;
+    let mut next = control;
+    let n = control.height - 1;
     let place = n as usize;
     let empty = SavedItem {
         at: 0,
@@ -81,13 +71,13 @@ pub fn pop(run: SavedRun) -> SavedRun
 
 // Another item on top.
 // Ruled out: an item added; the one below replaced.
-pub fn replace(run: SavedRun, item: SavedItem) -> SavedRun
-    requires { ⌜ 0 < run .height ⌝ }
-    requires { ⌜ run .height ≤ depthLimit ⌝ }
-    ensures { λ r. ⌜ r ≡ replaced run item ⌝ }
+pub fn replace(control: SavedControl, item: SavedItem) -> SavedControl
+    requires { ⌜ 0 < control .height ⌝ }
+    requires { ⌜ control .height ≤ depthLimit ⌝ }
+    ensures { λ r. ⌜ r ≡ replaced control item ⌝ }
 {
-    let mut next = run;
-    let n = run.height - 1;
+    let mut next = control;
+    let n = control.height - 1;
     let place = n as usize;
     next.items[place] = item;
     next
@@ -95,11 +85,11 @@ pub fn replace(run: SavedRun, item: SavedItem) -> SavedRun
 
 // A variable bound to a term.
 // Ruled out: a variable that is bound to nothing; another variable's term changed.
-pub fn bind(run: SavedRun, v: usize, term: u16) -> SavedRun
+pub fn bind(control: SavedControl, v: usize, term: u16) -> SavedControl
     requires { ⌜ v < variableLimit ⌝ }
-    ensures { λ r. ⌜ r ≡ boundTo run v term ⌝ }
+    ensures { λ r. ⌜ r ≡ boundTo control v term ⌝ }
 {
-    let mut next = run;
+    let mut next = control;
     next.bound[v] = true;
     next.bindings[v] = term;
     next
@@ -108,18 +98,18 @@ pub fn bind(run: SavedRun, v: usize, term: u16) -> SavedRun
 // A tuple's terms for the variables of a block's pairs, which begin at an offset.
 // Ruled out: the first variable left out; a variable bound twice keeping its later term.
 pub fn bind_tuple(
-    run: SavedRun,
+    control: SavedControl,
     script: &[u8],
     at: usize,
     count: usize,
     tuple: [u16; PAIR_LIMIT],
-) -> SavedRun
+) -> SavedControl
     requires { ⌜ at + 2 * count ≤ length (now script) ⌝ }
     requires { ⌜ count ≤ pairLimit ⌝ }
     requires { ⌜ ((k : ℕ) → k < count → byte (now script) (at + 2 * k) < variableLimit) ⌝ }
-    ensures { λ r. ⌜ r ≡ boundAll run (pairVariables count (now (script .entry)) at) (take count tuple) ⌝ }
+    ensures { λ r. ⌜ r ≡ boundAll control (pairVariables count (now (script .entry)) at) (take count tuple) ⌝ }
 {
-    let mut next = run;
+    let mut next = control;
     let mut k = count;
     while 0 < k {
         k -= 1;
@@ -128,52 +118,5 @@ pub fn bind_tuple(
         let term = tuple[k];
         next = bind(next, v, term);
     }
-    next
-}
-
-// Whether a graph is in the fetched list.
-// Ruled out: a graph found past the count; a look at the first graph alone.
-pub fn is_fetched(run: SavedRun, graph: u16) -> bool
-    requires { ⌜ run .graphs ≤ graphLimit ⌝ }
-    ensures { λ r. ⌜ r ≡ isIn graph (take (run .graphs) (run .fetched)) ⌝ }
-{
-    let fetched = run.fetched;
-    let n = run.graphs as usize;
-    let mut i = 0;
-    while i < n {
-        if fetched[i] == graph {
-            return true;
-        }
-        i += 1;
-    }
-    false
-}
-
-// Whether a graph is in the fetched list or has room there.
-// Ruled out: a 65th graph let in; a fetched graph refused where the list is full.
-pub fn graph_fits(run: SavedRun, graph: u16) -> bool
-    requires { ⌜ run .graphs ≤ graphLimit ⌝ }
-    ensures { λ r. ⌜ r ≡ graphFits run graph ⌝ }
-{
-    let n = run.graphs;
-    is_fetched(run, graph) | ((n as usize) < GRAPH_LIMIT)
-}
-
-// After a page: its graph is fetched, and there are so many quads.
-// Ruled out: a fetched graph listed twice; a quad count that stays.
-pub fn with_page(run: SavedRun, graph: u16, quads: u16) -> SavedRun
-    requires { ⌜ run .graphs ≤ graphLimit ⌝ }
-    requires { ⌜ graphFits run graph ≡ true ⌝ }
-    ensures { λ r. ⌜ r ≡ paged run graph quads ⌝ }
-{
-    let mut next = run;
-    next.quads = quads;
-    if is_fetched(run, graph) {
-        return next;
-    }
-    let n = run.graphs;
-    let place = n as usize;
-    next.fetched[place] = graph;
-    next.graphs = n + 1;
     next
 }

@@ -23,11 +23,20 @@ unfolding countOf countFrom
 count-zero none = refl
 count-zero (some xs) = ap Counts.Count (omega arith)
 
--- a count says that there are some
+-- what a count says
+module _ {A : Type 0} where
+  pub count-none : (o : Option (List A)) → countOf o ≡ Counts.Malformed → o ≡ none
+  unfolding countOf
+  count-none none e = refl
+  count-none (some xs) e = absurd (let z : _≡_ {A = ℕ} 0 1 = cc in omega arith)
+
+  pub count-some : (o : Option (List A)) {n : ℕ} → countOf o ≡ Counts.Count n → (xs : List A) × (o ≡ some xs) × (length xs ≡ n)
+  unfolding countOf
+  count-some none e = absurd (let z : _≡_ {A = ℕ} 0 1 = cc in omega arith)
+  count-some (some xs) {n} e = let l : length xs ≡ n = cc in (xs, refl, l)
+
 pub counted-some : {A : Type 0} (o : Option (List A)) {n : ℕ} → countOf o ≡ Counts.Count n → isSome o ≡ true
-unfolding countOf
-counted-some none e = absurd (let z : _≡_ {A = ℕ} 0 1 = cc in omega arith)
-counted-some (some xs) e = refl
+counted-some o e = rw (count-some o e .1)
 
 pub none-of : {A : Type 0} (p : A → Bool) (xs : List A) → every (λ x. not (p x)) xs ≡ not (some? p xs)
 none-of p [] = refl

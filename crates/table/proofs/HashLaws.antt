@@ -6,18 +6,17 @@ use native.Mathlib.Nat.{mul-le-mul}
 use mathlib.Core.Bool.{Bool, _||_, or-assoc, or-false}
 use mathlib.Core.List.{List, _++_}
 use mathlib.Core.Path.{_≡_, refl, sym, ap, _∙_}
-use lib.Dec.{eqb, eqb→eq, eqb-refl}
+use lib.Dec.{eqb}
 use lib.ListN.{length, getD, set, take, drop, length-drop, take-append-drop, drop-of-length-le}
 use lib.Seq.{drop-cons, drop-append-le, take-append-le, take-at, drop-at, length-take-le, getD-set-same, getD-set-other}
 use borrow.Author.Count.{below-more}
-use borrow.Author.Tests.{eqb-true, eq-eqb}
 use Rattle.definitions.specs.Limits.{slotWidth, termLimit, termTableWidth}
 use Rattle.definitions.specs.Lists.{some?}
 use Rattle.definitions.specs.Bytes.{word, part}
 use Rattle.table.specs.Hashes.{slotWords, hashSum, hashOf, slotAt, HashesOf, Hashed}
 use Rattle.table.specs.Table.{slotSet}
 use Rattle.fields.proofs.PartLaws.{some-part}
-use Rattle.fields.proofs.SameLaws.{test-is}
+use Rattle.laws.proofs.TestEquations.{eqb-swap}
 
 -- ── a hash ──────────────────────────────────────────────────────────────────────────────────
 
@@ -55,13 +54,10 @@ module _ (s : List ℕ) (at sum : ℕ) (i : Hashing s at sum) where
 
 -- ── a hash among others ─────────────────────────────────────────────────────────────────────
 
-swapped : (a b : ℕ) → eqb a b ≡ eqb b a
-swapped a b = test-is (eqb a b) (eqb b a) (λ t. rw (eqb-true a b t) (eqb-refl b)) (λ t. eq-eqb a b (sym (eqb→eq b a t)))
-
 module _ (hashes : List ℕ) (m i : ℕ) (seen : Bool) (far : some? (eqb m) hashes ≡ (seen || some? (eqb m) (drop i hashes))) where
   pub seen-next : i < length hashes → some? (eqb m) hashes ≡ (seen || eqb (getD hashes i 0) m || some? (eqb m) (drop (i + 1) hashes))
   seen-next h =
-      far ∙ ap (λ b. seen || b) (rw (drop-cons hashes i 0 h, add-one i, swapped (getD hashes i 0) m))
+      far ∙ ap (λ b. seen || b) (rw (drop-cons hashes i 0 h, add-one i, eqb-swap (getD hashes i 0) m))
       ∙ sym (or-assoc seen (eqb (getD hashes i 0) m) (some? (eqb m) (drop (i + 1) hashes)))
 
   pub seen-end : length hashes ≤ i → seen ≡ some? (eqb m) hashes

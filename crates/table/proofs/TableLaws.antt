@@ -18,7 +18,7 @@ use Rattle.definitions.specs.Terms.{Term, slotOf, readTerm, sameTerm}
 use Rattle.definitions.specs.Machine.{numbered}
 use Rattle.definitions.specs.Saved.{slotTerm, termsFrom, termsIn}
 use Rattle.laws.proofs.Options.{some-is}
-use Rattle.laws.proofs.Bytes.{AreBytes, part-bytes}
+use Rattle.laws.proofs.Bytes.{AreBytes, part-bytes, part-length}
 use Rattle.laws.proofs.Equality.{same-term, term-refl}
 use Rattle.laws.proofs.Slots.{slot-inv}
 use Rattle.laws.proofs.SlotAt.{terms-few, slot-at}
@@ -30,7 +30,7 @@ use Rattle.laws.specs.ReadAnswers.{isSome, nextOf}
 use Rattle.fields.specs.Answers.{countOf, distinctIn}
 use Rattle.table.specs.Table.{HoldsTerms, GoodSlot, numberFrom, numberIn, slotSet}
 use Rattle.laws.proofs.ReadAnswers.{is-none, is-some, provided-is, next-lost, next-got}
-use Rattle.fields.proofs.PartLaws.{rest-part, some-part, part-length, drop-replicate}
+use Rattle.fields.proofs.PartLaws.{rest-part, some-part, drop-replicate}
 use Rattle.table.proofs.CountLaws.{countFrom, counted-some, none-of}
 use Rattle.fields.proofs.SameLaws.{Compared, test-is}
 

@@ -1,5 +1,5 @@
 -- The term table: what it holds, the number of a term, and a term that joins.
-use Prim.Native.Nat.{ℕ, _+_, _*_}
+use Prim.Native.Nat.{ℕ, _+_, _*_, _≤_}
 use mathlib.Core.Bool.{true, cond}
 use mathlib.Core.List.{List, [], _++_}
 use mathlib.Core.Option.{Option, none, some}
@@ -13,13 +13,22 @@ use Rattle.definitions.specs.Saved.{termTable, slotTerm, termsIn}
 use Rattle.table.specs.declared.Added.{Added}
 use Rattle.table.specs.declared.Added.the-variants.{Count, Full}
 use Rattle.fields.specs.declared.Counted.the-variants as Counts
+use Rattle.laws.specs.Lists.{All}
 use Rattle.laws.specs.ReadAnswers.{isSome}
+use Rattle.laws.specs.Valid.{Valid}
 use Rattle.fields.specs.Answers.{countOf}
 
 -- a table that holds n terms
 pub record HoldsTerms (table : List ℕ) (n : ℕ) : Type 0 where
   pub width : length table ≡ termTableWidth
   pub count : countOf (termsIn table) ≡ Counts.Count n
+
+-- these n
+pub record HeldTerms (table : List ℕ) (n : ℕ) (ts : List Term) : Type 0 where
+  pub is : table ≡ termTable ts
+  pub valid : All Valid ts
+  pub count : length ts ≡ n
+  pub few : n ≤ termLimit
 
 -- a slot that holds a term
 pub record GoodSlot (slot : List ℕ) : Type 0 where

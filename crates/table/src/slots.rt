@@ -1,7 +1,6 @@
 // The term table: a record and zeros in each slot, zeros after the last.
 use crate::hashes::find_slot;
 use crate::hashes::hash_of;
-use crate::hashes::hash_slots;
 use crate::hashes::slot_again;
 use definitions::Read;
 use definitions::SLOT_WIDTH;
@@ -70,14 +69,15 @@ pub fn find_term(table: &[u8], n: usize, hashes: &[u16], slot: &[u8]) -> usize
 }
 
 // Whether the terms of a table are all different. Ruled out: neighbours alone compared; a slot compared with itself.
-pub fn slots_distinct(table: &[u8], n: usize) -> bool
+pub fn slots_distinct(table: &[u8], n: usize, hashes: &[u16]) -> bool
     requires { ⌜ HoldsTerms (now table) n ⌝ }
+    requires { ⌜ length (now hashes) ≡ termLimit ⌝ }
+    requires { ⌜ Hashed (now table) n (now hashes) ⌝ }
     ensures { λ r. ⌜ r ≡ distinctIn sameTerm (termsIn (now (table .entry))) ⌝ }
 {
-    let hashes = hash_slots(table, n);
     let mut i = 0;
     while i < n {
-        if slot_again(table, n, &hashes, i) < n {
+        if slot_again(table, n, hashes, i) < n {
             return false;
         }
         i += 1;

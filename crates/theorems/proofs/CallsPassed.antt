@@ -1,6 +1,6 @@
 -- What the tests of a run call and of a page call found where nothing is refused; and that a run call meets no fault.
 use Prim.Native.Nat.{ℕ}
-use mathlib.Core.Path.{_≡_, refl, sym, subst, _∙_}
+use mathlib.Core.Path.{_≡_, refl, subst, _∙_}
 use mathlib.Core.List.{List}
 use mathlib.Core.Bool.{_&&_}
 use lib.Dec.{T, leb}
@@ -11,23 +11,14 @@ use Rattle.definitions.specs.Typing.{typeAt}
 use Rattle.definitions.specs.Outcome as Outcomes
 use Rattle.definitions.specs.Outcome.{Outcome, ok}
 use Rattle.definitions.specs.Machine.{State, Run, run}
-use Rattle.definitions.specs.Result.{Result, passed, _>>=_, given}
-use Rattle.definitions.specs.Calls.{Lent, lengthsFit, Sound, soundIn, runIn, Running, runTests, ranOf, runResult, runCall}
+use Rattle.definitions.specs.Result.{Result, passed, _>>=_}
+use Rattle.definitions.specs.Calls.{Lent, lengthsFit, Sound, entryTests, runIn, Running, runTests, ranOf, runResult, runCall, settingOf}
 use Rattle.definitions.specs.Calls.{PageTaken, takeIn, Taking, pageTests}
 use Rattle.definitions.specs.declared.SavedRun.{SavedRun}
-use Rattle.laws.specs.Outcomes.{Fine}
 use Rattle.laws.proofs.NoFault.{fine-ok}
-use Rattle.laws.proofs.Results.{passed-is, bind-inv, given-bind-inv, require-after-inv}
-use Rattle.laws.proofs.SoundIn.{SoundIn, sound-in, is-accepted}
+use Rattle.laws.proofs.Results.{passed-is, bind-inv, require-after-inv}
+use Rattle.laws.proofs.SoundIn.{SoundIn, sound-in, is-accepted, entry-inv}
 use Rattle.safety.proofs.RunSound.{RunSound, run-sound}
-
--- what an outcome gives is one thing
-pub ok-is : {A : Type 0} {a b : A} → ok a ≡ ok b → a ≡ b
-ok-is e = cc
-
--- what holds of the value of an outcome that is fine
-pub fine-at : {A : Type 0} {P : A → Type 0} {m : Outcome A} (a : A) → m ≡ ok a → Fine P m → P a
-fine-at {A} {P} a e h = let f = fine-ok h in subst P (ok-is (sym (f .1) ∙ e)) (f .2)
 
 -- ── a run ───────────────────────────────────────────────────────────────────────────────────
 
@@ -35,7 +26,7 @@ pub record RunPassed (l : Lent) (saved : SavedRun) (budget : ℕ) (now : ℤ) (x
   pub lengths : T (lengthsFit l)
   pub sound : SoundIn l saved (record { checked = x .checked; state = x .state })
   pub limits : T (leb budget budgetLimit && isDateTime now)
-  pub isRun : x .run ≡ run (x .checked .schema) (typeAt (x .checked .types)) now budget (x .state)
+  pub isRun : x .run ≡ run (settingOf (x .checked) now) (typeAt (x .checked .types)) budget (x .state)
 
 module _ (l : Lent) (saved : SavedRun) (budget : ℕ) (now : ℤ) (x : Running) where
   pub run-passed : runTests l saved budget now ≡ passed x → RunPassed l saved budget now x
@@ -43,17 +34,17 @@ module _ (l : Lent) (saved : SavedRun) (budget : ℕ) (now : ℤ) (x : Running) 
   run-passed e =
       let made : Sound → Outcome Run → Running = λ y o. record { checked = y .checked; state = y .state; run = o } in
       let rest : Sound → Result Running = λ y. runIn (y .checked) budget now (y .state) >>= λ o. passed (made y o) in
-      let i₁ = require-after-inv 1 (lengthsFit l) (given 10 (soundIn l saved) >>= rest) e in
-      let i₁₀ = given-bind-inv 10 (soundIn l saved) rest (i₁ .1) in
-      let y = i₁₀ .0 in
-      let b = bind-inv (runIn (y .checked) budget now (y .state)) (λ o. passed (made y o)) (i₁₀ .2) in
-      let machine = run (y .checked .schema) (typeAt (y .checked .types)) now budget (y .state) in
+      let i = bind-inv (entryTests l saved) rest e in
+      let y = i .0 in
+      let p = entry-inv l saved (i .1) in
+      let b = bind-inv (runIn (y .checked) budget now (y .state)) (λ o. passed (made y o)) (i .2) in
+      let machine = run (settingOf (y .checked) now) (typeAt (y .checked .types)) budget (y .state) in
       let i₁₁ = require-after-inv 11 (leb budget budgetLimit && isDateTime now) (passed machine) (b .1) in
       let found : made y (b .0) ≡ x = passed-is (b .2) in
       let same : machine ≡ b .0 = passed-is (i₁₁ .1) in
       subst (RunPassed l saved budget now) found
       (subst (λ (o : Outcome Run). RunPassed l saved budget now (made y o)) same
-      (record { lengths = i₁ .0; sound = sound-in l saved y (i₁₀ .1); limits = i₁₁ .0; isRun = refl }))
+      (record { lengths = p .0; sound = sound-in l saved y (p .1); limits = i₁₁ .0; isRun = refl }))
 
   -- the machine meets no fault, and passes sound states only
   pub run-fine : RunPassed l saved budget now x → (r : Run) × (x .run ≡ ok r) × RunSound (x .checked) budget r
@@ -82,10 +73,10 @@ module _ (l : Lent) (saved : SavedRun) (graph : ℕ) (page : List ℕ) (x : Taki
   taking-passed e =
       let made : Sound → PageTaken → Taking = λ y k. record { checked = y .checked; taken = k } in
       let rest : Sound → Result Taking = λ y. takeIn (y .checked) graph page (y .state) >>= λ k. passed (made y k) in
-      let i₁ = require-after-inv 1 (lengthsFit l) (given 10 (soundIn l saved) >>= rest) e in
-      let i₁₀ = given-bind-inv 10 (soundIn l saved) rest (i₁ .1) in
-      let y = i₁₀ .0 in
-      let b = bind-inv (takeIn (y .checked) graph page (y .state)) (λ k. passed (made y k)) (i₁₀ .2) in
+      let i = bind-inv (entryTests l saved) rest e in
+      let y = i .0 in
+      let p = entry-inv l saved (i .1) in
+      let b = bind-inv (takeIn (y .checked) graph page (y .state)) (λ k. passed (made y k)) (i .2) in
       let found : made y (b .0) ≡ x = passed-is (b .2) in
       subst (TakingPassed l saved graph page) found
-      (record { lengths = i₁ .0; state = y .state; sound = sound-in l saved y (i₁₀ .1); isTaken = b .1 })
+      (record { lengths = p .0; state = y .state; sound = sound-in l saved y (p .1); isTaken = b .1 })

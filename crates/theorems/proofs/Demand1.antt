@@ -19,7 +19,7 @@ use Rattle.definitions.specs.Typing.{writtenTypes, typings, above, Verdict, gre
 use Rattle.definitions.specs.Outcome as Outcomes
 use Rattle.definitions.specs.Machine.{withProperties, taken, withPage, inLimits}
 use Rattle.definitions.specs.Result.{Result, refused, passed, _>>=_, _>>_, require, given}
-use Rattle.definitions.specs.Calls.{recordTests, sizesFit, scriptTests, readTests, Checked, constantsOf, typesOf, typeTests, check, Lent, lengthsFit, loadTests, loadResult, load, soundIn}
+use Rattle.definitions.specs.Calls.{recordTests, sizesFit, scriptTests, readTests, Checked, constantsOf, typesOf, typeTests, check, Lent, lengthsFit, loadTests, loadResult, load, soundIn, entryTests}
 use Rattle.definitions.specs.Calls.{runIn, Running, runTests, ranOf, runResult, runCall}
 use Rattle.definitions.specs.Calls.{isGraph, pageIn, takeIn, Taking, pageTests, pageResult, pageCall}
 use Rattle.definitions.specs.declared.SavedRun.{SavedRun}
@@ -133,12 +133,13 @@ load-refuses l (passed c) (passes e) q = record { number = rw q (sym e); keeps =
 
 module _ (l : Lent) (saved : SavedRun) (budget : ℕ) (now : ℤ) where
   run-follows : Follows (runTests l saved budget now) (runRules (lengthsFit l) (soundIn l saved) budget now)
-  unfolding runTests runIn
+  unfolding runTests entryTests runIn
   run-follows =
-      rule 1 (λ e. omega (arith, e)) (lengthsFit l)
+      together (require 1 (lengthsFit l)) _ _
+      (rule 1 (λ e. omega (arith, e)) (lengthsFit l)
       (there 10 (λ e. omega (arith, e)) (soundIn l saved) λ x e₁₀.
       then-passes (λ o. record { checked = x .checked; state = x .state; run = o })
-      (rule 11 (λ e. omega (arith, e)) (leb budget budgetLimit && isDateTime now) end))
+      (rule 11 (λ e. omega (arith, e)) (leb budget budgetLimit && isDateTime now) end)))
 
   run-refuses : (r : Result Running) → Follows r (runRules (lengthsFit l) (soundIn l saved) budget now)
       → runTests l saved budget now ≡ r → RunRefuses l saved budget now
@@ -166,14 +167,15 @@ module _ (l : Lent) (saved : SavedRun) (budget : ℕ) (now : ℤ) where
 
 module _ (l : Lent) (saved : SavedRun) (g : ℕ) (page : List ℕ) where
   page-follows : Follows (pageTests l saved g page) (pageRules (lengthsFit l) (soundIn l saved) g page)
-  unfolding pageTests takeIn ifThere
+  unfolding pageTests entryTests takeIn ifThere
   page-follows =
-      rule 1 (λ e. omega (arith, e)) (lengthsFit l)
+      together (require 1 (lengthsFit l)) _ _
+      (rule 1 (λ e. omega (arith, e)) (lengthsFit l)
       (there 10 (λ e. omega (arith, e)) (soundIn l saved) λ x e₁₀. rw e₁₀
       (then-passes (λ k. record { checked = x .checked; taken = k })
       (rule 12 (λ e. omega (arith, e)) (isGraph (getElem? (x .state .store .terms) g))
       (there 13 (λ e. omega (arith, e)) (pageIn page) λ rs e₁₃. rw e₁₃
-      (rule 14 (λ e. omega (arith, e)) (inLimits (withPage g (taken (x .checked .schema) g rs (x .state .store)) (x .state .store))) end)))))
+      (rule 14 (λ e. omega (arith, e)) (inLimits (withPage g (taken (x .checked .schema) g rs (x .state .store)) (x .state .store))) end))))))
 
   page-refuses : (r : Result Taking) → Follows r (pageRules (lengthsFit l) (soundIn l saved) g page)
       → pageTests l saved g page ≡ r → PageRefuses l saved g page

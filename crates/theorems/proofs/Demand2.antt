@@ -17,9 +17,9 @@ use Rattle.definitions.specs.Scope.{inScope}
 use Rattle.definitions.specs.Typing.{typeAt, Verdict, noTyping, noGreatest, greatest, verdict}
 use Rattle.definitions.specs.Outcome.{ok}
 use Rattle.definitions.specs.Machine.{Run, lastOf, withProperties}
-use Rattle.definitions.specs.Saved.{savedOf}
+use Rattle.definitions.specs.Saved.{savedControl}
 use Rattle.definitions.specs.Result.{Result, refused, passed, _>>=_, _>>_, require, given}
-use Rattle.definitions.specs.Calls.{recordTests, scriptTests, readTests, typeTests, Checked, typesOf, sizesFit, check, reportedTypes, reported}
+use Rattle.definitions.specs.Calls.{recordTests, scriptTests, readTests, typeTests, Checked, typesOf, sizesFit, check, reportedTypes, reported, settingOf}
 use Rattle.definitions.specs.Calls.{Lent, lengthsFit, loadTests, loadResult, load}
 use Rattle.definitions.specs.Calls.{Running, runTests, ranOf, runResult, runCall, Taking, pageTests, pageResult, pageCall}
 use Rattle.definitions.specs.Numbers.{loadNumber}
@@ -30,6 +30,7 @@ use Rattle.definitions.specs.declared.LoadAnswer.{LoadAnswer}
 use Rattle.definitions.specs.declared.LoadAnswer.the-variants as LoadAnswers
 use Rattle.definitions.specs.declared.RunAnswer.the-variants as RunAnswers
 use Rattle.definitions.specs.declared.PageAnswer.the-variants as PageAnswers
+use Rattle.laws.proofs.NoFault.{ok-is, fine-at}
 use Rattle.laws.proofs.Tests.{isTrue}
 use Rattle.laws.proofs.Results.{by-bind, by-after}
 use Rattle.laws.proofs.PageCheck.{page-passed}
@@ -43,7 +44,7 @@ use Rattle.safety.proofs.RunSteps.{run-takes}
 use Rattle.safety.proofs.PageSound.{page-sound}
 use Rattle.theorems.specs.PageLeaves.{PageLeaves}
 use Rattle.theorems.proofs.PageTaken.{page-leaves}
-use Rattle.theorems.proofs.CallsPassed.{ok-is, fine-at, RunPassed, run-passed, run-fine, run-gives, taking-passed}
+use Rattle.theorems.proofs.CallsPassed.{RunPassed, run-passed, run-fine, run-gives, taking-passed}
 use Rattle.theorems.proofs.StillHeld.{valid-held, still-held}
 use Rattle.theorems.specs.Demand2.{PastSeven, constants, written, LoadDecides, RunTakes, PageTakes, Demand2}
 
@@ -159,8 +160,8 @@ module _ (l : Lent) (p : PastSeven l) where
   unfolding load
   answer = ap (λ r. loadResult l r .returned .answer) tests ∙ answer-of decided
 
-  types-of : (Γ : List Ty) → decided ≡ greatest Γ → load l .returned .saved .types ≡ reportedTypes (written p) Γ
-  unfolding load loadResult typesOf _>>=_ savedOf found
+  types-of : (Γ : List Ty) → decided ≡ greatest Γ → load l .returned .saved .control .types ≡ reportedTypes (written p) Γ
+  unfolding load loadResult typesOf _>>=_ savedControl found
   types-of Γ e = rw (tests, e) refl
 
   load-decides : LoadDecides p
@@ -191,7 +192,7 @@ module _ (l : Lent) (saved : SavedRun) (budget : ℕ) (now : ℤ) where
       let took = fine-at r isRun (run-takes c accepted now budget s (p .sound .sound)) in
       let sound = fine-at r isRun (run-sound c accepted now budget s (p .sound .sound)) in
       let after = lastOf s (r .passed) in
-      let same = last-all (λ x. x .store ≡ s .store) s (r .passed) refl (run-keeps (c .schema) (typeAt (c .types)) now budget s r isRun) in
+      let same = last-all (λ x. x .store ≡ s .store) s (r .passed) refl (run-keeps (settingOf c now) (typeAt (c .types)) budget s r isRun) in
       record {
         checked = c;
         loads = p .sound .loads;

@@ -12,19 +12,18 @@ use Rattle.definitions.specs.Terms.{Triple, isDateTime}
 use Rattle.definitions.specs.Typing.{typeAt}
 use Rattle.definitions.specs.Outcome.{Outcome, ok, _>>=_}
 use Rattle.definitions.specs.Machine.{State, Run, run, lastOf, loaded, taken, withPage, inLimits}
-use Rattle.definitions.specs.Saved.{savedOf}
+use Rattle.definitions.specs.Saved.{savedControl}
 use Rattle.definitions.specs.Result as Results
 use Rattle.definitions.specs.Result.{Result, refused, passed, require, given}
-use Rattle.definitions.specs.Calls.{Checked, check, reported, Lent, tablesFit, lengthsFit, loadTests, loadResult, load, runIn}
+use Rattle.definitions.specs.Calls.{Checked, check, reported, Lent, tablesFit, lengthsFit, loadTests, loadResult, load, runIn, settingOf}
 use Rattle.definitions.specs.Calls.{isGraph, pageIn, PageTaken, pageTaken, takeIn}
 use Rattle.definitions.specs.CallList.{Call, running, paging, ran, Done, runDone, pageDone, machineCall, machineCalls}
 use Rattle.definitions.specs.declared.LoadAnswer.the-variants as LoadAnswers
 use Rattle.definitions.specs.declared.RunAnswer.the-variants as RunAnswers
-use Rattle.laws.proofs.NoFault.{fine-ok, holds-after, holds-ok}
+use Rattle.laws.proofs.NoFault.{ok-is, fine-ok, holds-after, holds-ok}
 use Rattle.laws.specs.Outcomes.{OrFault, holds}
 use Rattle.laws.proofs.Tests.{isFalse}
 use Rattle.laws.proofs.Results.{require-after-inv, require-refused}
-use Rattle.theorems.proofs.CallsPassed.{ok-is}
 use Rattle.laws.proofs.Refusing.{by-require}
 use Rattle.laws.proofs.Check.{check-accepted}
 use Rattle.laws.proofs.Tables.{term-table-length, quad-table-length}
@@ -76,7 +75,7 @@ fair-call c (running m n budget now) s =
     let ask : Result (Outcome Run) → Type 0 = λ r. OrFault Fair (runDone r) in
     by-require ask 1 (tablesFit m n) _ (fair-run 1 (λ e. omega (arith, e)))
     (by-require ask 11 (leb budget budgetLimit && isDateTime now) _ (fair-run 11 (λ e. omega (arith, e)))
-    (fair-ran (run (c .schema) (typeAt (c .types)) now budget s)))
+    (fair-ran (run (settingOf c now) (typeAt (c .types)) budget s)))
 fair-call c (paging m n g page) s =
     let ask : Result PageTaken → Type 0 = λ r. Fair (pageDone r) in
     let from14 : List Triple → Result PageTaken = λ triples.
@@ -206,8 +205,8 @@ load-keeps : (l : Lent) (c : Checked) → loadTests l ≡ passed c → keptAfter
 unfolding load loadResult
 load-keeps l c e = rw e refl
 
-load-types : (l : Lent) (c : Checked) → loadTests l ≡ passed c → load l .returned .saved .types ≡ reported c
-unfolding load loadResult savedOf
+load-types : (l : Lent) (c : Checked) → loadTests l ≡ passed c → load l .returned .saved .control .types ≡ reported c
+unfolding load loadResult savedControl
 load-types l c e = rw e refl
 
 -- ── the theorem ─────────────────────────────────────────────────────────────────────────────

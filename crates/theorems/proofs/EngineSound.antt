@@ -14,22 +14,22 @@ use Rattle.definitions.specs.Outcome as Outcomes
 use Rattle.definitions.specs.Outcome.{Outcome, ok, fault}
 use Rattle.definitions.specs.Machine.{State, Store, Run, run, lastOf}
 use Rattle.definitions.specs.Saved.{termTable, quadTable, savedOf}
-use Rattle.definitions.specs.Result.{Result, refused, passed, _>>=_, _>>_, require, given}
+use Rattle.definitions.specs.Result.{Result, refused, passed, _>>=_, _>>_, require}
 use Rattle.definitions.specs.Calls as Calls
-use Rattle.definitions.specs.Calls.{Checked, check, reported, Lent, tablesFit, lengthsFit, soundIn}
+use Rattle.definitions.specs.Calls.{Checked, check, reported, Lent, tablesFit, lengthsFit, soundIn, settingOf}
 use Rattle.definitions.specs.Calls.{runIn, Running, runTests, ranOf, runResult, runCall}
 use Rattle.definitions.specs.Calls.{PageTaken, takeIn, Taking, pageTests, PageResult, pageResult, pageCall}
 use Rattle.definitions.specs.CallList.{ran, paged, Done, runDone, pageDone, machineCall}
 use Rattle.definitions.specs.declared.Ran.{Ran}
 use Rattle.laws.proofs.Tests.{isFalse}
 use Rattle.laws.specs.Lists.{All}
-use Rattle.laws.proofs.Results.{passed-is, require-after, require-after-inv, given-bind, require-refused}
+use Rattle.laws.proofs.Results.{passed-is, require-after-inv, require-refused, bind-refused, bind-passed}
 use Rattle.laws.specs.Valid.{Valid, ValidIn}
 use Rattle.laws.proofs.Valid.{page-keeps-valid}
 use Rattle.laws.proofs.RunStore.{run-keeps, last-all}
 use Rattle.laws.specs.Sound.{Sound}
-use Rattle.laws.proofs.SoundIn.{lengths-again, sound-again}
-use Rattle.theorems.proofs.CallsPassed.{ok-is}
+use Rattle.laws.proofs.SoundIn.{entry-of, entry-one, lengths-again, sound-again}
+use Rattle.laws.proofs.NoFault.{ok-is}
 use Rattle.theorems.specs.Hosts.{Kept, Lending, asLeft, others, HostCall, lending, termBytes, quadBytes, fed, keptOf, Handed, lentTo, engineCall}
 use Rattle.definitions.specs.declared.SavedRun.{SavedRun}
 
@@ -53,11 +53,11 @@ module _ (l : Lent) (saved : SavedRun) (wrong : T (not (lengthsFit l))) where
   -- a call that is lent a table of another length tests nothing else
   run-one : (budget : ℕ) (now : ℤ) → runTests l saved budget now ≡ refused 1
   unfolding runTests
-  run-one budget now = require-refused 1 _ (isFalse (lengthsFit l) wrong)
+  run-one budget now = bind-refused _ (entry-one l saved (isFalse (lengthsFit l) wrong))
 
   page-one : (g : ℕ) (page : List ℕ) → pageTests l saved g page ≡ refused 1
   unfolding pageTests
-  page-one g page = require-refused 1 _ (isFalse (lengthsFit l) wrong)
+  page-one g page = bind-refused _ (entry-one l saved (isFalse (lengthsFit l) wrong))
 
 module _ (l : Lent) (c : Checked) (loads : check (l .terms) (l .schema) (l .script) ≡ passed c)
     (s : State) (sound : Sound c s) (valid : ValidIn s) where
@@ -85,8 +85,7 @@ module _ (l : Lent) (c : Checked) (loads : check (l .terms) (l .schema) (l .scri
     run-tests =
         let rest : Calls.Sound → Result Running = λ x.
         runIn (x .checked) budget now (x .state) >>= λ o. passed (record { checked = x .checked; state = x .state; run = o }) in
-        require-after 1 (lengthsFit lent) (given 10 (soundIn lent (kept .saved)) >>= rest) fit
-        ∙ given-bind 10 rest found
+        bind-passed rest (entry-of lent (kept .saved) fit found)
         ∙ sym (ap (λ m. m >>= λ o. passed (running o)) (fits-as-left (runIn c budget now s)))
 
     -- what the host makes of it
@@ -110,9 +109,9 @@ module _ (l : Lent) (c : Checked) (loads : check (l .terms) (l .schema) (l .scri
     unfolding runIn
     store-same t r e =
         let i₁ = require-after-inv 1 (tablesFit (termBytes t) (quadBytes t)) (runIn c budget now s) e in
-        let machine = run (c .schema) (typeAt (c .types)) now budget s in
+        let machine = run (settingOf c now) (typeAt (c .types)) budget s in
         let i₁₁ = require-after-inv 11 (leb budget budgetLimit && isDateTime now) (passed machine) (i₁ .1) in
-        last-all (λ x. x .store ≡ s .store) s (r .passed) refl (run-keeps (c .schema) (typeAt (c .types)) now budget s r (passed-is (i₁₁ .1)))
+        last-all (λ x. x .store ≡ s .store) s (r .passed) refl (run-keeps (settingOf c now) (typeAt (c .types)) budget s r (passed-is (i₁₁ .1)))
 
     run-call : (t : Lending) (d : Done) → machineCall c (fed (HostCall.running t budget now)) s ≡ ok d
         → engineCall l (HostCall.running t budget now) kept ≡ ok (handedOf c t s d)
@@ -148,8 +147,7 @@ module _ (l : Lent) (c : Checked) (loads : check (l .terms) (l .schema) (l .scri
     page-tests =
         let rest : Calls.Sound → Result Taking = λ x.
         takeIn (x .checked) g page (x .state) >>= λ k. passed (record { checked = x .checked; taken = k }) in
-        require-after 1 (lengthsFit lent) (given 10 (soundIn lent (kept .saved)) >>= rest) fit
-        ∙ given-bind 10 rest found
+        bind-passed rest (entry-of lent (kept .saved) fit found)
         ∙ sym (ap (λ m. m >>= λ k. passed (taking k)) (fits-as-left (takeIn c g page s)))
 
     -- what the host makes of it

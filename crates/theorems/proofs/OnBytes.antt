@@ -18,7 +18,7 @@ use Rattle.definitions.specs.Exports.{savedBytes, savedAfter, runReport, pageRe
 use Rattle.definitions.specs.Exports.{loadExport, RunExport, refusedRun, runExport, PageExport, refusedPage, pageExport}
 use Rattle.definitions.specs.declared.SavedRun.{SavedRun}
 use Rattle.definitions.specs.declared.LoadAnswer.the-variants as LoadAnswers
-use Rattle.laws.proofs.NoFault.{fine-ok}
+use Rattle.laws.proofs.NoFault.{ok-is, fine-ok}
 use Rattle.laws.proofs.Check.{check-accepted}
 use Rattle.laws.specs.Valid.{ValidIn}
 use Rattle.laws.proofs.Valid.{loaded-valid, check-valid}
@@ -27,7 +27,6 @@ use Rattle.theorems.specs.Demand1.{firstBroken}
 use Rattle.theorems.proofs.Demand1.{demand-1}
 use Rattle.safety.proofs.RunSound.{last-sound}
 use Rattle.theorems.proofs.Safety.{loaded-sound, call-sound}
-use Rattle.theorems.proofs.CallsPassed.{ok-is}
 use Rattle.theorems.proofs.EngineSound.{handedOf, engine-call, call-valid}
 use Rattle.theorems.specs.Hosts as Hosts
 use Rattle.theorems.specs.Hosts.{Kept, HostCall, lending, fed, keptOf, keptAfter, Handed, engineCall, engineCalls}

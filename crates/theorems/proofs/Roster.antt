@@ -11,7 +11,8 @@ use Rattle.definitions.specs.Ascii.{ascii}
 use Rattle.definitions.specs.Terms.{Text, Term, Schema, Entry, Sort, sameTerm, datatypeIn, sortOf}
 use Rattle.definitions.specs.Tree.{Name, var, const, Expr, Cond, Query, Binder, Script, success, block}
 use Rattle.definitions.specs.Scope.{bindersOf}
-use Rattle.definitions.specs.Typing.{nameHas, exprHas, condTyped, propertyTyped, queryTyped, scriptTyped, writtenIn, writtenTypes, eachWith, assignments, those, typings, above, Verdict, noTyping, noGreatest, greatest, firstAbove, judge, verdict}
+use Rattle.definitions.specs.Typing.{nameHas, exprHas, condTyped, propertyTyped, queryTyped, scriptTyped, writtenIn, writtenTypes, eachWith, assignments, those, typings, above}
+use Rattle.definitions.specs.Typing.{Verdict, noTyping, noGreatest, greatest, firstAbove, judge, verdict}
 use Rattle.definitions.specs.Machine.{numbered, withProperties}
 use Rattle.definitions.specs.Calls.{constantsOf}
 

@@ -35,13 +35,13 @@ pub record ItemFits (i : SavedItem) : Type 0 where
 -- numbers fit two bytes, and the places above the height are zero
 pub record Fits (r : SavedRun) : Type 0 where
   pub shaped : Shaped r
-  pub height : r .height ≤ depthLimit
-  pub quads : TwoBytes (r .quads)
-  pub graphs : TwoBytes (r .graphs)
-  pub bindings : All TwoBytes (r .bindings)
-  pub fetched : All TwoBytes (r .fetched)
-  pub items : All ItemFits (r .items)
-  pub above : drop (r .height) (r .items) ≡ replicate (depthLimit - r .height) zeroItem
+  pub height : r .control .height ≤ depthLimit
+  pub quads : TwoBytes (r .store .quads)
+  pub graphs : TwoBytes (r .store .graphs)
+  pub bindings : All TwoBytes (r .control .bindings)
+  pub fetched : All TwoBytes (r .store .fetched)
+  pub items : All ItemFits (r .control .items)
+  pub above : drop (r .control .height) (r .control .items) ≡ replicate (depthLimit - r .control .height) zeroItem
 
 -- ── lengths ─────────────────────────────────────────────────────────────────────────────────
 
@@ -177,94 +177,94 @@ module _ (r : SavedRun) (f : Fits r) where
   b = savedBytes r
 
   counts : List ℕ
-  counts = r .height ∷ r .quads ∷ r .graphs ∷ []
+  counts = r .control .height ∷ r .store .quads ∷ r .store .graphs ∷ []
 
   from-items : List ℕ
-  from-items = itemsBytes (r .items)
+  from-items = itemsBytes (r .control .items)
 
   from-fetched : List ℕ
-  from-fetched = words (r .fetched) ++ from-items
+  from-fetched = words (r .store .fetched) ++ from-items
 
   from-bindings : List ℕ
-  from-bindings = words (r .bindings) ++ from-fetched
+  from-bindings = words (r .control .bindings) ++ from-fetched
 
   from-bound : List ℕ
-  from-bound = map markOf (r .bound) ++ from-bindings
+  from-bound = map markOf (r .control .bound) ++ from-bindings
 
   from-types : List ℕ
-  from-types = r .types ++ from-bound
+  from-types = r .control .types ++ from-bound
 
   -- each part begins where the one before it ended
   at-counts : drop 0 b ≡ words counts ++ from-types
   unfolding savedBytes b counts from-items from-fetched from-bindings from-bound from-types
   at-counts = refl
 
-  at-types : drop typesOffset b ≡ r .types ++ from-bound
+  at-types : drop typesOffset b ≡ r .control .types ++ from-bound
   unfolding counts from-types words
   at-types = behind b 0 6 (words counts) from-types (words-length counts) at-counts
 
-  at-bound : drop boundOffset b ≡ map markOf (r .bound) ++ from-bindings
+  at-bound : drop boundOffset b ≡ map markOf (r .control .bound) ++ from-bindings
   unfolding from-bound
-  at-bound = behind b 6 16 (r .types) from-bound (f .shaped .types) at-types
+  at-bound = behind b 6 16 (r .control .types) from-bound (f .shaped .types) at-types
 
-  at-bindings : drop bindingsOffset b ≡ words (r .bindings) ++ from-fetched
+  at-bindings : drop bindingsOffset b ≡ words (r .control .bindings) ++ from-fetched
   unfolding from-bindings
-  at-bindings = behind b 22 16 (map markOf (r .bound)) from-bindings (length-map (r .bound) markOf ∙ f .shaped .bound) at-bound
+  at-bindings = behind b 22 16 (map markOf (r .control .bound)) from-bindings (length-map (r .control .bound) markOf ∙ f .shaped .bound) at-bound
 
-  at-fetched : drop fetchedOffset b ≡ words (r .fetched) ++ from-items
+  at-fetched : drop fetchedOffset b ≡ words (r .store .fetched) ++ from-items
   unfolding from-fetched
-  at-fetched = behind b 38 32 (words (r .bindings)) from-fetched (omega (arith, words-length (r .bindings), f .shaped .bindings)) at-bindings
+  at-fetched = behind b 38 32 (words (r .control .bindings)) from-fetched (omega (arith, words-length (r .control .bindings), f .shaped .bindings)) at-bindings
 
-  at-items : drop itemsOffset b ≡ itemsBytes (r .items) ++ []
+  at-items : drop itemsOffset b ≡ itemsBytes (r .control .items) ++ []
   unfolding from-items
   at-items =
-      behind b 70 128 (words (r .fetched)) from-items (omega (arith, words-length (r .fetched), f .shaped .fetched)) at-fetched
+      behind b 70 128 (words (r .store .fetched)) from-items (omega (arith, words-length (r .store .fetched), f .shaped .fetched)) at-fetched
       ∙ sym (append-nil from-items)
 
   -- 486 bytes in all
   pub saved-length : length (savedBytes r) ≡ savedWidth
   unfolding b
   saved-length =
-      let items = items-bytes (r .items) (f .shaped .lasts) in
-      let last = ap length (at-items ∙ append-nil (itemsBytes (r .items))) in
+      let items = items-bytes (r .control .items) (f .shaped .lasts) in
+      let last = ap length (at-items ∙ append-nil (itemsBytes (r .control .items))) in
       omega (arith, length-drop itemsOffset b, last, items, f .shaped .items)
 
   counts-again : wordsFrom 3 b 0 ≡ counts
   unfolding counts
   counts-again = words-again b counts from-types 0 (omega (arith, f .height), (f .quads, (f .graphs, tt))) at-counts
 
-  height-again : word b 0 ≡ r .height
+  height-again : word b 0 ≡ r .control .height
   unfolding wordsFrom counts
   height-again = ap (λ (l : List ℕ). getD l 0 0) counts-again
 
-  quads-again : word b 2 ≡ r .quads
+  quads-again : word b 2 ≡ r .store .quads
   unfolding wordsFrom counts
   quads-again = ap (λ (l : List ℕ). getD l 1 0) counts-again
 
-  graphs-again : word b 4 ≡ r .graphs
+  graphs-again : word b 4 ≡ r .store .graphs
   unfolding wordsFrom counts
   graphs-again = ap (λ (l : List ℕ). getD l 2 0) counts-again
 
-  types-again : part b typesOffset variableLimit ≡ r .types
-  types-again = part-again b 6 16 (r .types) from-bound (f .shaped .types) at-types
+  types-again : part b typesOffset variableLimit ≡ r .control .types
+  types-again = part-again b 6 16 (r .control .types) from-bound (f .shaped .types) at-types
 
-  marks-there : part b boundOffset variableLimit ≡ map markOf (r .bound)
-  marks-there = part-again b 22 16 (map markOf (r .bound)) from-bindings (length-map (r .bound) markOf ∙ f .shaped .bound) at-bound
+  marks-there : part b boundOffset variableLimit ≡ map markOf (r .control .bound)
+  marks-there = part-again b 22 16 (map markOf (r .control .bound)) from-bindings (length-map (r .control .bound) markOf ∙ f .shaped .bound) at-bound
 
-  bindings-again : wordsFrom variableLimit b bindingsOffset ≡ r .bindings
+  bindings-again : wordsFrom variableLimit b bindingsOffset ≡ r .control .bindings
   bindings-again =
       ap (λ (n : ℕ). wordsFrom n b bindingsOffset) (sym (f .shaped .bindings))
-      ∙ words-again b (r .bindings) from-fetched bindingsOffset (f .bindings) at-bindings
+      ∙ words-again b (r .control .bindings) from-fetched bindingsOffset (f .bindings) at-bindings
 
-  fetched-again : wordsFrom graphLimit b fetchedOffset ≡ r .fetched
+  fetched-again : wordsFrom graphLimit b fetchedOffset ≡ r .store .fetched
   fetched-again =
       ap (λ (n : ℕ). wordsFrom n b fetchedOffset) (sym (f .shaped .fetched))
-      ∙ words-again b (r .fetched) from-items fetchedOffset (f .fetched) at-fetched
+      ∙ words-again b (r .store .fetched) from-items fetchedOffset (f .fetched) at-fetched
 
-  all-items : itemsFrom depthLimit (word b 0) b itemsOffset ≡ r .items
+  all-items : itemsFrom depthLimit (word b 0) b itemsOffset ≡ r .control .items
   all-items =
       ap (λ (n : ℕ). itemsFrom depthLimit n b itemsOffset) height-again
-      ∙ items-again b depthLimit (r .height) (r .items) [] itemsOffset (f .shaped .items) (f .height) (f .shaped .lasts) (f .items) (f .above) at-items
+      ∙ items-again b depthLimit (r .control .height) (r .control .items) [] itemsOffset (f .shaped .items) (f .height) (f .shaped .lasts) (f .items) (f .above) at-items
 
   -- and every test passes
   abbrev tests : ℕ → List ℕ → Bool
@@ -272,23 +272,23 @@ module _ (r : SavedRun) (f : Fits r) where
 
   tested : T (tests (word b 0) (part b boundOffset variableLimit))
   tested =
-      let marks = every (λ m. leb m 1) (map markOf (r .bound)) in
-      let items = items-good b (r .height) (r .items) [] itemsOffset (omega (arith, f .height, f .shaped .items)) (f .shaped .lasts) at-items in
-      let here : T (tests (r .height) (map markOf (r .bound))) =
-      andMake (leb (r .height) depthLimit) (marks && itemsGood (r .height) b itemsOffset) (le→leb (r .height) depthLimit (f .height))
-      (andMake marks (itemsGood (r .height) b itemsOffset) (marks-good (r .bound)) items) in
+      let marks = every (λ m. leb m 1) (map markOf (r .control .bound)) in
+      let items = items-good b (r .control .height) (r .control .items) [] itemsOffset (omega (arith, f .height, f .shaped .items)) (f .shaped .lasts) at-items in
+      let here : T (tests (r .control .height) (map markOf (r .control .bound))) =
+      andMake (leb (r .control .height) depthLimit) (marks && itemsGood (r .control .height) b itemsOffset) (le→leb (r .control .height) depthLimit (f .height))
+      (andMake marks (itemsGood (r .control .height) b itemsOffset) (marks-good (r .control .bound)) items) in
       subst⁻¹ (λ (n : ℕ). T (tests n (part b boundOffset variableLimit))) height-again
-      (subst⁻¹ (λ (ms : List ℕ). T (tests (r .height) ms)) marks-there here)
+      (subst⁻¹ (λ (ms : List ℕ). T (tests (r .control .height) ms)) marks-there here)
 
   pub saved-again : savedFrom (savedBytes r) ≡ some r
   unfolding savedFrom b
   saved-again = provided-holds (tests (word b 0) (part b boundOffset variableLimit)) tested (λ j. some (record {
-    height = height-again j;
-    quads = quads-again j;
-    graphs = graphs-again j;
-    types = types-again j;
-    bound = (ap (map (eqb 1)) marks-there ∙ marks-again (r .bound)) j;
-    bindings = bindings-again j;
-    fetched = fetched-again j;
-    items = all-items j;
+    control = record {
+      height = height-again j;
+      types = types-again j;
+      bound = (ap (map (eqb 1)) marks-there ∙ marks-again (r .control .bound)) j;
+      bindings = bindings-again j;
+      items = all-items j;
+    };
+    store = record { quads = quads-again j; graphs = graphs-again j; fetched = fetched-again j };
   }))

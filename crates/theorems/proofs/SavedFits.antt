@@ -16,7 +16,7 @@ use Rattle.definitions.specs.Scope.{variables}
 use Rattle.definitions.specs.Evaluate.{Bindings}
 use Rattle.definitions.specs.Search.{Tuple}
 use Rattle.definitions.specs.Machine.{Item, State}
-use Rattle.definitions.specs.Saved.{offsetOf, savedItem, savedItems, zeroItem, lastNumbers, numberOrZero, savedOf}
+use Rattle.definitions.specs.Saved.{offsetOf, savedItem, savedItems, zeroItem, lastNumbers, numberOrZero, savedControl, savedStore, savedOf}
 use Rattle.definitions.specs.Sound.{lastSound}
 use Rattle.definitions.specs.Calls.{Checked, check, reported}
 use Rattle.definitions.specs.Result.{passed}
@@ -26,7 +26,7 @@ use Rattle.laws.specs.Lists.{All}
 use Rattle.laws.proofs.All.{all-append, all-weaken, all-of-every}
 use Rattle.laws.specs.Bindings.{HoldsURI}
 use Rattle.laws.proofs.Bindings.{is-below}
-use Rattle.laws.proofs.Places.{At, inherits}
+use Rattle.laws.proofs.Places.{At, in-range, inherits}
 use Rattle.laws.proofs.ReadBounds.{PairsFit}
 use Rattle.laws.proofs.Check.{check-accepted, check-passed, script-in, reported-all}
 use Rattle.laws.specs.Sound.{Placed, Accepted, Sound}
@@ -35,16 +35,6 @@ use Rattle.laws.proofs.Saved.{items-length, all-facts, terms-few, quads-few, gr
 use Rattle.theorems.proofs.RoundTrip.{TwoBytes, ItemFits, Fits, saved-again}
 
 -- ── offsets ─────────────────────────────────────────────────────────────────────────────────
-
--- the record of a script stands within its range
-in-range : (lo hi : ℕ) (c : Script) → Placed lo hi c → (lo ≤ offsetOf c) × (offsetOf c < hi)
-in-range lo hi (success at) h = h
-in-range lo hi (fromNamed at n c) h = let r = in-range (suc at) hi c (h .1) in (h .0, omega (arith, r .0, r .1))
-in-range lo hi (block at each bs q c) h = let r = in-range (suc at) hi c (h .1) in (h .0, omega (arith, r .0, r .1))
-in-range lo hi (sequence at c d) h =
-    let r = in-range (suc at) (h .1 .0) c (h .1 .1) in
-    let t = in-range (h .1 .0) hi d (h .1 .2) in
-    (h .0, omega (arith, r .0, r .1, t .0, t .1))
 
 -- a script in the root lies in some range below the limit
 abbrev Low : Script → Type 0
@@ -122,7 +112,7 @@ module _ (c : Checked) (accepted : Accepted c) (s : State) (sound : Sound c s) w
       (s .store .fetched) (all-facts c accepted s sound .fetched)
 
   pub saved-fits : PairsFit (c .root) → (types : List ℕ) → length types ≡ 16 → Fits (savedOf types s)
-  unfolding savedOf
+  unfolding savedControl savedStore
   saved-fits pairs types n =
       let stack = s .control .stack in
       let after = depthLimit - length (savedItems stack) in

@@ -7,19 +7,18 @@ use mathlib.Core.Bool.{true, false, _&&_}
 use mathlib.Core.Option.{Option, none, some}
 use lib.Dec.{T, leb}
 use lib.ListN.{length}
-use lib.IntN.{ℤ}
 use Rattle.definitions.specs.Limits.{scriptLimit, budgetLimit}
 use Rattle.definitions.specs.Lists.{isIn}
-use Rattle.definitions.specs.Terms.{Schema, isDateTime}
+use Rattle.definitions.specs.Terms.{isDateTime}
 use Rattle.definitions.specs.Tree.{Script, success, fromNamed, block, sequence}
 use Rattle.definitions.specs.Scope.{variablesOf}
 use Rattle.definitions.specs.Typing.{typeAt}
 use Rattle.definitions.specs.Outcome.{Outcome, ok, demand, fromNamedNoURI}
-use Rattle.definitions.specs.Evaluate.{Named, named, isURI}
+use Rattle.definitions.specs.Evaluate.{Setting, Named, named, isURI}
 use Rattle.definitions.specs.Search.{Typing, Tuple, answer}
 use Rattle.definitions.specs.Machine.{Item, State, fresh, withStack, Next, step, stand, enterNamed, enterOnce, act, nextOf, look, Run, still, preceded, goOn, run, lastOf, loaded}
 use Rattle.definitions.specs.Result.{Result, refused, passed}
-use Rattle.definitions.specs.Calls.{Checked, tablesFit, runIn, PageTaken, takeIn}
+use Rattle.definitions.specs.Calls.{Checked, tablesFit, settingOf, runIn, PageTaken, takeIn}
 use Rattle.definitions.specs.CallList.{Call, running, paging, ran, Done, runDone, pageDone, machineCall, machineCalls}
 use Rattle.definitions.specs.declared.RunState.the-variants.{Wanted}
 use Rattle.definitions.specs.declared.RunAnswer.the-variants as RunAnswers
@@ -76,9 +75,9 @@ once-left n s vs stack e h (some t) = record { counted = e; noneEach = h }
 abbrev RunLeft : State → Run → Type 0
 RunLeft s r = Left (weight (s .control .stack)) (length (r .passed)) (lastOf s (r .passed))
 
-module _ (S : Schema) (Γ : Typing) (clock : ℤ) where
+module _ (σ : Setting) (Γ : Typing) where
   act-left : (s : State) (rest : List Item) → NoEach rest → (last : Option Tuple) (c : Script) → T (noEach c)
-      → OrFault (NextLeft (size c + weight rest)) (act S Γ clock s rest last c)
+      → OrFault (NextLeft (size c + weight rest)) (act σ Γ s rest last c)
   unfolding act size noEach
   act-left s rest k last (success at) h = holds {a = step (withStack s rest)} (record { counted = refl; noneEach = k })
   act-left s rest k last (sequence at c d) h =
@@ -88,11 +87,11 @@ module _ (S : Schema) (Γ : Typing) (clock : ℤ) where
       holds-after (named (s .store .terms) (s .control .bindings) n) λ g.
       holds-and (demand (isURI (g .term)) fromNamedNoURI) (holds (named-left (suc (size c) + weight rest) s (fresh c ∷ rest) (omega arith) (h, k) g))
   act-left s rest k last (block at false bs q c) h =
-      holds-after (answer S Γ clock (s .store .terms) (s .store .quads) (s .control .bindings) (variablesOf bs) q none) λ t.
+      holds-after (answer σ Γ (s .store .terms) (s .store .quads) (s .control .bindings) (variablesOf bs) q none) λ t.
       holds (once-left (suc (size c) + weight rest) s (variablesOf bs) (fresh c ∷ rest) (omega arith) (h, k) t)
   act-left s rest k last (block at true bs q c) h = absurd h
 
-  next-left : (s : State) (stack : List Item) → NoEach stack → OrFault (NextLeft (weight stack)) (nextOf S Γ clock s stack)
+  next-left : (s : State) (stack : List Item) → NoEach stack → OrFault (NextLeft (weight stack)) (nextOf σ Γ s stack)
   unfolding nextOf
   next-left s [] h = holds tt
   next-left s (i ∷ rest) h = act-left s rest (h .1) (i .last) (i .script) (h .0)
@@ -104,10 +103,10 @@ module _ (S : Schema) (Γ : Typing) (clock : ℤ) where
       holds-then (f s′ (k .noneEach)) λ r p. holds {a = preceded s′ r} (record { counted = omega (arith, p .counted, k .counted); noneEach = p .noneEach })
   on-left more f s h (stand r) k = holds {a = still r} (record { counted = omega arith; noneEach = h })
 
-  run-left : (budget : ℕ) (s : State) → NoEach (s .control .stack) → OrFault (RunLeft s) (run S Γ clock budget s)
+  run-left : (budget : ℕ) (s : State) → NoEach (s .control .stack) → OrFault (RunLeft s) (run σ Γ budget s)
   unfolding run
-  run-left zero s h = holds-after (look S Γ clock s (s .control .stack)) λ r. holds {a = still r} (record { counted = omega arith; noneEach = h })
-  run-left (suc budget) s h = holds-then (next-left s (s .control .stack) h) λ n k. on-left (run S Γ clock budget) (run-left budget) s h n k
+  run-left zero s h = holds-after (look σ Γ s (s .control .stack)) λ r. holds {a = still r} (record { counted = omega arith; noneEach = h })
+  run-left (suc budget) s h = holds-then (next-left s (s .control .stack) h) λ n k. on-left (run σ Γ budget) (run-left budget) s h n k
 
 -- ── calls ───────────────────────────────────────────────────────────────────────────────────
 
@@ -136,7 +135,7 @@ module _ (c : Checked) where
   call-left (running m n budget now) s h =
       by-require (λ r. OrFault (DoneLeft s) (runDone r)) 1 (tablesFit m n) _ (refused-run s h 1)
       (by-require (λ r. OrFault (DoneLeft s) (runDone r)) 11 (leb budget budgetLimit && isDateTime now) _ (refused-run s h 11)
-      (passed-run s h (run-left (c .schema) (typeAt (c .types)) now budget s h)))
+      (passed-run s h (run-left (settingOf c now) (typeAt (c .types)) budget s h)))
   call-left (paging m n g page) s h =
       holds (by-require (λ r. DoneLeft s (pageDone r)) 1 (tablesFit m n) (takeIn c g page s) (page-left s h (refused 1) (λ k e. absurd (not-refused e)))
       (page-left s h (takeIn c g page s) (λ k e. ap (λ (k : PageTaken). k .state .control) (page-passed c g s page k e .result))))

@@ -1,17 +1,16 @@
--- What tables hold, whatever else is in them: valid terms and as many quads as are counted. So the same tables hold a state after a run too.
-use Prim.Native.Nat.{ℕ, zero, suc, _+_, _*_}
-use mathlib.Core.Bool.{Bool, true, false, _&&_}
+-- What tables hold, whatever else is in them: valid terms. So the same tables hold a state after a run too.
+use Prim.Native.Nat.{ℕ, zero, suc, _+_}
+use mathlib.Core.Bool.{Bool, true, false}
 use mathlib.Core.List.{List, [], _∷_}
 use mathlib.Core.Option.{Option, some}
-use mathlib.Core.Path.{_≡_, refl, sym, ap, subst}
-use lib.Dec.{eqb, leb}
-use lib.ListN.{length, drop}
-use Rattle.definitions.specs.Limits.{slotWidth, quadWidth, termLimit, quadLimit}
+use mathlib.Core.Path.{_≡_, subst}
+use lib.Dec.{eqb}
+use lib.ListN.{drop}
+use Rattle.definitions.specs.Limits.{slotWidth, termLimit}
 use Rattle.definitions.specs.Bytes.{byte, part, allZero, provided, onward}
 use Rattle.definitions.specs.Terms.{Term, readTerm}
-use Rattle.definitions.specs.Evaluate.{Quad}
-use Rattle.definitions.specs.Machine.{State, Store}
-use Rattle.definitions.specs.Saved.{termTable, quadTable, slotTerm, termsFrom, termsIn, quadsFrom, quadsIn, held, savedOf}
+use Rattle.definitions.specs.Machine.{State}
+use Rattle.definitions.specs.Saved.{slotTerm, termsFrom, termsIn, held, savedOf}
 use Rattle.definitions.specs.Calls.{Checked}
 use Rattle.definitions.specs.declared.SavedRun.{SavedRun}
 use Rattle.laws.proofs.Options.{some-is, onward-inv, provided-inv}
@@ -19,7 +18,7 @@ use Rattle.laws.specs.Lists.{All}
 use Rattle.laws.specs.Sound.{Accepted, Sound}
 use Rattle.laws.specs.Valid.{Valid, ValidIn}
 use Rattle.laws.proofs.Valid.{term-valid}
-use Rattle.laws.proofs.Saved.{Holding, held-of, held-inv, held-again}
+use Rattle.laws.proofs.Saved.{Holding, held-of, held-inv, control-again, store-again, quads-in-count}
 
 -- ── terms ───────────────────────────────────────────────────────────────────────────────────
 
@@ -50,19 +49,6 @@ pub terms-held-valid : (table : List ℕ) (ts : List Term) → termsIn table ≡
 unfolding termsIn
 terms-held-valid table ts e = terms-from-valid termLimit table 0 ts e
 
--- ── quads ───────────────────────────────────────────────────────────────────────────────────
-
-quads-from-count : (n : ℕ) (table : List ℕ) (at : ℕ) → length (quadsFrom n table at) ≡ n
-unfolding quadsFrom
-quads-from-count zero table at = refl
-quads-from-count (suc n) table at = ap suc (quads-from-count n table (at + quadWidth))
-
-pub quads-held-count : (n : ℕ) (table : List ℕ) (qs : List Quad) → quadsIn n table ≡ some qs → length qs ≡ n
-unfolding quadsIn
-quads-held-count n table qs e =
-    let p = provided-inv (leb n quadLimit && allZero (drop (quadWidth * n) table)) (some (quadsFrom n table 0)) e in
-    subst (λ (qs : List Quad). length qs ≡ n) (some-is (p .1)) (quads-from-count n table 0)
-
 -- ── the whole ───────────────────────────────────────────────────────────────────────────────
 
 module _ (c : Checked) (termBytes quadBytes : List ℕ) (saved : SavedRun) (s : State) (h : held (c .root) termBytes quadBytes saved ≡ some s) where
@@ -70,24 +56,15 @@ module _ (c : Checked) (termBytes quadBytes : List ℕ) (saved : SavedRun) (s : 
   holding = held-inv (c .root) termBytes quadBytes saved s h
 
   pub valid-held : ValidIn s
-  valid-held = terms-held-valid termBytes (s .store .terms) (holding .terms)
+  valid-held = terms-held-valid termBytes (s .store .terms) (holding .store .terms)
 
   -- the same tables, with the saved run of a later state that has the same store
   pub still-held : Accepted c → (after : State) → Sound c after → after .store ≡ s .store → (types : List ℕ)
       → held (c .root) termBytes quadBytes (savedOf types after) ≡ some after
-  unfolding savedOf
   still-held accepted after sound same types =
-      let valid : ValidIn after = subst (λ (σ : Store). All Valid (σ .terms)) (sym same) valid-held in
-      let again = held-inv (c .root) (termTable (after .store .terms)) (quadTable (after .store .quads)) (savedOf types after) after
-      (held-again c accepted after sound valid types) in
-      let count = quads-held-count (saved .quads) quadBytes (s .store .quads) (holding .quads) in
+      let count = quads-in-count (saved .store .quads) quadBytes (s .store .quads) (holding .store .quads) in
       held-of (c .root) termBytes quadBytes (savedOf types after) after
       (record {
-        terms = rw same (holding .terms);
-        quads = rw (same, count) (holding .quads);
-        graphs = again .graphs;
-        height = again .height;
-        stack = again .stack;
-        bindings = again .bindings;
-        fetched = again .fetched;
+        control = control-again c accepted after sound types;
+        store = store-again c accepted after sound termBytes quadBytes (rw same (holding .store .terms)) (rw (same, count) (holding .store .quads));
       })

@@ -27,7 +27,7 @@ use Rattle.definitions.specs.Outcome.{ok}
 use Rattle.definitions.specs.Machine.{State, lastOf, withProperties}
 use Rattle.definitions.specs.Saved.{held}
 use Rattle.definitions.specs.Result.{passed}
-use Rattle.definitions.specs.Calls.{Checked, constantsOf, sizesFit, check, reportedTypes, reported, Lent, lengthsFit, load, runCall, pageIn, pageCall}
+use Rattle.definitions.specs.Calls.{Checked, constantsOf, sizesFit, check, reportedTypes, reported, Lent, lengthsFit, load, runCall, pageIn, pageCall, settingOf}
 use Rattle.definitions.specs.Numbers.{loadNumber}
 use Rattle.definitions.specs.declared.SavedRun.{SavedRun}
 use Rattle.definitions.specs.declared.RunState.{RunState}
@@ -78,7 +78,7 @@ module _ {l : Lent} (p : PastSeven l) where
   pub record LoadDecides : Type 0 where
     -- accepted exactly when there is a typing above all others, and that one is reported
     pub accepted : (load l .returned .answer ≡ LoadAnswers.Accepted) ↔ ((Γ : List Ty) × Greatest Γ)
-    pub reported : (Γ : List Ty) → Greatest Γ → load l .returned .saved .types ≡ reportedTypes written Γ
+    pub reported : (Γ : List Ty) → Greatest Γ → load l .returned .saved .control .types ≡ reportedTypes written Γ
     -- it has none
     pub refusal-8 : (load l .returned .answer ≡ LoadAnswers.Refused 8) ↔ ((Γ : List Ty) → Typing Γ → ⊥)
     -- it has some, and none is above the rest
@@ -95,11 +95,11 @@ pub record RunTakes (l : Lent) (saved : SavedRun) (budget : ℕ) (now : ℤ) (ra
   pub entry : held (checked .root) (l .termTable) (l .quadTable) saved ≡ some before
   -- from it the machine takes as many steps as are reported
   pub states : List State
-  pub isSteps : Steps (checked .schema) (typeAt (checked .types)) now before states
+  pub isSteps : Steps (settingOf checked now) (typeAt (checked .types)) before states
   pub count : length states ≡ steps
   pub inBudget : steps ≤ budget
   -- and stands as is reported, or could go on with the budget spent
-  pub ends : Ends (checked .schema) (typeAt (checked .types)) now budget steps (lastOf before states) ending
+  pub ends : Ends (settingOf checked now) (typeAt (checked .types)) budget steps (lastOf before states) ending
   -- the saved run handed back and the tables hold the state after the last step
   pub exit : held (checked .root) (l .termTable) (l .quadTable) (ran .saved) ≡ some (lastOf before states)
 

@@ -63,7 +63,7 @@ pub record Demand3 (l : Lent) (calls : List HostCall) : Type 0 where
   -- what loading finds: terms, script and the types worked out, which are the reported ones
   pub checked : Checked
   pub loads : check (l .terms) (l .schema) (l .script) ≡ passed checked
-  pub types : load l .returned .saved .types ≡ reported checked
+  pub types : load l .returned .saved .control .types ≡ reported checked
   -- the machine starts from the load
   pub start : Keeps checked (keptAfterLoad l) (loaded (checked .terms) (checked .root))
   pub startTyped : WellTyped checked (loaded (checked .terms) (checked .root))

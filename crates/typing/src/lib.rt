@@ -4,7 +4,7 @@ pub mod pairs;
 pub mod typer;
 pub mod walk;
 
-use definitions::VARIABLES;
+use definitions::VARIABLE_LIMIT;
 use facts::Place;
 use facts::noting::Tables;
 
@@ -30,5 +30,5 @@ pub struct TablesRead {
 // What the pairs of a script say, a byte for each variable, and the offset after it.
 pub struct CodesRead {
     pub next: usize,
-    pub codes: [u8; VARIABLES],
+    pub codes: [u8; VARIABLE_LIMIT],
 }

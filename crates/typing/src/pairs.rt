@@ -5,7 +5,7 @@ use definitions::COUNT_OFFSET;
 use definitions::DEPTH_LIMIT;
 use definitions::PAIRS_OFFSET;
 use definitions::QUERY_OFFSET;
-use definitions::VARIABLES;
+use definitions::VARIABLE_LIMIT;
 use facts::UNBOUND;
 use scope::after::after_name;
 use scope::after::after_query;
@@ -36,7 +36,7 @@ fn earlier(here: u8, said: u8) -> u8
 }
 
 // The pairs of the block at an offset.
-fn note_pairs(script: &[u8], at: usize, codes: [u8; VARIABLES]) -> [u8; VARIABLES]
+fn note_pairs(script: &[u8], at: usize, codes: [u8; VARIABLE_LIMIT]) -> [u8; VARIABLE_LIMIT]
     requires { ⌜ PairsAt (now script) at ⌝ }
     ensures { λ r. ⌜ r ≡ pairsNoted (byte (now (script .entry)) (at + countOffset)) (now (script .entry)) (at + pairsOffset) codes ⌝ }
 {
@@ -60,7 +60,7 @@ fn note_script(
     terms: usize,
     at: usize,
     left: u8,
-    codes: [u8; VARIABLES],
+    codes: [u8; VARIABLE_LIMIT],
 ) -> CodesRead
     requires { ⌜ Loads (readScript (now script) terms left at) ⌝ }
     ensures { λ r. ⌜ Walked (λ c. r .codes ≡ bindersNoted (bindersOf c) codes) (readScript (now (script .entry)) terms left at) (r .next) ⌝ }
@@ -89,11 +89,11 @@ fn note_script(
 
 // The written types of a script that reads well.
 // Ruled out: every variable open; the types of the first block alone.
-pub fn written_types(script: &[u8], terms: usize) -> [u8; VARIABLES]
+pub fn written_types(script: &[u8], terms: usize) -> [u8; VARIABLE_LIMIT]
     requires { ⌜ isSome (parsed terms (now script)) ≡ true ⌝ }
     ensures { λ r. ⌜ ((root : Script) → parsed terms (now (script .entry)) ≡ some root → allWritten r ≡ writtenTypes root) ⌝ }
 {
-    let none = [UNBOUND; VARIABLES];
+    let none = [UNBOUND; VARIABLE_LIMIT];
     let walked = note_script(script, terms, 0, DEPTH_LIMIT, none);
     walked.codes
 }

@@ -23,7 +23,8 @@ use facts::readoff;
 pub fn type_of_script(script: &[u8], leasts: &[u8], written: &[u8]) -> Answer
     requires { ⌜ isSome (parsed (length (now leasts)) (now script)) ≡ true ⌝ }
     requires { ⌜ length (now written) ≡ variableLimit ⌝ }
-    ensures { λ r. ⌜ ((root : Script) → parsed (length (now (leasts .entry))) (now (script .entry)) ≡ some root → r ≡ answerOf (allWritten (now (written .entry))) (verdict (sortsIn (now (leasts .entry))) (allWritten (now (written .entry))) root)) ⌝ }
+    ensures { λ r. ⌜ ((root : Script) → parsed (length (now (leasts .entry))) (now (script .entry)) ≡ some root → r
+        ≡ answerOf (allWritten (now (written .entry))) (verdict (sortsIn (now (leasts .entry))) (allWritten (now (written .entry))) root)) ⌝ }
 {
     let fresh = Tables::fresh();
     let walked = walk::type_script(script, leasts, written, 0, DEPTH_LIMIT, fresh);
@@ -35,7 +36,8 @@ pub fn type_of_script(script: &[u8], leasts: &[u8], written: &[u8]) -> Answer
 // Ruled out: the least types that do; an anyURI variable as a property.
 pub fn work_out(script: &[u8], leasts: &[u8]) -> Answer
     requires { ⌜ isSome (parsed (length (now leasts)) (now script)) ≡ true ⌝ }
-    ensures { λ r. ⌜ ((root : Script) → parsed (length (now (leasts .entry))) (now (script .entry)) ≡ some root → r ≡ answerOf (writtenTypes root) (verdict (sortsIn (now (leasts .entry))) (writtenTypes root) root)) ⌝ }
+    ensures { λ r. ⌜ ((root : Script) → parsed (length (now (leasts .entry))) (now (script .entry)) ≡ some root → r
+        ≡ answerOf (writtenTypes root) (verdict (sortsIn (now (leasts .entry))) (writtenTypes root) root)) ⌝ }
 {
     let written = pairs::written_types(script, leasts.len());
     type_of_script(script, leasts, &written)

@@ -179,7 +179,8 @@ fn type_pattern(
     requires { ⌜ Loads (fourOf Query.pattern (readName (now script) (length (now leasts)) left) at) ⌝ }
     requires { ⌜ length (now written) ≡ variableLimit ⌝ }
     requires { ⌜ Joined tables ⌝ }
-    ensures { λ r. ⌜ Walked (QueryNoted (now (leasts .entry)) (now (written .entry)) tables (r .tables)) (fourOf Query.pattern (readName (now (script .entry)) (length (now (leasts .entry))) left) at) (r .next) ⌝ }
+    ensures { λ r. ⌜ Walked (QueryNoted (now (leasts .entry)) (now (written .entry)) tables (r .tables))
+        (fourOf Query.pattern (readName (now (script .entry)) (length (now (leasts .entry))) left) at) (r .next) ⌝ }
 {
     let g = names::name_at(script, leasts, written, at, left);
     let s = names::name_at(script, leasts, written, g.next, left);

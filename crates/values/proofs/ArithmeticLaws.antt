@@ -15,8 +15,9 @@ use borrow.Author.Tests.{eq-eqb, ne-eqb, eqb-true}
 use Rattle.definitions.specs.Limits.{textWidth, tagWidth, integerLimit, decimalLimit, secondsBefore, secondsAfter}
 use Rattle.definitions.specs.Bytes.{provided, filled, unfilled}
 use Rattle.definitions.specs.Terms.{withinLimits, isInteger, isDecimal, isDateTime, tagByte, textByte}
-use Rattle.definitions.specs.Outcome.{Outcome, ok, fault, _>>=_, Fault, arithmeticOnNoNumber}
+use Rattle.definitions.specs.Outcome.{Outcome, ok, fault, _>>=_, arithmeticOnNoNumber}
 use Rattle.definitions.specs.Values.{Value as Meant, whole, millionths, numberIn, million, widened, lifted, lifted₂, combine, absolute}
+use Rattle.laws.proofs.NoFault.{ok-is, no-fault}
 use Rattle.laws.proofs.Tests.{andMake, andLeft, andRight}
 use Rattle.laws.proofs.Options.{some-is, some-not-none, provided-holds}
 use Rattle.values.specs.declared.Value.{Value}
@@ -165,12 +166,6 @@ see v (as-uri a b c d m) = as-none (rw m)
 
 -- ── two numbers, or one, in an operation ────────────────────────────────────────────────────
 
-pub ok-is : {A : Type 0} {a b : A} → ok a ≡ ok b → a ≡ b
-ok-is e = cc
-
-pub no-fault : {A : Type 0} {a : A} {x : Fault} → _≡_ {A = Outcome A} (fault x) (ok a) → ⊥
-no-fault e = let z : _≡_ {A = ℕ} 0 1 = cc in omega arith
-
 pub widened-where : (p : Bool) (n : ℤ) → widened (where? p n) ≡ where? p (n *ℤ pos million)
 widened-where true n = refl
 widened-where false n = refl
@@ -191,7 +186,8 @@ module _ (f : ℤ → ℤ → ℤ) where
   both a b = numberIn a >>= (λ m. numberIn b >>= (λ n. ok (combine f m n)))
 
   joined : (a b : Value) → Seen a → Seen b → (u : Meant) → both (meaning a) (meaning b) ≡ ok u
-      → meaning (held (commonKind (a .kind) (b .kind)) (lifted₂ (inKind (commonKind (a .kind) (b .kind))) f (counts a (commonKind (a .kind) (b .kind))) (counts b (commonKind (a .kind) (b .kind))))) ≡ u
+      → meaning (held (commonKind (a .kind) (b .kind))
+      (lifted₂ (inKind (commonKind (a .kind) (b .kind))) f (counts a (commonKind (a .kind) (b .kind))) (counts b (commonKind (a .kind) (b .kind))))) ≡ u
   unfolding counts _>>=_
   joined a b (as-whole k x) (as-whole l y) u e = rw (k, l) (held-integer _ ∙ ok-is (rw (x, y) at e))
   joined a b (as-whole k x) (as-millionths l y) u e = rw (k, l, ← widened-where (a .present) (a .number)) (held-decimal _ ∙ ok-is (rw (x, y) at e))
@@ -223,7 +219,8 @@ module _ (f : ℤ → ℤ → ℤ) where
     pub some-result : (x y z : ℤ) → (a .present && b .present) ≡ true → x ≡ countedIn (a .kind) k (a .number) → y ≡ countedIn (b .kind) k (b .number)
         → z ≡ f x y → r ≡ held k (where? (inKind k z) z) → Gives r (both (meaning a) (meaning b))
     unfolding counts lifted₂
-    some-result x y z there ex ey ez e = result (where? (inKind k z) z) e (λ n h. limit n (where-inv (inKind k z) z n h)) (ap (λ m. where? (inKind k m) m) (ez ∙ ap₂ f ex ey) ∙ sym (go (a .present) (b .present) _ _ there))
+    some-result x y z there ex ey ez e = result (where? (inKind k z) z) e (λ n h. limit n (where-inv (inKind k z) z n h))
+        (ap (λ m. where? (inKind k m) m) (ez ∙ ap₂ f ex ey) ∙ sym (go (a .present) (b .present) _ _ there))
       where
         limit : (n : ℤ) → T (inKind k z) × (z ≡ n) → T (inKind k n)
         limit n h = subst (λ m. T (inKind k m)) (h .1) (h .0)

@@ -113,7 +113,8 @@ module _ (a b c f e : ℕ) (hb : b ≤ 3) (hc : c ≤ 24) (hf : f ≤ 3) where
   in-length h g = ⊎-elim last (λ l. omega (arith, year-least (1 + (400 * a + 100 * b + 4 * c + f)))) (eq-or-lt-of-le h)
     where
       last : e ≡ 365 → e < yearLength (1 + (400 * a + 100 * b + 4 * c + f))
-      last q = ⊎-elim (λ s. omega (arith, leap-cycle (1 + (400 * a + 100 * b + 4 * c + f)) (cycle s))) (λ s. omega (arith, leap-four (1 + (400 * a + 100 * b + 4 * c + f)) (four (g q .0)) (no-hundred s (g q .0)))) (eq-or-lt-of-le hc)
+      last q = ⊎-elim (λ s. omega (arith, leap-cycle (1 + (400 * a + 100 * b + 4 * c + f)) (cycle s)))
+          (λ s. omega (arith, leap-four (1 + (400 * a + 100 * b + 4 * c + f)) (four (g q .0)) (no-hundred s (g q .0)))) (eq-or-lt-of-le hc)
         where
           cycle : c ≡ 24 → (1 + (400 * a + 100 * b + 4 * c + f)) % 400 ≡ 0
           cycle s = omega (arith, g q .0, g q .1 s)

@@ -15,7 +15,8 @@ use Rattle.definitions.specs.Values.{Pair, uris, strings, numbers, dateTimes, p
 use Rattle.values.specs.declared.Value.{Value}
 use Rattle.values.specs.Meaning.{meaning, where?, numberOf, stringOf, taggedOf, Good, Tells, compared}
 use Rattle.values.specs.NumberKinds.{countedIn}
-use Rattle.values.proofs.ArithmeticLaws.{Counted, plain, ok-is, no-fault, widened-where}
+use Rattle.laws.proofs.NoFault.{ok-is, no-fault}
+use Rattle.values.proofs.ArithmeticLaws.{Counted, plain, widened-where}
 use Rattle.values.proofs.KindLaws.{View, view, as-integer, as-decimal, as-dateTime, as-string, as-uri}
 
 -- ── which values have a datatype in common ──────────────────────────────────────────────────
@@ -125,7 +126,8 @@ module _ (a b : Value) (t : Bool) where
   abbrev both? : Bool
   both? = (a .present && b .present) && t
 
-  pub equal-strings : a .kind ≡ 2 → t ≡ (sameBytes (unfilled (a .tag)) (unfilled (b .tag)) && sameBytes (unfilled (a .text)) (unfilled (b .text))) → Tells both? (compared equalPair (meaning a) (meaning b))
+  pub equal-strings : a .kind ≡ 2 → t ≡ (sameBytes (unfilled (a .tag)) (unfilled (b .tag)) && sameBytes (unfilled (a .text)) (unfilled (b .text)))
+      → Tells both? (compared equalPair (meaning a) (meaning b))
   unfolding equalPair sameTagged
   equal-strings k e = strings-told equalPair a b both? (pairs a b (view a) (view b)) k (rw e (present-where sameTagged (a .present) (b .present) (stringOf a) (stringOf b)))
 

@@ -1,5 +1,5 @@
 -- The order of texts, byte by byte.
-use Prim.Native.Nat.{ℕ, zero, suc, _+_, _-_, _≤_, _<_}
+use Prim.Native.Nat.{ℕ, _+_, _-_, _≤_, _<_}
 use mathlib.Core.Bool.{Bool, true, false, _&&_, _||_, or-false}
 use mathlib.Core.List.{List, [], _∷_}
 use mathlib.Core.Path.{_≡_, refl, sym, ap₂, _∙_}
@@ -11,6 +11,7 @@ use Rattle.definitions.specs.Lists.{every}
 use Rattle.definitions.specs.Bytes.{byte, unfilled, sameBytes}
 use Rattle.definitions.specs.Terms.{textByte, tagByte}
 use Rattle.definitions.specs.Values.{before, rankIn}
+use Rattle.laws.specs.Lists.{upFrom}
 use Rattle.laws.proofs.Tests.{andLeft, andRight}
 use Rattle.laws.proofs.Ranges.{every-in}
 use Rattle.values.specs.Meaning.{Field}
@@ -112,11 +113,6 @@ module _ (ok : ℕ → Bool) (r q : ℕ → ℕ)
       let py = andLeft (ok y) (every ok t) k in
       let rest = before-alike s t (andRight (ok x) (every ok s) h) (andRight (ok y) (every ok t) k) in
       λ i. lt x y px py i || (eq x y px py i && rest i)
-
--- the numbers from one on, so many
-unfoldable pub upFrom : ℕ → ℕ → List ℕ
-upFrom n zero = []
-upFrom n (suc count) = n ∷ upFrom (suc n) count
 
 -- in the table 0, 1, .. 94 a byte's rank is its distance from the blank
 by-place : (b : ℕ) → T (textByte b) → rankIn (upFrom 0 95) b ≡ b - 0x20

@@ -74,7 +74,8 @@ module _ (rank : ℕ → ℕ) where
     one-order [] [] h k n = absurd n
     one-order [] (y ∷ t) h k n = refl
     one-order (x ∷ s) [] h k n = refl
-    one-order (x ∷ s) (y ∷ t) h k n = go (ltb (rank x) (rank y)) refl (eqb (rank x) (rank y)) refl (one-order s t (andRight (textByte x) (every textByte s) h) (andRight (textByte y) (every textByte t) k))
+    one-order (x ∷ s) (y ∷ t) h k n = go (ltb (rank x) (rank y)) refl (eqb (rank x) (rank y)) refl
+        (one-order s t (andRight (textByte x) (every textByte s) h) (andRight (textByte y) (every textByte t) k))
       where
         px : T (textByte x)
         px = andLeft (textByte x) (every textByte s) h
@@ -129,5 +130,11 @@ one-string-order table once a b la lb n = go (decide (sameBytes (a .text) (b .te
         let e = same-bytes (a .text) (b .text) t in
         rw (e, not-itself rank (b .text), isTrue (sameBytes (b .text) (b .text)) (bytes-refl (b .text))) (tags t)
     go (inr t) =
-        rw (isFalse (sameBytes (a .text) (b .text)) t, isFalse (sameBytes (b .text) (a .text)) (turned (a .text) (b .text) t), or-false (before rank (a .text) (b .text)), or-false (before rank (b .text) (a .text)))
+        rw (
+          isFalse (sameBytes (a .text) (b .text)) t,
+          isFalse (sameBytes (b .text) (a .text)) (turned (a .text) (b .text) t),
+          or-false (before rank (a .text) (b .text)),
+          or-false
+              (before rank (b .text) (a .text)),
+        )
         (one-order rank (ranks-apart table once) (a .text) (b .text) (la .text) (lb .text) t)

@@ -20,6 +20,7 @@ use Rattle.definitions.specs.Types.{Datatype}
 use Rattle.definitions.specs.Terms.{Term, Text, fieldText, uriText, uriByte, textByte, tagByte, isInteger, isDecimal, isDateTime, withinLimits, ofTermKind, bodyWidth, bodyAt, termOfBody, readTerm}
 use Rattle.definitions.specs.Saved.{slotTerm}
 use Rattle.definitions.specs.Values.{valueOf, Value as Meant}
+use Rattle.laws.proofs.Bytes.{part-length}
 use Rattle.laws.proofs.Tests.{andLeft, andRight}
 use Rattle.laws.proofs.Options.{some-is, some-not-none, same-some, provided-inv, onward-inv}
 use Rattle.laws.proofs.Equality.{same-bytes}
@@ -29,7 +30,7 @@ use Rattle.values.specs.Meaning.{meaning, where?, Field}
 use Rattle.values.specs.NumberKinds.{held}
 use Rattle.values.specs.Means.{Holds}
 use Rattle.values.proofs.ArithmeticLaws.{held-good, held-integer, held-decimal, dateTime-decimal, zero-tag, zero-text}
-use Rattle.fields.proofs.PartLaws.{some-part, part-length, part-long}
+use Rattle.fields.proofs.PartLaws.{some-part, part-long}
 use Rattle.matching.proofs.FieldLaws.{field-text, every-wider, between-wider}
 
 -- ── parts ───────────────────────────────────────────────────────────────────────────────────

@@ -5,7 +5,7 @@ use Rattle.definitions.specs.Outcome.{_>>=_}
 use Rattle.definitions.specs.Values.{Tagged, stringIn, holdsOf}
 use Rattle.values.specs.declared.Value.{Value}
 use Rattle.values.specs.Meaning.{meaning, where?, stringOf, Tells, textTest}
-use Rattle.values.proofs.ArithmeticLaws.{ok-is, no-fault}
+use Rattle.laws.proofs.NoFault.{ok-is, no-fault}
 use Rattle.values.proofs.KindLaws.{View, view, as-integer, as-decimal, as-dateTime, as-string, as-uri}
 
 module _ (test : Tagged → Bool) (v : Value) (t : Bool) (e : t ≡ test (stringOf v)) where

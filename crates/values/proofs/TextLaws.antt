@@ -128,7 +128,8 @@ from-pos : (n : ℕ) → T (isDateTime (pos n)) → n + secondsBefore ≤ second
 unfolding withinLimits
 from-pos n h = let l = leb→le n secondsAfter (andRight (leZ (negℤ (pos secondsBefore)) (pos n)) (leb n secondsAfter) h) in omega arith
 
-from-neg : (n : ℕ) → T (isDateTime (negsuc n)) → (negsuc n +ℤ pos secondsBefore ≡ pos (natAbs (negsuc n +ℤ pos secondsBefore))) × (natAbs (negsuc n +ℤ pos secondsBefore) ≤ secondsBefore + secondsAfter)
+from-neg : (n : ℕ) → T (isDateTime (negsuc n)) → (negsuc n +ℤ pos secondsBefore ≡ pos (natAbs (negsuc n +ℤ pos secondsBefore)))
+    × (natAbs (negsuc n +ℤ pos secondsBefore) ≤ secondsBefore + secondsAfter)
 unfolding withinLimits
 from-neg n h =
     let l = leb→le n (secondsBefore - 1) (andLeft (leb n (secondsBefore - 1)) true h) in
@@ -182,9 +183,11 @@ module _ (n : ℤ) (h : T (isDecimal n)) (start : Line) (sign : start ≡ lineOf
   unfolding integerText naturalText
   integer-written r p =
       subst (λ m. Written r (signText n ++ shortDigits 20 m)) amount
-      (written (signText n) starts p (omega (arith, length-append (signText n) (shortDigits 20 far), sign-length n, short-length 20 far)) (clean-then (signText n) (shortDigits 20 far) (sign-clean n) (short-clean 20 far)))
+      (written (signText n) starts p (omega (arith, length-append (signText n) (shortDigits 20 far), sign-length n, short-length 20 far))
+      (clean-then (signText n) (shortDigits 20 far) (sign-clean n) (short-clean 20 far)))
 
-  pub decimal-written : (whole point r : Line) → Puts start whole (shortDigits 20 (far / 1000000)) → Puts whole point (46 ∷ []) → Puts point r (fractionText 6 (far % 1000000)) → Written r (decimalText n)
+  pub decimal-written : (whole point r : Line) → Puts start whole (shortDigits 20 (far / 1000000)) → Puts whole point (46 ∷ []) → Puts point r (fractionText 6 (far % 1000000))
+      → Written r (decimalText n)
   unfolding decimalText naturalText ascii
   decimal-written whole point r p q s =
       let w = shortDigits 20 (far / 1000000) in
@@ -196,11 +199,13 @@ module _ (n : ℤ) (h : T (isDecimal n)) (start : Line) (sign : start ≡ lineOf
       (clean-then (signText n) (w ++ (46 ∷ f)) (sign-clean n) (clean-then w (46 ∷ f) (short-clean 20 (far / 1000000)) (clean-then (46 ∷ []) f tt (fraction-clean 6 (far % 1000000))))))
 
 -- a date and a time of day
-pub date-puts : {l a b c d r : Line} (x : Date) → Puts l a (digits 4 (x .year)) → Puts a b (45 ∷ []) → Puts b c (digits 2 (x .month)) → Puts c d (45 ∷ []) → Puts d r (digits 2 (x .day)) → Puts l r (dateText x)
+pub date-puts : {l a b c d r : Line} (x : Date) → Puts l a (digits 4 (x .year)) → Puts a b (45 ∷ []) → Puts b c (digits 2 (x .month)) → Puts c d (45 ∷ [])
+    → Puts d r (digits 2 (x .day)) → Puts l r (dateText x)
 unfolding dateText ascii
 date-puts x p q s t u = puts-then p (puts-then q (puts-then s (puts-then t u)))
 
-pub time-puts : {l a b c d r : Line} (x : ℕ) → Puts l a (digits 2 (x / 3600)) → Puts a b (58 ∷ []) → Puts b c (digits 2 (x / 60 % 60)) → Puts c d (58 ∷ []) → Puts d r (digits 2 (x % 60)) → Puts l r (timeText x)
+pub time-puts : {l a b c d r : Line} (x : ℕ) → Puts l a (digits 2 (x / 3600)) → Puts a b (58 ∷ []) → Puts b c (digits 2 (x / 60 % 60)) → Puts c d (58 ∷ [])
+    → Puts d r (digits 2 (x % 60)) → Puts l r (timeText x)
 unfolding timeText ascii
 time-puts x p q s t u = puts-then p (puts-then q (puts-then s (puts-then t u)))
 
@@ -226,7 +231,8 @@ date-clean x =
     let y = digits 4 (x .year) in
     let m = digits 2 (x .month) in
     let d = digits 2 (x .day) in
-    clean-then y (45 ∷ (m ++ (45 ∷ d))) (digits-clean 4 (x .year)) (clean-then (45 ∷ []) (m ++ (45 ∷ d)) tt (clean-then m (45 ∷ d) (digits-clean 2 (x .month)) (clean-then (45 ∷ []) d tt (digits-clean 2 (x .day)))))
+    clean-then y (45 ∷ (m ++ (45 ∷ d))) (digits-clean 4 (x .year))
+    (clean-then (45 ∷ []) (m ++ (45 ∷ d)) tt (clean-then m (45 ∷ d) (digits-clean 2 (x .month)) (clean-then (45 ∷ []) d tt (digits-clean 2 (x .day)))))
 
 time-clean : (x : ℕ) → Clean (timeText x)
 unfolding timeText ascii
@@ -234,7 +240,8 @@ time-clean x =
     let h = digits 2 (x / 3600) in
     let m = digits 2 (x / 60 % 60) in
     let s = digits 2 (x % 60) in
-    clean-then h (58 ∷ (m ++ (58 ∷ s))) (digits-clean 2 (x / 3600)) (clean-then (58 ∷ []) (m ++ (58 ∷ s)) tt (clean-then m (58 ∷ s) (digits-clean 2 (x / 60 % 60)) (clean-then (58 ∷ []) s tt (digits-clean 2 (x % 60)))))
+    clean-then h (58 ∷ (m ++ (58 ∷ s))) (digits-clean 2 (x / 3600))
+    (clean-then (58 ∷ []) (m ++ (58 ∷ s)) tt (clean-then m (58 ∷ s) (digits-clean 2 (x / 60 % 60)) (clean-then (58 ∷ []) s tt (digits-clean 2 (x % 60)))))
 
 pub dateTime-written : (n : ℤ) → T (isDateTime n) → (seconds : ℕ) (date : Date) {day mark time r : Line} → seconds ≡ natAbs (toZ w64 (ofZ w64 n) +ℤ pos secondsBefore) → date ≡ dateOf (seconds / 86400)
     → Puts (lineOf []) day (dateText date) → Puts day mark (84 ∷ []) → Puts mark time (timeText (seconds % 86400)) → Puts time r (90 ∷ []) → Written r (dateTimeText n)

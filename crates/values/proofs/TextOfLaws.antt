@@ -28,7 +28,8 @@ plain-means : (p : Bool) (b : List ℕ) (t : Text) → unfilled b ≡ t → mean
 unfolding meaning unfilled
 plain-means p b t e = ap (λ u. Meant.string (where? p (record { tag = []; text = u }))) e
 
-made : (r : Value) (p : Bool) (b : List ℕ) (t : Text) (m : Meant) → r ≡ plainString p b → Field textByte textWidth b → unfilled b ≡ t → where? p (record { tag = []; text = t }) ≡ textOf m → Holds r (Meant.string (textOf m))
+made : (r : Value) (p : Bool) (b : List ℕ) (t : Text) (m : Meant) → r ≡ plainString p b → Field textByte textWidth b → unfilled b ≡ t → where? p (record { tag = []; text = t })
+    ≡ textOf m → Holds r (Meant.string (textOf m))
 made r p b t m e f u same = rw e (record { good = plain-good p b f; is = plain-means p b t u ∙ ap Meant.string same })
 
 module _ (v : Value) (g : Good v) (r : Value) where
@@ -48,7 +49,8 @@ module _ (v : Value) (g : Good v) (r : Value) where
     pub str-integer : v .kind ≡ 5 → Written line (integerText (toZ w64 (ofZ w64 (v .number)))) → r ≡ plainString (v .present) (line .bytes) → Holds r (Meant.string (textOf (meaning v)))
     unfolding textOf
     str-integer k w e =
-        made r (v .present) (line .bytes) (integerText (v .number)) (meaning v) e (written-field w) (written-text w ∙ ap integerText (plain (v .number) (g .number))) (rw (integer-means v k) (go (v .present)))
+        made r (v .present) (line .bytes) (integerText (v .number)) (meaning v) e (written-field w) (written-text w ∙ ap integerText (plain (v .number) (g .number)))
+        (rw (integer-means v k) (go (v .present)))
       where
         go : (p : Bool) → where? p (record { tag = []; text = integerText (v .number) }) ≡ textOf (Meant.integer (where? p (v .number)))
         go true = refl
@@ -57,7 +59,8 @@ module _ (v : Value) (g : Good v) (r : Value) where
     pub str-decimal : v .kind ≡ 3 → Written line (decimalText (toZ w64 (ofZ w64 (v .number)))) → r ≡ plainString (v .present) (line .bytes) → Holds r (Meant.string (textOf (meaning v)))
     unfolding textOf
     str-decimal k w e =
-        made r (v .present) (line .bytes) (decimalText (v .number)) (meaning v) e (written-field w) (written-text w ∙ ap decimalText (plain (v .number) (g .number))) (rw (decimal-means v k) (go (v .present)))
+        made r (v .present) (line .bytes) (decimalText (v .number)) (meaning v) e (written-field w) (written-text w ∙ ap decimalText (plain (v .number) (g .number)))
+        (rw (decimal-means v k) (go (v .present)))
       where
         go : (p : Bool) → where? p (record { tag = []; text = decimalText (v .number) }) ≡ textOf (Meant.decimal (where? p (v .number)))
         go true = refl

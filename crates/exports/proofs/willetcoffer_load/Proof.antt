@@ -27,10 +27,7 @@ same-length-3 c = search needs
 
 returns-2 : tie.Need-returns-2
 returns-2 c =
-    let c₁ = c .before .before in
-    let c₂ = c₁ .before .before in
-    let c₃ = c₂ .before .before .before .before .before .before in
-    let c₄ = c₃ .before .before .before in
+    let c₁ = c .before .before in let c₂ = c₁ .before .before in let c₃ = c₂ .before .before .before .before .before .before in let c₄ = c₃ .before .before .before in
     load-done _ _ (c₄ .if1 .left) (c₃ .load .ensures .0) (c₃ .load .ensures .1) (c₃ .load .ensures .2) (c₂ .load-number .ensures) (c₁ .hand-back .ensures)
 
 pub willetcoffer-load-spec : {M : Type 1} → statement M

@@ -21,8 +21,7 @@ same-length c = search needs
 
 returns-2 : tie.Need-returns-2
 returns-2 c =
-    let c₁ = c .before .before in
-    let c₂ = c₁ .before .before in
+    let c₁ = c .before .before in let c₂ = c₁ .before .before in
     page-unsound _ _ _ _ _ (c₂ .before .buffers-fit .ensures) (c₂ .if1 .left) (read-none _ _ (c₁ .read-saved .ensures) (c .if2 .taken))
 
 page-requires : tie.Need-page-requires
@@ -55,14 +54,10 @@ same-length-5 c = search needs
 
 returns-3 : tie.Need-returns-3
 returns-3 c =
-    let c₁ = c .before .before in
-    let c₂ = c₁ .before .before .before .before in
-    let c₃ = c₂ .before .before in
-    let c₄ = c₃ .before .before .before .before .before .before in
-    let c₅ = c₄ .before .before .before .before in
-    let c₆ = c₅ .before .before in
-    let c₇ = c₆ .before .before in
-    page-done _ _ _ _ _ (c₇ .before .buffers-fit .ensures) (c₇ .if1 .left) (read-some _ _ (c₆ .read-saved .ensures) (c₅ .if2 .left)) (c₄ .page .ensures) (c₃ .page-number .ensures) (c₂ .hand-back .ensures) (c₁ .write-page-report .ensures)
+    let c₁ = c .before .before in let c₂ = c₁ .before .before .before .before in let c₃ = c₂ .before .before in let c₄ = c₃ .before .before .before .before .before .before in
+    let c₅ = c₄ .before .before .before .before in let c₆ = c₅ .before .before in let c₇ = c₆ .before .before in
+    page-done _ _ _ _ _ (c₇ .before .buffers-fit .ensures) (c₇ .if1 .left) (read-some _ _ (c₆ .read-saved .ensures) (c₅ .if2 .left)) (c₄ .page .ensures) (c₃ .page-number .ensures)
+    (c₂ .hand-back .ensures) (c₁ .write-page-report .ensures)
 
 pub willetcoffer-page-spec : {M : Type 1} → statement M
 willetcoffer-page-spec =

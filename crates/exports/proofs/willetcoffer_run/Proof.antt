@@ -22,8 +22,7 @@ same-length c = search needs
 
 returns-2 : tie.Need-returns-2
 returns-2 c =
-    let c₁ = c .before .before in
-    let c₂ = c₁ .before .before in
+    let c₁ = c .before .before in let c₂ = c₁ .before .before in
     run-unsound _ _ _ _ _ (c₂ .before .buffers-fit .ensures) (c₂ .if1 .left) (read-none _ _ (c₁ .read-saved .ensures) (c .if2 .taken))
 
 run-requires : tie.Need-run-requires
@@ -50,16 +49,10 @@ same-length-3 c = search needs
 
 returns-3 : tie.Need-returns-3
 returns-3 c =
-    let c₁ = c .before .before in
-    let c₂ = c₁ .before .before .before .before in
-    let c₃ = c₂ .before .before in
-    let c₄ = c₃ .before .before in
-    let c₅ = c₄ .before .before in
-    let c₆ = c₅ .before .before in
-    let c₇ = c₆ .before .before in
-    let c₈ = c₇ .before in
-    let c₉ = c₈ .before .before .before .before .before .before .before .before in
-    run-done _ _ _ _ _ (c₈ .buffers-fit .ensures) (c₇ .if1 .left) (read-some _ _ (c₆ .read-saved .ensures) (c₅ .if2 .left)) (toZ-ofZ (c₉ .fits .clock)) (c₄ .run .ensures) (c₃ .run-number .ensures) (c₂ .hand-back .ensures) (c₁ .write-run-report .ensures)
+    let c₁ = c .before .before in let c₂ = c₁ .before .before .before .before in let c₃ = c₂ .before .before in let c₄ = c₃ .before .before in let c₅ = c₄ .before .before in
+    let c₆ = c₅ .before .before in let c₇ = c₆ .before .before in let c₈ = c₇ .before in let c₉ = c₈ .before .before .before .before .before .before .before .before in
+    run-done _ _ _ _ _ (c₈ .buffers-fit .ensures) (c₇ .if1 .left) (read-some _ _ (c₆ .read-saved .ensures) (c₅ .if2 .left)) (toZ-ofZ (c₉ .fits .clock)) (c₄ .run .ensures)
+    (c₃ .run-number .ensures) (c₂ .hand-back .ensures) (c₁ .write-run-report .ensures)
 
 pub willetcoffer-run-spec : {M : Type 1} → statement M
 willetcoffer-run-spec =

@@ -73,7 +73,6 @@ fn the_definitions_agree_with_the_shared_data() {
     // what the code alone has: the places of the stack, and the quads as numbers, four each
     assert_eq!(shared.remove("ITEM_LIMIT"), defined.get("DEPTH_LIMIT").copied());
     assert_eq!(shared.remove("QUAD_NUMBERS"), defined.get("QUAD_LIMIT").map(|limit| 4 * limit));
-    assert_eq!(shared.remove("VARIABLES"), defined.get("VARIABLE_LIMIT").copied());
     for (name, number) in shared {
         assert_eq!(defined.get(&name), Some(&number), "{name}");
     }

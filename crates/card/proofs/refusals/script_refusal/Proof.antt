@@ -22,10 +22,14 @@ in-scope-requires : tie.Need-in-scope-requires
 in-scope-requires c κs = sym (c .before .script-ok .ensures) ∙ not-false _ (c .if3 .left)
 
 returns-4 : tie.Need-returns-4
-returns-4 c = out-of-scope _ _ _ (c .before .before .before .before .before .if1 .left) (c .before .before .before .before .if2 .left) (c .before .before .before .script-ok .ensures) (c .before .before .if3 .left) (c .before .in-scope .ensures) (c .if4 .taken)
+returns-4 c =
+    let c₁ = c .before in let c₂ = c₁ .before in let c₃ = c₂ .before in let c₄ = c₃ .before in let c₅ = c₄ .before in
+    out-of-scope _ _ _ (c₅ .if1 .left) (c₄ .if2 .left) (c₃ .script-ok .ensures) (c₂ .if3 .left) (c₁ .in-scope .ensures) (c .if4 .taken)
 
 returns-5 : tie.Need-returns-5
-returns-5 c = script-passes _ _ _ (c .before .before .before .before .before .if1 .left) (c .before .before .before .before .if2 .left) (c .before .before .before .script-ok .ensures) (c .before .before .if3 .left) (c .before .in-scope .ensures) (c .if4 .left)
+returns-5 c =
+    let c₁ = c .before in let c₂ = c₁ .before in let c₃ = c₂ .before in let c₄ = c₃ .before in let c₅ = c₄ .before in
+    script-passes _ _ _ (c₅ .if1 .left) (c₄ .if2 .left) (c₃ .script-ok .ensures) (c₂ .if3 .left) (c₁ .in-scope .ensures) (c .if4 .left)
 
 pub script-refusal-spec : {M : Type 1} → statement M
 script-refusal-spec =

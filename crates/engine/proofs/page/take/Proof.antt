@@ -2,6 +2,7 @@
 use native.Mathlib.Omega.{arith}
 use mathlib.Core.Path.{_≡_}
 use lib.ListN.{length}
+use Rattle.definitions.specs.Limits.{variableLimit, graphLimit, depthLimit}
 use Rattle.laws.proofs.Bytes.{AreBytes}
 use Rattle.engine.proofs.LentLaws.{length-mapped}
 use Rattle.engine.proofs.TakeLaws.{run-low, graph-small, page-is, page-read, page-fits, schema-is, schema-read, held-store, held-tables, not-taken, now-taken}
@@ -10,30 +11,32 @@ use Rattle.engine.proofs.page.take.Statement.{statement}
 use Rattle.engine.proofs.page.take.Tie as tie
 
 -- the places of the saved run
-marks : (c : tie.Start) → length (c .args .saved .bound) ≡ 16
+marks : (c : tie.Start) → length (c .args .saved .control .bound) ≡ variableLimit
 marks c = search needs
 
-graphs : (c : tie.Start) → length (c .args .saved .fetched) ≡ 64
+graphs : (c : tie.Start) → length (c .args .saved .store .fetched) ≡ graphLimit
 graphs c = search needs
 
-levels : (c : tie.Start) → length (c .args .saved .items) ≡ 24
+levels : (c : tie.Start) → length (c .args .saved .control .items) ≡ depthLimit
 levels c = search (length-mapped, needs)
 
-canonical-requires : tie.Need-canonical-requires
-canonical-requires c κs = run-low _ _ _ _ _ _ _ _ _ (c .before .before .before .before .before .before .pre)
+canonical-control-requires : tie.Need-canonical-control-requires
+canonical-control-requires c κs = run-low _ _ _ _ _ _ _ _ _ _ (c .before .before .before .before .before .before .before .before .pre) .0
+
+canonical-store-requires : tie.Need-canonical-store-requires
+canonical-store-requires c κs = run-low _ _ _ _ _ _ _ _ _ _ (c .before .before .before .before .before .before .before .before .before .before .pre) .1
 
 cast-take-in : tie.Need-cast-take-in
-cast-take-in c =
-    let c₁ = c .before .before .before .before .before .before .before in
-    omega (arith, graph-small _ _ _ _ _ _ _ _ _ (c₁ .pre))
+cast-take-in c = omega (arith, graph-small _ _ _ _ _ _ _ _ _ _ (c .before .before .before .before .before .before .before .before .before .before .before .pre))
 
 take-in-requires : tie.Need-take-in-requires
 take-in-requires c κs =
-    let c₁ = c .before .before in
-    let c₂ = c₁ .before .before in
-    let c₃ = c₂ .before in
-    let c₄ = c₃ .before .before .before .before in
-    (page-read _ _ _ _ _ _ _ _ _ (c₄ .pre), (page-fits _ _ _ _ _ _ _ _ _ (c₄ .pre), (schema-read _ _ _ _ _ _ _ _ _ (c₄ .pre), held-tables _ _ _ _ _ _ _ _ _ (c₄ .pre) (λ k. omega (arith, c₃ .slice-known .given k)) (λ k. omega (arith, c₂ .slice-known2 .given k)) (marks (c₄)) (graphs (c₄)) (levels (c₄)) _ (c₁ .canonical .ensures))))
+    let c₁ = c .before .before in let c₂ = c₁ .before .before .before .before .before .before in let c₃ = c₂ .before in let c₄ = c₃ .before .before .before .before in
+    let p = c₄ .pre in let bt : AreBytes (c₄ .args .table .now) = λ k. omega (arith, c₃ .slice-known .given k) in
+    let bq : AreBytes (c₄ .args .store .now) = λ k. omega (arith, c₂ .slice-known2 .given k) in (
+      page-read _ _ _ _ _ _ _ _ _ _ p,
+      (page-fits _ _ _ _ _ _ _ _ _ _ p, (schema-read _ _ _ _ _ _ _ _ _ _ p, held-tables _ _ _ _ _ _ _ _ _ _ p bt bq (graphs c₄) _ (c₁ .canonical-store .ensures))),
+    )
 
 enum-told : tie.Need-enum-told
 enum-told c = search needs
@@ -52,13 +55,13 @@ same-length-2 c = search needs
 
 returns : tie.Need-returns
 returns c =
-    let c₁ = c .before in
-    let c₂ = c₁ .before .before .before .before .before .before in
-    let c₃ = c₂ .before .before .before in
-    let c₄ = c₃ .before .before in
-    let c₅ = c₄ .before in
-    let c₆ = c₅ .before .before .before .before in
-    let p = c₆ .pre in let bt : AreBytes (c₆ .args .table .now) = λ k. omega (arith, c₅ .slice-known .given k) in let bq : AreBytes (c₆ .args .store .now) = λ k. omega (arith, c₄ .slice-known2 .given k) in not-taken _ _ _ _ _ _ _ _ _ p bt bq (marks (c₆)) (graphs (c₆)) (levels (c₆)) _ (c₃ .canonical .ensures) _ _ _ (c₂ .take-in .ensures _ _ _ (schema-is _ _ _ _ _ _ _ _ _ p) (page-is _ _ _ _ _ _ _ _ _ p) (held-store _ _ _ _ _ _ _ _ _ p bt bq (marks (c₆)) (graphs (c₆)) (levels (c₆)) _ (c₃ .canonical .ensures))) _ (c₁ .enum-told2 .given .1) (c .refused .ensures)
+    let c₁ = c .before in let c₂ = c₁ .before .before .before .before .before .before in let c₃ = c₂ .before .before .before in
+    let c₄ = c₃ .before .before .before .before .before .before in let c₅ = c₄ .before in let c₆ = c₅ .before .before .before .before in
+    let p = c₆ .pre in let bt : AreBytes (c₆ .args .table .now) = λ k. omega (arith, c₅ .slice-known .given k) in
+    let bq : AreBytes (c₆ .args .store .now) = λ k. omega (arith, c₄ .slice-known2 .given k) in
+    not-taken _ _ _ _ _ _ _ _ _ _ p bt bq (graphs c₆) _ (c₃ .canonical-store .ensures) _ _ _
+    (c₂ .take-in .ensures _ _ _ (schema-is _ _ _ _ _ _ _ _ _ _ p) (page-is _ _ _ _ _ _ _ _ _ _ p)
+    (held-store _ _ _ _ _ _ _ _ _ _ p bt bq (graphs c₆) _ (c₃ .canonical-store .ensures))) _ (c₁ .enum-told2 .given .1) (c .refused .ensures)
 
 same-length-3 : tie.Need-same-length-3
 same-length-3 c = search needs
@@ -68,18 +71,20 @@ same-length-4 c = search needs
 
 returns-2 : tie.Need-returns-2
 returns-2 c =
-    let c₁ = c .before .before .before .before .before .before in
-    let c₂ = c₁ .before .before .before in
-    let c₃ = c₂ .before .before in
-    let c₄ = c₃ .before in
-    let c₅ = c₄ .before .before .before .before in
-    let p = c₅ .pre in let bt : AreBytes (c₅ .args .table .now) = λ k. omega (arith, c₄ .slice-known .given k) in let bq : AreBytes (c₅ .args .store .now) = λ k. omega (arith, c₃ .slice-known2 .given k) in now-taken _ _ _ _ _ _ _ _ _ p bt bq (marks (c₅)) (graphs (c₅)) (levels (c₅)) _ (c₂ .canonical .ensures) _ _ _ (c₁ .take-in .ensures _ _ _ (schema-is _ _ _ _ _ _ _ _ _ p) (page-is _ _ _ _ _ _ _ _ _ p) (held-store _ _ _ _ _ _ _ _ _ p bt bq (marks (c₅)) (graphs (c₅)) (levels (c₅)) _ (c₂ .canonical .ensures))) _ (c .enum-told .given .1)
+    let c₁ = c .before in let c₂ = c₁ .before .before .before .before .before .before in let c₃ = c₂ .before .before .before in let c₄ = c₃ .before .before in
+    let c₅ = c₄ .before .before .before .before in let c₆ = c₅ .before in let c₇ = c₆ .before .before .before .before in
+    let p = c₇ .pre in let bt : AreBytes (c₇ .args .table .now) = λ k. omega (arith, c₆ .slice-known .given k) in
+    let bq : AreBytes (c₇ .args .store .now) = λ k. omega (arith, c₅ .slice-known2 .given k) in
+    now-taken _ _ _ _ _ _ _ _ _ _ p bt bq (graphs c₇) _ (c₃ .canonical-store .ensures) _ _ _
+    (c₂ .take-in .ensures _ _ _ (schema-is _ _ _ _ _ _ _ _ _ _ p) (page-is _ _ _ _ _ _ _ _ _ _ p)
+    (held-store _ _ _ _ _ _ _ _ _ _ p bt bq (graphs c₇) _ (c₃ .canonical-store .ensures))) (marks c₇) (levels c₇) _ (c₄ .canonical-control .ensures) _ (c₁ .enum-told .given .1)
 
 pub take-spec : {M : Type 1} → statement M
 take-spec =
     tie.close
     (tie.spec
-    canonical-requires
+    canonical-control-requires
+    canonical-store-requires
     cast-take-in
     take-in-requires
     enum-told

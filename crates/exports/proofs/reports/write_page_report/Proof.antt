@@ -23,8 +23,7 @@ same-length c = search needs
 
 returns-2 : tie.Need-returns-2
 returns-2 c =
-    let c₁ = c .before .before .before .before .before in
-    let c₂ = c₁ .before .before .before in
+    let c₁ = c .before .before .before .before .before in let c₂ = c₁ .before .before .before in
     taken _ (c₁ .answer .given .1) (c .before .before .write-number .ensures ∙ ap (λ k. littleBytes k (c₁ .answer .given .0 .0)) (c₂ .pre))
 
 pub write-page-report-spec : {M : Type 1} → statement M

@@ -61,12 +61,7 @@ same-length c =
 
 returns-2 : tie.Need-returns-2
 returns-2 c =
-    let c₁ = c .before .before in
-    let c₂ = c₁ .before .before in
-    let c₃ = c₂ .before in
-    let c₄ = c₃ .before .before .before in
-    let c₅ = c₄ .before in
-    let c₆ = c₅ .before .before in
+    let c₁ = c .before .before in let c₂ = c₁ .before .before in let c₃ = c₂ .before in let c₄ = c₃ .before .before .before in let c₅ = c₄ .before in let c₆ = c₅ .before .before in
     let c₇ = c₆ .before .before .before in
     let p = c₄ .write-number .last .1 .0 in
     let q = c₁ .write-word .last .1 .0 in

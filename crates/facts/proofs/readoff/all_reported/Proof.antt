@@ -33,7 +33,14 @@ loop-less : tie.Need-loop-less Inv-loop μ-loop
 loop-less c = omega arith
 
 loop-again : tie.Need-loop-again Inv-loop μ-loop
-loop-again c = (omega arith, rw length-set (c .before .before .loop .inv .1), filled-more 0 (reportedAt (c .before .before .before .before .args .t) (allWritten (c .before .before .before .before .args .written .now))) (c .before .before .loop .types) (c .before .before .loop .x) (omega arith) (c .before .before .loop .inv .2) (c .reported .ensures))
+loop-again c =
+    let c₁ = c .before .before in
+    let c₂ = c₁ .before .before in (
+      omega arith,
+      rw length-set (c₁ .loop .inv .1),
+      filled-more 0 (reportedAt (c₂ .args .t) (allWritten (c₂ .args .written .now))) (c₁ .loop .types) (c₁ .loop .x) (omega arith)
+          (c₁ .loop .inv .2) (c .reported .ensures),
+    )
 
 returns : tie.Need-returns Inv-loop μ-loop
 returns c = let i = c .before .loop .inv in filled-all _ _ _ (written-length _ (c .before .before .before .pre .1)) (i .1) (λ k l. i .2 k (omega arith))

@@ -21,13 +21,18 @@ all-tight-requires : tie.Need-all-tight-requires
 all-tight-requires c κs = search needs
 
 returns-3 : tie.Need-returns-3
-returns-3 c = off-loose _ _ (c .before .before .before .before .before .apart .ensures) (not-false _ (c .before .before .before .before .if1 .left)) (c .before .before .before .all-closed .ensures) (not-false _ (c .before .before .if2 .left)) (c .before .all-tight .ensures) (not-true _ (c .if3 .taken))
+returns-3 c =
+    let c₁ = c .before in let c₂ = c₁ .before in let c₃ = c₂ .before in let c₄ = c₃ .before in let c₅ = c₄ .before in
+    off-loose _ _ (c₅ .apart .ensures) (not-false _ (c₄ .if1 .left)) (c₃ .all-closed .ensures) (not-false _ (c₂ .if2 .left)) (c₁ .all-tight .ensures) (not-true _ (c .if3 .taken))
 
 all-reported-requires : tie.Need-all-reported-requires
 all-reported-requires c κs = search needs
 
 returns-4 : tie.Need-returns-4
-returns-4 c = off-types _ _ (c .before .before .before .before .before .before .apart .ensures) (not-false _ (c .before .before .before .before .before .if1 .left)) (c .before .before .before .before .all-closed .ensures) (not-false _ (c .before .before .before .if2 .left)) (c .before .before .all-tight .ensures) (not-false _ (c .before .if3 .left)) (c .all-reported .ensures)
+returns-4 c =
+    let c₁ = c .before in let c₂ = c₁ .before in let c₃ = c₂ .before in let c₄ = c₃ .before in let c₅ = c₄ .before in let c₆ = c₅ .before in
+    off-types _ _ (c₆ .apart .ensures) (not-false _ (c₅ .if1 .left)) (c₄ .all-closed .ensures) (not-false _ (c₃ .if2 .left)) (c₂ .all-tight .ensures) (not-false _ (c₁ .if3 .left))
+    (c .all-reported .ensures)
 
 pub read-off-spec : {M : Type 1} → statement M
 read-off-spec =

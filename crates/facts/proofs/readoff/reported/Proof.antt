@@ -20,7 +20,9 @@ normal-requires : tie.Need-normal-requires
 normal-requires c κs = search needs
 
 returns-3 : tie.Need-returns-3
-returns-3 c = reported-fixed _ _ (c .before .before .before .before .before .pre .2) (c .before .before .before .before .before .pre .1) _ (c .before .before .if1 .left) (c .before .if2 .left) (c .normal .ensures)
+returns-3 c =
+    let c₁ = c .before in let c₂ = c₁ .before in let c₃ = c₂ .before .before .before in
+    reported-fixed _ _ (c₃ .pre .2) (c₃ .pre .1) _ (c₂ .if1 .left) (c₁ .if2 .left) (c .normal .ensures)
 
 pub reported-spec : {M : Type 1} → statement M
 reported-spec =

@@ -93,7 +93,22 @@ add-result-7 : tie.Need-add-result-7
 add-result-7 c = search needs
 
 returns : tie.Need-returns
-returns c = let e = eight (c .before .before .before .before .before .before .before .before .before .args .s .now) (c .before .before .before .before .before .before .before .before .before .args .at) (c .before .before .before .before .before .before .before .before .before .pre) in omega (arith, e, c .before .before .before .before .before .before .before .wide .ensures .0, c .before .before .before .before .before .before .wide2 .ensures .0, c .before .before .before .before .before .wide3 .ensures .0, c .before .before .before .before .wide4 .ensures .0, c .before .before .before .wide5 .ensures .0, c .before .before .wide6 .ensures .0, c .before .wide7 .ensures .0, c .wide8 .ensures .0)
+returns c =
+    let c₁ = c .before in let c₂ = c₁ .before in let c₃ = c₂ .before in let c₄ = c₃ .before in let c₅ = c₄ .before in let c₆ = c₅ .before in let c₇ = c₆ .before in
+    let c₈ = c₇ .before .before in
+    let e = eight (c₈ .args .s .now) (c₈ .args .at) (c₈ .pre) in
+    omega (
+      arith,
+      e,
+      c₇ .wide .ensures .0,
+      c₆ .wide2 .ensures .0,
+      c₅ .wide3 .ensures .0,
+      c₄ .wide4 .ensures .0,
+      c₃ .wide5 .ensures .0,
+      c₂ .wide6 .ensures .0,
+      c₁ .wide7 .ensures .0,
+      c .wide8 .ensures .0,
+    )
 
 pub long-at-spec : {M : Type 1} → statement M
 long-at-spec =

@@ -35,10 +35,16 @@ loop-less : tie.Need-loop-less Inv-loop μ-loop
 loop-less c = search needs
 
 loop-again : tie.Need-loop-again Inv-loop μ-loop
-loop-again c = let a = c .before .before .before .before .before in same-next (a .args .a .now) (a .args .b .now) (c .before .before .before .before .if1 .left) (c .before .before .before .loop .i) (c .before .before .before .loop .same) (omega arith) (c .before .before .before .loop .inv)
+loop-again c =
+    let c₁ = c .before .before .before in let c₂ = c₁ .before in let c₃ = c₂ .before in
+    let a = c₃ in
+    same-next (a .args .a .now) (a .args .b .now) (c₂ .if1 .left) (c₁ .loop .i) (c₁ .loop .same) (omega arith) (c₁ .loop .inv)
 
 returns-2 : tie.Need-returns-2 Inv-loop μ-loop
-returns-2 c = let a = c .before .before .before in same-end (a .args .a .now) (a .args .b .now) (c .before .before .if1 .left) (c .before .loop .i) (c .before .loop .same) (omega arith) (c .before .loop .inv)
+returns-2 c =
+    let c₁ = c .before in let c₂ = c₁ .before in let c₃ = c₂ .before in
+    let a = c₃ in
+    same-end (a .args .a .now) (a .args .b .now) (c₂ .if1 .left) (c₁ .loop .i) (c₁ .loop .same) (omega arith) (c₁ .loop .inv)
 
 pub same-bytes-spec : {M : Type 1} → statement M
 same-bytes-spec =

@@ -33,10 +33,14 @@ body-ok-requires : tie.Need-body-ok-requires
 body-ok-requires c κs = search needs
 
 returns-3 : tie.Need-returns-3
-returns-3 c = body-bad _ _ (c .before .before .before .before .has-room .ensures) (c .before .before .before .if2 .left) _ (c .before .before .before .before .before .before .body-width .ensures) (c .before .body-ok .ensures) (c .if3 .taken)
+returns-3 c =
+    let c₁ = c .before in let c₂ = c₁ .before .before in let c₃ = c₂ .before in let c₄ = c₃ .before .before in
+    body-bad _ _ (c₃ .has-room .ensures) (c₂ .if2 .left) _ (c₄ .body-width .ensures) (c₁ .body-ok .ensures) (c .if3 .taken)
 
 returns-4 : tie.Need-returns-4
-returns-4 c = body-next _ _ (c .before .before .before .before .has-room .ensures) (c .before .before .before .if2 .left) _ (c .before .before .before .before .before .before .body-width .ensures) (c .before .body-ok .ensures) (c .if3 .left)
+returns-4 c =
+    let c₁ = c .before in let c₂ = c₁ .before .before in let c₃ = c₂ .before in let c₄ = c₃ .before .before in
+    body-next _ _ (c₃ .has-room .ensures) (c₂ .if2 .left) _ (c₄ .body-width .ensures) (c₁ .body-ok .ensures) (c .if3 .left)
 
 pub read-body-spec : {M : Type 1} → statement M
 read-body-spec =

@@ -34,22 +34,34 @@ uri-ok-requires : tie.Need-uri-ok-requires
 uri-ok-requires c κs = search needs
 
 returns-2 : tie.Need-returns-2
-returns-2 c = entry-uri _ _ (c .before .before .before .before .before .before .has-room .ensures) (c .before .before .before .before .before .if1 .left) (c .before .before .before .match .keys1) (c .before .uri-ok .ensures) (c .if2 .taken)
+returns-2 c =
+    let c₁ = c .before in let c₂ = c₁ .before .before in let c₃ = c₂ .before .before in let c₄ = c₃ .before in
+    entry-uri _ _ (c₄ .has-room .ensures) (c₃ .if1 .left) (c₂ .match .keys1) (c₁ .uri-ok .ensures) (c .if2 .taken)
 
 shared-slice-read-datatype : tie.Need-shared-slice-read-datatype
-shared-slice-read-datatype c = omega (arith, room-fits _ _ _ (c .before .before .before .before .before .before .before .has-room .ensures) (c .before .before .before .before .before .before .if1 .left))
+shared-slice-read-datatype c =
+    let c₁ = c .before .before .before .before .before .before in let c₂ = c₁ .before in
+    omega (arith, room-fits _ _ _ (c₂ .has-room .ensures) (c₁ .if1 .left))
 
 add-t22 : tie.Need-add-t22
-add-t22 c = omega (arith, room-fits _ _ _ (c .before .before .before .before .before .before .before .before .before .has-room .ensures) (c .before .before .before .before .before .before .before .before .if1 .left))
+add-t22 c =
+    let c₁ = c .before .before .before .before .before .before .before .before in let c₂ = c₁ .before in
+    omega (arith, room-fits _ _ _ (c₂ .has-room .ensures) (c₁ .if1 .left))
 
 returns-3 : tie.Need-returns-3
-returns-3 c = entry-next _ _ (c .before .before .before .before .before .before .before .before .before .has-room .ensures) (c .before .before .before .before .before .before .before .before .if1 .left) (c .before .before .before .before .before .before .match .keys1) (c .before .before .before .before .uri-ok .ensures) (c .before .before .before .if2 .left) (omega arith) (omega arith)
+returns-3 c =
+    let c₁ = c .before .before .before in let c₂ = c₁ .before in let c₃ = c₂ .before .before in let c₄ = c₃ .before .before in let c₅ = c₄ .before in
+    entry-next _ _ (c₅ .has-room .ensures) (c₄ .if1 .left) (c₃ .match .keys1) (c₂ .uri-ok .ensures) (c₁ .if2 .left) (omega arith) (omega arith)
 
 returns-4 : tie.Need-returns-4
-returns-4 c = entry-code _ _ (c .before .before .before .before .before .before .before .before .has-room .ensures) (c .before .before .before .before .before .before .before .if1 .left) (c .before .before .before .before .before .match .keys1) (c .before .before .before .uri-ok .ensures) (c .before .before .if2 .left) (inl (omega arith))
+returns-4 c =
+    let c₁ = c .before .before in let c₂ = c₁ .before in let c₃ = c₂ .before .before in let c₄ = c₃ .before .before in let c₅ = c₄ .before in
+    entry-code _ _ (c₅ .has-room .ensures) (c₄ .if1 .left) (c₃ .match .keys1) (c₂ .uri-ok .ensures) (c₁ .if2 .left) (inl (omega arith))
 
 returns-5 : tie.Need-returns-5
-returns-5 c = entry-code _ _ (c .before .before .before .before .before .before .before .before .before .has-room .ensures) (c .before .before .before .before .before .before .before .before .if1 .left) (c .before .before .before .before .before .before .match .keys1) (c .before .before .before .before .uri-ok .ensures) (c .before .before .before .if2 .left) (inr (omega arith))
+returns-5 c =
+    let c₁ = c .before .before .before in let c₂ = c₁ .before in let c₃ = c₂ .before .before in let c₄ = c₃ .before .before in let c₅ = c₄ .before in
+    entry-code _ _ (c₅ .has-room .ensures) (c₄ .if1 .left) (c₃ .match .keys1) (c₂ .uri-ok .ensures) (c₁ .if2 .left) (inr (omega arith))
 
 returns-6 : tie.Need-returns-6
 returns-6 c = entry-kind _ _ (c .before .before .before .has-room .ensures) (c .before .before .if1 .left) (c .match .rest .1)

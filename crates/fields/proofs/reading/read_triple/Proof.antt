@@ -37,7 +37,9 @@ enum-told-2 : tie.Need-enum-told-2
 enum-told-2 c = search needs
 
 returns-3 : tie.Need-returns-3
-returns-3 c = triple-property _ _ (c .before .before .before .before .before .before .read-uri .ensures) (c .before .before .before .before .property .given .1) (c .before .before .read-uri2 .ensures) (c .enum-told2 .given .1)
+returns-3 c =
+    let c₁ = c .before .before in let c₂ = c₁ .before .before in let c₃ = c₂ .before .before in
+    triple-property _ _ (c₃ .read-uri .ensures) (c₂ .property .given .1) (c₁ .read-uri2 .ensures) (c .enum-told2 .given .1)
 
 sub-read-body : tie.Need-sub-read-body
 sub-read-body c = search needs
@@ -46,7 +48,9 @@ read-body-requires : tie.Need-read-body-requires
 read-body-requires c κs = search needs
 
 returns-4 : tie.Need-returns-4
-returns-4 c = triple-object _ _ (c .before .before .before .before .before .before .before .before .read-uri .ensures) (c .before .before .before .before .before .before .property .given .1) (c .before .before .before .before .read-uri2 .ensures) (c .before .before .object .given .1) (omega arith) (c .read-body .ensures)
+returns-4 c =
+    let c₁ = c .before .before in let c₂ = c₁ .before .before in let c₃ = c₂ .before .before in let c₄ = c₃ .before .before in
+    triple-object _ _ (c₄ .read-uri .ensures) (c₃ .property .given .1) (c₂ .read-uri2 .ensures) (c₁ .object .given .1) (omega arith) (c .read-body .ensures)
 
 returns-5 : tie.Need-returns-5
 returns-5 c = triple-kind _ _ (inl (omega arith))

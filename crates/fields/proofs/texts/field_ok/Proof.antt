@@ -40,13 +40,18 @@ is-zero-requires : tie.Need-is-zero-requires Inv-loop μ-loop
 is-zero-requires c κs = search needs
 
 returns : tie.Need-returns Inv-loop μ-loop
-returns c = c .is-zero .ensures ∙ ap allZero (rest-part (c .before .before .before .before .before .before .before .args .field .now) (c .before .before .before .before .before .loop .i)) ∙ sym (c .before .before .before .before .before .loop .inv .1 ∙ field-zeros _ (c .before .before .before .before .before .before .before .args .field .now) (c .before .before .before .before .before .loop .i) (omega arith) (c .before .before .if1 .taken))
+returns c =
+    let c₁ = c .before .before in let c₂ = c₁ .before .before .before in let c₃ = c₂ .before .before in
+    c .is-zero .ensures ∙ ap allZero (rest-part (c₃ .args .field .now) (c₂ .loop .i))
+    ∙ sym (c₂ .loop .inv .1 ∙ field-zeros _ (c₃ .args .field .now) (c₂ .loop .i) (omega arith) (c₁ .if1 .taken))
 
 byte-ok-requires : tie.Need-byte-ok-requires Inv-loop μ-loop
 byte-ok-requires c κs = search needs
 
 returns-2 : tie.Need-returns-2 Inv-loop μ-loop
-returns-2 c = sym (c .before .before .before .before .before .loop .inv .1 ∙ field-bad _ (c .before .before .before .before .before .before .before .args .field .now) (c .before .before .before .before .before .loop .i) (omega arith) (c .before .before .if1 .left) (sym (c .before .byte-ok .ensures) ∙ not-true _ (c .if2 .taken)))
+returns-2 c =
+    let c₁ = c .before in let c₂ = c₁ .before in let c₃ = c₂ .before .before .before in let c₄ = c₃ .before .before in
+    sym (c₃ .loop .inv .1 ∙ field-bad _ (c₄ .args .field .now) (c₃ .loop .i) (omega arith) (c₂ .if1 .left) (sym (c₁ .byte-ok .ensures) ∙ not-true _ (c .if2 .taken)))
 
 add-i : tie.Need-add-i Inv-loop μ-loop
 add-i c = search needs
@@ -55,7 +60,9 @@ loop-less : tie.Need-loop-less Inv-loop μ-loop
 loop-less c = search needs
 
 loop-again : tie.Need-loop-again Inv-loop μ-loop
-loop-again c = (omega arith, c .before .before .before .before .before .loop .inv .1 ∙ field-more _ (c .before .before .before .before .before .before .before .args .field .now) (c .before .before .before .before .before .loop .i) (omega arith) (c .before .before .if1 .left) (sym (c .before .byte-ok .ensures) ∙ not-false _ (c .if2 .left)))
+loop-again c =
+    let c₁ = c .before in let c₂ = c₁ .before in let c₃ = c₂ .before .before .before in let c₄ = c₃ .before .before in
+    (omega arith, c₃ .loop .inv .1 ∙ field-more _ (c₄ .args .field .now) (c₃ .loop .i) (omega arith) (c₂ .if1 .left) (sym (c₁ .byte-ok .ensures) ∙ not-false _ (c .if2 .left)))
 
 returns-3 : tie.Need-returns-3 Inv-loop μ-loop
 returns-3 c = sym (c .before .loop .inv .1 ∙ field-end _ (c .before .before .before .args .field .now) (c .before .loop .i) (omega arith))

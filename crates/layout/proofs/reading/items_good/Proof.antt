@@ -34,8 +34,7 @@ shared-slice-read-if1 c = search needs
 
 returns : tie.Need-returns Inv-loop μ-loop
 returns c =
-    let c₁ = c .before .before .before in
-    let c₂ = c₁ .before in
+    let c₁ = c .before .before .before in let c₂ = c₁ .before in
     good-mark (c₂ .args .b .now) _ _ _ (omega arith) (c₁ .loop .inv .1) (c .if1 .taken)
 
 add-if2 : tie.Need-add-if2 Inv-loop μ-loop
@@ -46,8 +45,7 @@ shared-slice-read-if2 c = search needs
 
 returns-2 : tie.Need-returns-2 Inv-loop μ-loop
 returns-2 c =
-    let c₁ = c .before .before .before .before .before in
-    let c₂ = c₁ .before in
+    let c₁ = c .before .before .before .before .before in let c₂ = c₁ .before in
     good-zero (c₂ .args .b .now) _ _ _ (omega arith) (c₁ .loop .inv .1) (c .before .before .if1 .left) (c .if2 .taken)
 
 add-i : tie.Need-add-i Inv-loop μ-loop
@@ -58,8 +56,7 @@ loop-less c = search needs
 
 loop-again : tie.Need-loop-again Inv-loop μ-loop
 loop-again c =
-    let c₁ = c .before .before .before .before .before in
-    let c₂ = c₁ .before in
+    let c₁ = c .before .before .before .before .before in let c₂ = c₁ .before in
     (omega arith, good-next (c₂ .args .b .now) _ _ _ (omega arith) (c₁ .loop .inv .1) (c .before .before .if1 .left) (c .if2 .left))
 
 returns-3 : tie.Need-returns-3 Inv-loop μ-loop

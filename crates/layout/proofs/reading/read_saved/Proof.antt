@@ -38,8 +38,7 @@ unsound-requires-2 c κs = search needs
 
 returns-2 : tie.Need-returns-2
 returns-2 c =
-    let c₁ = c .before .before .before .before in
-    let c₂ = c₁ .before in
+    let c₁ = c .before .before .before .before in let c₂ = c₁ .before in
     let m = sym (c .before .before .marks-good .ensures) ∙ not-true _ (c .before .if2 .taken) in
     c .unsound2 .ensures ∙ ap readOf (sym (bad-marks _ _ (c₂ .number-at .ensures) (c₁ .if1 .left) m))
 
@@ -54,25 +53,24 @@ unsound-requires-3 c κs = search needs
 
 returns-3 : tie.Need-returns-3
 returns-3 c =
-    let c₁ = c .before .before .before .before in
-    let c₂ = c₁ .before .before in
-    let c₃ = c₂ .before in
+    let c₁ = c .before .before .before .before in let c₂ = c₁ .before .before in let c₃ = c₂ .before in
     let m = sym (c₁ .marks-good .ensures) ∙ not-false _ (c .before .before .before .if2 .left) in
     let i = sym (c .before .before .items-good .ensures) ∙ not-true _ (c .before .if3 .taken) in
     c .unsound3 .ensures ∙ ap readOf (sym (bad-items _ _ (c₃ .number-at .ensures) (c₂ .if1 .left) m i))
 
-read-fields-requires : tie.Need-read-fields-requires
-read-fields-requires c κs = search needs
+read-control-requires : tie.Need-read-control-requires
+read-control-requires c κs = search needs
+
+read-store-requires : tie.Need-read-store-requires
+read-store-requires c κs = search needs
 
 returns-4 : tie.Need-returns-4
 returns-4 c =
-    let c₁ = c .before .before .before .before in
-    let c₂ = c₁ .before .before in
-    let c₃ = c₂ .before in
-    let m = sym (c₁ .marks-good .ensures) ∙ not-false _ (c .before .before .before .if2 .left) in
-    let i = sym (c .before .before .items-good .ensures) ∙ not-false _ (c .before .if3 .left) in
+    let c₀ = c .before in let c₁ = c₀ .before .before .before .before in let c₂ = c₁ .before .before in let c₃ = c₂ .before in
+    let m = sym (c₁ .marks-good .ensures) ∙ not-false _ (c₀ .before .before .before .if2 .left) in
+    let i = sym (c₀ .before .before .items-good .ensures) ∙ not-false _ (c₀ .before .if3 .left) in
     let h = all-good _ _ (c₃ .number-at .ensures) (c₂ .if1 .left) m i in
-    ap (λ r. record { ok = true; saved = r }) (c .read-fields .ensures) ∙ ap readOf (sym h)
+    (λ k. record { ok = true; saved = record { control = c₀ .read-control .ensures k; store = c .read-store .ensures k } }) ∙ ap readOf (sym h)
 
 pub read-saved-spec : {M : Type 1} → statement M
 read-saved-spec =
@@ -92,5 +90,6 @@ read-saved-spec =
     items-good-requires
     unsound-requires-3
     returns-3
-    read-fields-requires
+    read-control-requires
+    read-store-requires
     returns-4)

@@ -1,28 +1,19 @@
--- Field by field.
+-- `layout::reading::unsound` meets its contract.
 use mathlib.Core.Bool.{false}
+use mathlib.Core.Path.{ap}
 use borrow.Author.Needs.{needs}
-use lib.ListN.{replicate}
+use Rattle.definitions.specs.declared.SavedRun.{SavedRun}
+use Rattle.layout.specs.declared.SavedRead.{SavedRead}
 use Rattle.layout.proofs.reading.unsound.Statement.{statement}
 use Rattle.layout.proofs.reading.unsound.Tie as tie
 
-zero-item-requires : tie.Need-zero-item-requires
-zero-item-requires c κs = search needs
+bare-run-requires : tie.Need-bare-run-requires
+bare-run-requires c κs = search needs
 
 returns : tie.Need-returns
 returns c =
-    λ k. record {
-      ok = false;
-      saved = record {
-        height = 0;
-        quads = 0;
-        graphs = 0;
-        types = replicate 16 0;
-        bound = replicate 16 false;
-        bindings = replicate 16 0;
-        fetched = replicate 64 0;
-        items = replicate 24 (c .zero-item .ensures k);
-      };
-    }
+    let read : SavedRun → SavedRead = λ s. record { ok = false; saved = s } in
+    ap read (c .bare-run .ensures)
 
 pub unsound-spec : {M : Type 1} → statement M
-unsound-spec = tie.close (tie.spec zero-item-requires returns)
+unsound-spec = tie.close (tie.spec bare-run-requires returns)

@@ -46,8 +46,7 @@ part-write-words-end c = simp length-set (omega arith)
 
 write-words-requires : tie.Need-write-words-requires
 write-words-requires c κs =
-    let c₁ = c .before .before .before .before in
-    let c₂ = c₁ .before .before .before .before .before in
+    let c₁ = c .before .before .before .before in let c₂ = c₁ .before .before .before .before .before in
     simp (length-take, length-drop, length-set) (omega (arith, c₁ .out .given .1, last-length c₂, c₂ .pre))
 
 same-length : tie.Need-same-length
@@ -57,10 +56,7 @@ same-length c =
 
 returns : tie.Need-returns
 returns c =
-    let c₁ = c .before .before in
-    let c₂ = c₁ .before .before .before in
-    let c₃ = c₂ .before .before .before in
-    let c₄ = c₃ .before .before .before .before in
+    let c₁ = c .before .before in let c₂ = c₁ .before .before .before in let c₃ = c₂ .before .before .before in let c₄ = c₃ .before .before .before .before in
     let w = c₃ .write-word .last .1 .0 in
     let ws = c₁ .write-words .last .1 .0 in
     let m = c₂ .mark .result in

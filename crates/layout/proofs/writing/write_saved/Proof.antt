@@ -11,16 +11,16 @@ use Rattle.layout.proofs.writing.write_saved.Statement.{statement}
 use Rattle.layout.proofs.writing.write_saved.Tie as tie
 
 -- the lengths of the arrays
-types-length : (c : tie.Start) → length (c .args .run .types) ≡ 16
+types-length : (c : tie.Start) → length (c .args .run .control .types) ≡ 16
 types-length c = search needs
 
-bound-length : (c : tie.Start) → length (c .args .run .bound) ≡ 16
+bound-length : (c : tie.Start) → length (c .args .run .control .bound) ≡ 16
 bound-length c = search needs
 
-bindings-length : (c : tie.Start) → length (c .args .run .bindings) ≡ 16
+bindings-length : (c : tie.Start) → length (c .args .run .control .bindings) ≡ 16
 bindings-length c = search needs
 
-fetched-length : (c : tie.Start) → length (c .args .run .fetched) ≡ 64
+fetched-length : (c : tie.Start) → length (c .args .run .store .fetched) ≡ 64
 fetched-length c = search needs
 
 slice-aggregate-write-words : tie.Need-slice-aggregate-write-words
@@ -52,7 +52,7 @@ part-copy-end c = search needs
 
 copy-requires : tie.Need-copy-requires
 copy-requires c κs =
-    let c₁ = c .before .before .before .before .before .before .before .before .before .before .before .before .before in
+    let c₁ = c .before .before .before .before .before .before .before .before .before .before .before .before .before .before .before in
     omega (arith, types-length c₁, c .copy-arg .given .2)
 
 slice-aggregate-write-marks : tie.Need-slice-aggregate-write-marks
@@ -70,11 +70,13 @@ part-write-marks-end c = search needs
 write-marks-requires : tie.Need-write-marks-requires
 write-marks-requires c κs =
     let c₀ = c .before .before .before .before .before .before .before .before .before in
-    let c₁ = c₀ .before .before .before .before .before .before .before .before .before in
+    let c₁ = c₀ .before .before .before .before .before .before .before .before .before .before .before in
     c .write-marks-arg .given .2 ∙ sym (bound-length c₁)
 
 slice-aggregate-write-words-2 : tie.Need-slice-aggregate-write-words-2
-slice-aggregate-write-words-2 c = search needs
+slice-aggregate-write-words-2 c =
+    let c₀ = c .before .before .before .before .before .before .before .before .before .before .before in
+    sym (bindings-length (c₀ .before .before .before .before .before .before .before .before .before .before .before .before .before))
 
 sub-write-words-2 : tie.Need-sub-write-words-2
 sub-write-words-2 c = search needs
@@ -88,13 +90,13 @@ part-write-words-end-2 c = search needs
 write-words-requires-2 : tie.Need-write-words-requires-2
 write-words-requires-2 c κs =
     let c₀ = c .before .before .before .before .before .before .before .before .before .before .before in
-    let c₁ = c₀ .before .before .before .before .before .before .before .before .before .before .before .before in
+    let c₁ = c₀ .before .before .before .before .before .before .before .before .before .before .before .before .before .before in
     omega (arith, c .write-words-arg2 .given .2, bindings-length c₁)
 
 slice-aggregate-write-words-3 : tie.Need-slice-aggregate-write-words-3
 slice-aggregate-write-words-3 c =
     let c₀ = c .before .before .before .before .before .before .before .before .before .before .before .before .before in
-    let c₁ = c₀ .before .before .before .before .before .before .before .before .before .before .before .before .before .before in
+    let c₁ = c₀ .before .before .before .before .before .before .before .before .before .before .before .before .before .before .before .before in
     sym (fetched-length c₁)
 
 sub-write-words-3 : tie.Need-sub-write-words-3
@@ -109,7 +111,7 @@ part-write-words-end-3 c = search needs
 write-words-requires-3 : tie.Need-write-words-requires-3
 write-words-requires-3 c κs =
     let c₀ = c .before .before .before .before .before .before .before .before .before .before .before .before .before .before in
-    let c₁ = c₀ .before .before .before .before .before .before .before .before .before .before .before .before .before .before in
+    let c₁ = c₀ .before .before .before .before .before .before .before .before .before .before .before .before .before .before .before .before in
     omega (arith, c .write-words-arg3 .given .2, fetched-length c₁)
 
 sub-write-items : tie.Need-sub-write-items
@@ -130,14 +132,9 @@ same-length c = search needs
 returns : tie.Need-returns
 unfolding savedBytes
 returns c =
-    let c₁ = c .before .before in
-    let c₂ = c₁ .before .before .before .before in
-    let c₃ = c₂ .before .before .before .before .before in
-    let c₄ = c₃ .before .before .before .before .before in
-    let c₅ = c₄ .before .before .before .before .before in
-    let c₆ = c₅ .before in
-    let c₇ = c₆ .before .before .before .before in
-    let c₈ = c₇ .before .before .before .before .before .before .before .before .before in
+    let c₁ = c .before .before in let c₂ = c₁ .before .before .before .before in let c₃ = c₂ .before .before .before .before .before in
+    let c₄ = c₃ .before .before .before .before .before in let c₅ = c₄ .before .before .before .before .before in let c₆ = c₅ .before in
+    let c₇ = c₆ .before .before .before .before in let c₈ = c₇ .before .before .before .before .before .before .before .before .before .before .before in
     let n = c₈ .pre in
     let p₁ = c₇ .write-words .last .1 .0 in
     let p₂ = c₅ .copy .last .1 .0 in
@@ -151,7 +148,7 @@ returns c =
     let e = put-part p₄ 70 d (omega arith) (omega (arith, n)) (c₃ .write-words2 .kept .1 .0) in
     let f = put-part p₅ 198 e (omega arith) (omega (arith, n)) (c₂ .write-words3 .kept .1 .0) in
     let g = put-part p₆ 486 f (omega arith) (omega (arith, n)) (c₁ .write-items .kept .1 .0) in
-    let types = c₅ .copy .ensures .1 ∙ copied (c₈ .args .run .types) _ (types-length c₈ ∙ sym (c₆ .copy-arg .given .2)) in
+    let types = c₅ .copy .ensures .1 ∙ copied (c₈ .args .run .control .types) _ (types-length c₈ ∙ sym (c₆ .copy-arg .given .2)) in
     put-all g (omega (arith, n))
     ∙ (six-parts p₁ p₂ p₃ p₄ p₅ p₆
     ∙ λ k. c₇ .write-words .ensures k ++ (types k ++ (c₄ .write-marks .ensures k

@@ -2,9 +2,6 @@ use Rattle.machine.proofs.StepLaws.{body-found, body-there}
 use borrow.Author.Needs.{needs}
 use Rattle.machine.proofs.acts.block_body.Statement.{statement}
 use Rattle.machine.proofs.acts.block_body.Tie as tie
-use Rattle.machine.proofs.acts.block_body.Reads as reads
-use Rattle.machine.proofs.acts.block_body.Lts as lts
-use Rattle.reader.proofs.script.read_query.Reads as read-query-reads
 
 add-query : tie.Need-add-query
 add-query c = search needs

@@ -3,19 +3,15 @@ use Rattle.machine.proofs.StepLaws.{height-is, room, success-acts}
 use borrow.Author.Needs.{needs}
 use Rattle.machine.proofs.acts.drop_success.Statement.{statement}
 use Rattle.machine.proofs.acts.drop_success.Tie as tie
-use Rattle.machine.proofs.acts.drop_success.Reads as reads
-use Rattle.machine.proofs.acts.drop_success.Lts as lts
-use Rattle.store.proofs.stack.pop.Reads as pop-reads
-use Rattle.machine.proofs.acts.moved.Reads as moved-reads
 
 pop-requires : tie.Need-pop-requires
-pop-requires c κs = let x = c .before .pre .0 in (omega (arith, height-is _ _ _ _ x), omega (arith, height-is _ _ _ _ x, room _ _ _ _ x))
+pop-requires c κs = let x = c .before .pre .0 in (omega (arith, height-is x), omega (arith, height-is x, room x))
 
 moved-requires : tie.Need-moved-requires
 moved-requires c κs = search needs
 
 returns : tie.Need-returns
-returns c = λ x. success-acts _ _ _ _ x (c .before .before .before .pre .1) _ _ (c .moved .ensures) (c .before .pop .ensures)
+returns c = λ x. success-acts x (c .before .before .before .pre .1) _ _ (c .moved .ensures) (c .before .pop .ensures)
 
 pub drop-success-spec : {M : Type 1} → statement M
 drop-success-spec = tie.close (tie.spec pop-requires moved-requires returns)

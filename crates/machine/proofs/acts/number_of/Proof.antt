@@ -3,10 +3,6 @@ use Rattle.machine.proofs.StepLaws.{name-bytes, variable-number, consta
 use borrow.Author.Needs.{needs}
 use Rattle.machine.proofs.acts.number_of.Statement.{statement}
 use Rattle.machine.proofs.acts.number_of.Tie as tie
-use Rattle.machine.proofs.acts.number_of.Reads as reads
-use Rattle.machine.proofs.acts.number_of.Lts as lts
-use Rattle.fields.proofs.numbers.number_at.Reads as number-at-reads
-use Rattle.store.proofs.stack.index.Reads as index-reads
 
 add-first : tie.Need-add-first
 add-first c = let n = name-bytes _ _ (c .before .pre) in omega (arith, n .low)
@@ -27,13 +23,17 @@ element-copy-out-result : tie.Need-element-copy-out-result
 element-copy-out-result c = let n = name-bytes _ _ (c .before .before .before .before .before .pre) in omega (arith, n .variable (c .before .before .if1 .taken), c .index .ensures)
 
 returns : tie.Need-returns
-returns c = variable-number (c .before .before .before .before .before .before .args .t1) (c .before .before .before .before .before .before .args .script .now) (c .before .before .before .before .before .before .args .at) (c .before .before .before .if1 .taken) _ (c .before .index .ensures)
+returns c =
+    let c₁ = c .before in let c₂ = c₁ .before .before in let c₃ = c₂ .before .before .before in
+    variable-number (c₃ .args .t1) (c₃ .args .script .now) (c₃ .args .at) (c₂ .if1 .taken) _ (c₁ .index .ensures)
 
 number-at-requires : tie.Need-number-at-requires
 number-at-requires c κs = let n = name-bytes _ _ (c .before .before .before .pre) in omega (arith, n .constant (c .if1 .left))
 
 returns-2 : tie.Need-returns-2
-returns-2 c = constant-number (c .before .before .before .before .args .t1) (c .before .before .before .before .args .script .now) (c .before .before .before .before .args .at) (c .before .if1 .left) _ (c .number-at .ensures)
+returns-2 c =
+    let c₁ = c .before in let c₂ = c₁ .before .before .before in
+    constant-number (c₂ .args .t1) (c₂ .args .script .now) (c₂ .args .at) (c₁ .if1 .left) _ (c .number-at .ensures)
 
 pub number-of-spec : {M : Type 1} → statement M
 number-of-spec =

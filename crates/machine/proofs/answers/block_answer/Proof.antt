@@ -2,45 +2,45 @@ use native.Mathlib.Omega.{arith}
 use mathlib.Core.Path.{refl}
 use Rattle.machine.specs.Running.{onTop}
 use Rattle.machine.proofs.StepLaws.{height-is, room}
-use Rattle.machine.proofs.AnswerLaws.{block-room, block-small, level-given, answers-given}
+use Rattle.machine.proofs.AnswerLaws.{block-room, block-small, world-given, answers-given}
 use borrow.Author.Needs.{needs}
 use Rattle.machine.proofs.answers.block_answer.Statement.{statement}
 use Rattle.machine.proofs.answers.block_answer.Tie as tie
-use Rattle.machine.proofs.answers.block_answer.Reads as reads
-use Rattle.machine.proofs.answers.block_answer.Lts as lts
-use Rattle.machine.proofs.answers.block_of.Reads as block-of-reads
-use Rattle.search.proofs.answer.answer.Reads as answer-reads
-use Rattle.machine.proofs.answers.known_of.Reads as known-of-reads
-use Rattle.machine.proofs.answers.short_numbers.Reads as short-numbers-reads
-use Rattle.store.proofs.stack.top.Reads as top-reads
 
 top-requires : tie.Need-top-requires
-top-requires c κs = let x = onTop (c .before .before .before .before .pre .0 .0 .here) (c .before .before .before .before .pre .0 .1) in (omega (arith, height-is _ _ _ _ x), omega (arith, height-is _ _ _ _ x, room _ _ _ _ x))
-
-cast-n : tie.Need-cast-n
-cast-n c = search needs
+top-requires c κs =
+    let c₁ = c .before .before .before .before in
+    let x = onTop (c₁ .pre .0 .0 .here) (c₁ .pre .0 .1) in
+    (omega (arith, height-is x), omega (arith, height-is x, room x))
 
 block-of-requires : tie.Need-block-of-requires
-block-of-requires c κs = (block-room _ _ _ _ _ _ _ _ _ (c .before .before .before .before .before .before .before .before .before .before .pre .0 .0) (c .before .before .before .before .before .before .before .before .before .before .pre .0 .1) (c .before .before .before .before .before .before .before .before .before .before .pre .1), block-small _ _ _ _ _ _ _ _ _ (c .before .before .before .before .before .before .before .before .before .before .pre .0 .0) (c .before .before .before .before .before .before .before .before .before .before .pre .0 .1) (c .before .before .before .before .before .before .before .before .before .before .pre .1))
+block-of-requires c κs =
+    let c₁ = c .before .before .before .before .before .before .before .before .before in
+    (block-room (c₁ .pre .0 .0) (c₁ .pre .0 .1) (c₁ .pre .1), block-small (c₁ .pre .0 .0) (c₁ .pre .0 .1) (c₁ .pre .1))
 
 known-of-requires : tie.Need-known-of-requires
 known-of-requires c κs = search needs
 
 answer-requires : tie.Need-answer-requires
-answer-requires c κs = level-given _ _ _ _ _ _ _ _ _ (c .before .before .before .before .before .before .before .before .before .before .before .before .pre .0 .0) (c .before .before .before .before .before .before .before .before .before .before .before .before .pre .0 .1) (c .before .before .before .before .before .before .before .before .before .before .before .before .pre .1) (c .before .before .before .before .before .before .before .top .result .last) _ (c .before .block-of .ensures) _ (c .known-of .ensures)
+answer-requires c κs =
+    let c₁ = c .before in let c₂ = c₁ .before .before .before .before .before in let c₃ = c₂ .before .before .before .before .before in
+    world-given (c₃ .pre .0 .0) (c₃ .pre .0 .1) (c₃ .pre .1) (c₂ .top .result .last) _ (c₁ .block-of .ensures)
 
 short-numbers-requires : tie.Need-short-numbers-requires
 short-numbers-requires c κs = search needs
 
 returns : tie.Need-returns
-returns c = λ w t. answers-given _ _ _ _ _ _ _ _ _ w t (c .before .before .before .before .before .before .before .before .before .before .before .before .before .before .before .pre .1) (c .before .before .before .before .before .before .before .before .before .before .top .result .last) _ (c .before .before .before .before .block-of .ensures) _ (c .before .before .before .known-of .ensures) (c .before .before .before .before .before .before .before .before .before .before .top .result .started) (c .before .before .before .before .before .before .before .before .before .before .top .result) (c .before .before .before .before .before .before .before .before .before .before .top .ensures) refl refl (c .before .before .answer .result) (c .before .before .answer .ensures) _ (c .short-numbers .ensures)
+returns c =
+    let c₁ = c .before .before in let c₂ = c₁ .before in let c₃ = c₂ .before in let c₄ = c₃ .before .before .before .before .before in
+    let c₅ = c₄ .before .before .before .before .before in
+    λ w t. answers-given w t (c₅ .pre .1) (c₄ .top .result .last) _ (c₃ .block-of .ensures) _ (c₂ .known-of .ensures) (c₄ .top .result .started) (c₄ .top .result)
+    (c₄ .top .ensures) refl refl (c₁ .answer .result) (c₁ .answer .ensures) _ (c .short-numbers .ensures)
 
 pub block-answer-spec : {M : Type 1} → statement M
 block-answer-spec =
     tie.close
     (tie.spec
     top-requires
-    cast-n
     block-of-requires
     known-of-requires
     answer-requires

@@ -6,12 +6,6 @@ use Rattle.machine.proofs.AnswerLaws.{block-made}
 use borrow.Author.Needs.{needs}
 use Rattle.machine.proofs.answers.block_of.Statement.{statement}
 use Rattle.machine.proofs.answers.block_of.Tie as tie
-use Rattle.machine.proofs.answers.block_of.Reads as reads
-use Rattle.machine.proofs.answers.block_of.Lts as lts
-use Rattle.machine.proofs.answers.pair_numbers.Reads as pair-numbers-reads
-use Rattle.machine.proofs.answers.types_of.Reads as types-of-reads
-use Rattle.machine.proofs.answers.wide_numbers.Reads as wide-numbers-reads
-use Rattle.store.proofs.stack.index.Reads as index-reads
 
 add-query : tie.Need-add-query
 add-query c = search needs
@@ -35,7 +29,10 @@ wide-numbers-requires : tie.Need-wide-numbers-requires
 wide-numbers-requires c κs = search needs
 
 returns : tie.Need-returns
-returns c = block-made (c .before .before .before .before .before .before .args .script .now) (c .before .before .before .before .before .before .args .at) (c .before .before .before .before .before .before .args .reported) (c .before .before .before .before .before .before .args .used) _ (c .before .before .before .index .ensures) _ (c .before .before .pair-numbers .ensures) _ (c .before .types-of .ensures) _ (c .wide-numbers .ensures)
+returns c =
+    let c₁ = c .before in let c₂ = c₁ .before in let c₃ = c₂ .before in let c₄ = c₃ .before .before .before in
+    block-made (c₄ .args .script .now) (c₄ .args .at) (c₄ .args .reported) (c₄ .args .used) _ (c₃ .index .ensures) _ (c₂ .pair-numbers .ensures) _ (c₁ .types-of .ensures) _
+    (c .wide-numbers .ensures)
 
 pub block-of-spec : {M : Type 1} → statement M
 block-of-spec =

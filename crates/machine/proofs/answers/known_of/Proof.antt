@@ -8,9 +8,6 @@ use Rattle.machine.specs.Answers.{knownCode, knownOf}
 use Rattle.store.proofs.FillLaws.{madeTo, made-variable, made-variables}
 use Rattle.machine.proofs.answers.known_of.Statement.{statement}
 use Rattle.machine.proofs.answers.known_of.Tie as tie
-use Rattle.machine.proofs.answers.known_of.Reads as reads
-use Rattle.machine.proofs.answers.known_of.Lts as lts
-use Rattle.machine.proofs.answers.code_of.Reads as code-of-reads
 
 abbrev Inv-loop : tie.InvT-loop
 Inv-loop bound bindings known₀ v₀ known v = (v ≤ 16) × (known ≡ madeTo (knownCode bound bindings) freeCode variables 16 v)

@@ -3,8 +3,6 @@ use Rattle.machine.proofs.AnswerLaws.{short-is, short-not}
 use borrow.Author.Needs.{needs}
 use Rattle.machine.proofs.answers.short_number.Statement.{statement}
 use Rattle.machine.proofs.answers.short_number.Tie as tie
-use Rattle.machine.proofs.answers.short_number.Reads as reads
-use Rattle.machine.proofs.answers.short_number.Lts as lts
 
 cast-result : tie.Need-cast-result
 cast-result c = search needs

@@ -1,8 +1,6 @@
 use borrow.Author.Needs.{needs}
 use Rattle.machine.proofs.answers.types_of.Statement.{statement}
 use Rattle.machine.proofs.answers.types_of.Tie as tie
-use Rattle.machine.proofs.answers.types_of.Reads as reads
-use Rattle.machine.proofs.answers.types_of.Lts as lts
 
 array-read-a : tie.Need-array-read-a
 array-read-a c = search needs

@@ -8,32 +8,36 @@ use borrow.Author.Needs.{needs}
 use Rattle.machine.proofs.run.each_on_top.Statement.{statement}
 use Rattle.machine.proofs.run.each_on_top.Tie as tie
 use Rattle.machine.proofs.run.each_on_top.Reads as reads
-use Rattle.machine.proofs.run.each_on_top.Lts as lts
-use Rattle.store.proofs.stack.top.Reads as top-reads
 
 returns : tie.Need-returns
-returns c = λ w. none-each _ _ _ w (c .if1 .taken)
+returns c = λ w. none-each w (c .if1 .taken)
 
 top-requires : tie.Need-top-requires
-top-requires c κs = height-low _ _ _ (c .before .before .before .pre) (c .if1 .left)
+top-requires c κs = height-low (c .before .before .before .pre) (c .if1 .left)
 
 cast-at : tie.Need-cast-at
 cast-at c = search needs
 
 shared-slice-read-kind : tie.Need-shared-slice-read-kind
-shared-slice-read-kind c = item-inside _ _ _ (c .before .before .before .before .before .pre) _ (first-item _ _ _ (c .before .before .before .before .before .pre) (c .before .before .if1 .left) _ (ap (λ (y : SavedItem). y .«at») (c .before .top .ensures)))
+shared-slice-read-kind c =
+    let c₁ = c .before in let c₂ = c₁ .before in let c₃ = c₂ .before .before .before in
+    item-inside (c₃ .pre) _ (first-item (c₃ .pre) (c₂ .if1 .left) _ (ap (λ (y : SavedItem). y .«at») (c₁ .top .ensures)))
 
 returns-2 : tie.Need-returns-2
-returns-2 c = λ w. not-each _ _ _ w _ (first-item _ _ _ w (c .before .before .before .if1 .left) _ (ap (λ (y : SavedItem). y .«at») (c .before .before .top .ensures))) (c .if2 .taken)
+returns-2 c = λ w. not-each w _ (first-item w (c .before .before .before .if1 .left) _ (ap (λ (y : SavedItem). y .«at») (c .before .before .top .ensures))) (c .if2 .taken)
 
 add-second : tie.Need-add-second
 add-second c = search needs
 
 shared-slice-read-mode : tie.Need-shared-slice-read-mode
-shared-slice-read-mode c = let t = first-item _ _ _ (c .before .before .before .before .before .before .before .pre) (c .before .before .before .before .if1 .left) _ (ap (λ (y : SavedItem). y .«at») (c .before .before .before .top .ensures)) in let b = blocked _ _ _ _ (onTop (c .before .before .before .before .before .before .before .pre) t) (c .before .if2 .left) in omega (arith, b .reads .reads .room)
+shared-slice-read-mode c =
+    let c₁ = c .before in let c₂ = c₁ .before .before in let c₃ = c₂ .before in let c₄ = c₃ .before .before .before in
+    let t = first-item (c₄ .pre) (c₃ .if1 .left) _ (ap (λ (y : SavedItem). y .«at») (c₂ .top .ensures)) in
+    let b = blocked (onTop (c₄ .pre) t) (c₁ .if2 .left) in
+    omega (arith, b .reads .reads .room)
 
 returns-3 : tie.Need-returns-3
-returns-3 c = λ w. each-mode _ _ _ w _ (first-item _ _ _ w (c .before .before .before .before .if1 .left) _ (ap (λ (y : SavedItem). y .«at») (c .before .before .before .top .ensures))) (c .before .if2 .left)
+returns-3 c = λ w. each-mode w _ (first-item w (c .before .before .before .before .if1 .left) _ (ap (λ (y : SavedItem). y .«at») (c .before .before .before .top .ensures))) (c .before .if2 .left)
 
 pub each-on-top-spec : {M : Type 1} → statement M
 each-on-top-spec =

@@ -3,29 +3,29 @@ use Prim.Native.Nat.{_-_}
 use native.Mathlib.Omega.{arith}
 use mathlib.Core.Path.{refl}
 use borrow.Author.Tests.{not-true, not-false}
-use Rattle.machine.specs.Running.{Lends}
-use Rattle.machine.proofs.RunLaws.{Going, sets-out, lends-now, steps-on, stops-here, spent-here}
+use Rattle.machine.specs.Running.{LendsStore}
+use Rattle.machine.proofs.RunLaws.{Going, sets-out, stored-now, steps-on, stops-here, spent-here}
 use Rattle.machine.proofs.run.run_steps.Statement.{statement}
 use Rattle.machine.proofs.run.run_steps.Tie as tie
-use Rattle.machine.proofs.run.run_steps.Reads as reads
-use Rattle.machine.proofs.run.run_steps.Lts as lts
-use Rattle.machine.proofs.run.look.Reads as look-reads
-use Rattle.machine.proofs.run.step.Reads as step-reads
 
 abbrev Inv-loop : tie.InvT-loop
-Inv-loop script known table count quads leasts clock budget saved₀ steps₀ saved steps = (w : Lends script known table count quads leasts clock saved₀) → Going w budget steps saved
+Inv-loop store script context table quads leasts budget control₀ steps₀ control steps =
+    (w : LendsStore script table quads leasts context control₀ store) → Going (w .lends) budget steps control
 
 abbrev μ-loop : tie.MeasureT-loop
-μ-loop script known table count quads leasts clock budget saved₀ steps₀ saved steps = budget - steps
+μ-loop store script context table quads leasts budget control₀ steps₀ control steps = budget - steps
 
 loop-holds : tie.Need-loop-holds Inv-loop μ-loop
-loop-holds c = λ w. sets-out _ _ _ _ _ _ _ _ w _
+loop-holds c = λ w. sets-out (w .lends) _
 
 step-requires : tie.Need-step-requires Inv-loop μ-loop
-step-requires c κs = lends-now _ _ _ _ _ _ _ _ (c .before .before .before .before .before .before .pre) _ _ _ (c .before .loop .inv (c .before .before .before .before .before .before .pre))
+step-requires c κs = let p = c .before .before .before .before .before .before .pre in stored-now (p .lends) _ _ _ (c .before .loop .inv p) (p .stored)
 
 returns : tie.Need-returns Inv-loop μ-loop
-returns c = λ w. stops-here _ _ _ _ _ _ _ _ w _ _ _ (c .before .before .before .before .loop .inv w) (omega arith) _ (c .before .before .step .ensures (lends-now _ _ _ _ _ _ _ _ w _ _ _ (c .before .before .before .before .loop .inv w))) (not-true _ (c .if1 .taken)) _ refl
+returns c =
+    let c₁ = c .before .before in let c₂ = c₁ .before .before in
+    λ w. stops-here (w .lends) _ _ _ (c₂ .loop .inv w) (omega arith) _ (c₁ .step .ensures (stored-now (w .lends) _ _ _ (c₂ .loop .inv w) (w .stored))) (not-true _ (c .if1 .taken))
+    _ refl
 
 add-steps : tie.Need-add-steps Inv-loop μ-loop
 add-steps c = search needs
@@ -34,13 +34,15 @@ loop-less : tie.Need-loop-less Inv-loop μ-loop
 loop-less c = omega arith
 
 loop-again : tie.Need-loop-again Inv-loop μ-loop
-loop-again c = λ w. steps-on _ _ _ _ _ _ _ _ w _ _ _ (c .before .before .before .before .before .loop .inv w) (omega arith) _ (c .before .before .before .step .ensures (lends-now _ _ _ _ _ _ _ _ w _ _ _ (c .before .before .before .before .before .loop .inv w))) (not-false _ (c .before .if1 .left))
+loop-again c =
+    let c₁ = c .before in let c₂ = c₁ .before .before in let c₃ = c₂ .before .before in
+    λ w. steps-on (w .lends) _ _ _ (c₃ .loop .inv w) (omega arith) _ (c₂ .step .ensures (stored-now (w .lends) _ _ _ (c₃ .loop .inv w) (w .stored))) (not-false _ (c₁ .if1 .left))
 
 look-requires : tie.Need-look-requires Inv-loop μ-loop
-look-requires c κs = lends-now _ _ _ _ _ _ _ _ (c .before .before .before .before .before .before .pre) _ _ _ (c .before .loop .inv (c .before .before .before .before .before .before .pre))
+look-requires c κs = let p = c .before .before .before .before .before .before .pre in stored-now (p .lends) _ _ _ (c .before .loop .inv p) (p .stored)
 
 returns-2 : tie.Need-returns-2 Inv-loop μ-loop
-returns-2 c = λ w. spent-here _ _ _ _ _ _ _ _ w _ _ _ (c .before .before .loop .inv w) (omega arith) _ (c .look .ensures (lends-now _ _ _ _ _ _ _ _ w _ _ _ (c .before .before .loop .inv w))) _ refl
+returns-2 c = λ w. spent-here (w .lends) _ _ _ (c .before .before .loop .inv w) (omega arith) _ (c .look .ensures (stored-now (w .lends) _ _ _ (c .before .before .loop .inv w) (w .stored))) _ refl
 
 pub run-steps-spec : {M : Type 1} → statement M
 run-steps-spec =

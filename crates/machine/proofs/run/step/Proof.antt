@@ -1,57 +1,73 @@
 use mathlib.Core.Path.{ap}
 use Rattle.definitions.specs.declared.SavedItem.{SavedItem}
 use Rattle.machine.specs.Running.{onTop}
-use Rattle.machine.proofs.RunLaws.{first-item, height-low, item-inside, is-block, step-acts, step-ends}
+use Rattle.machine.proofs.RunLaws.{first-item, height-low, item-inside, is-block, step-acts, step-ends, graphs-low}
 use borrow.Author.Needs.{needs}
 use Rattle.machine.proofs.run.step.Statement.{statement}
 use Rattle.machine.proofs.run.step.Tie as tie
-use Rattle.machine.proofs.run.step.Reads as reads
-use Rattle.machine.proofs.run.step.Lts as lts
-use Rattle.machine.proofs.run.enter_block.Reads as enter-block-reads
-use Rattle.store.proofs.stack.top.Reads as top-reads
-use Rattle.machine.proofs.acts.drop_success.Reads as drop-success-reads
-use Rattle.machine.proofs.acts.enter_named.Reads as enter-named-reads
-use Rattle.machine.proofs.acts.enter_sequence.Reads as enter-sequence-reads
-use Rattle.machine.proofs.acts.stands.Reads as stands-reads
 
 stands-requires : tie.Need-stands-requires
 stands-requires c κs = search needs
 
 returns : tie.Need-returns
-returns c = λ w. step-ends _ _ _ _ _ _ _ _ w (c .before .if1 .taken) _ (c .stands .ensures)
+returns c = λ w. step-ends (w .lends) (c .before .if1 .taken) _ (c .stands .ensures)
 
 top-requires : tie.Need-top-requires
-top-requires c κs = height-low _ _ _ (c .before .before .before .before .before .before .pre .here) (c .if1 .left)
+top-requires c κs = height-low (c .before .before .before .before .before .before .pre .lends .here) (c .if1 .left)
 
 cast-at : tie.Need-cast-at
 cast-at c = search needs
 
 shared-slice-read-kind : tie.Need-shared-slice-read-kind
-shared-slice-read-kind c = item-inside _ _ _ (c .before .before .before .before .before .before .before .before .pre .here) _ (first-item _ _ _ (c .before .before .before .before .before .before .before .before .pre .here) (c .before .before .if1 .left) _ (ap (λ (y : SavedItem). y .«at») (c .before .top .ensures)))
+shared-slice-read-kind c =
+    let c₁ = c .before in let c₂ = c₁ .before in let c₃ = c₂ .before .before .before .before .before .before in
+    item-inside (c₃ .pre .lends .here) _ (first-item (c₃ .pre .lends .here) (c₂ .if1 .left) _ (ap (λ (y : SavedItem). y .«at») (c₁ .top .ensures)))
 
 drop-success-requires : tie.Need-drop-success-requires
-drop-success-requires c κs = (onTop (c .before .before .before .before .before .before .before .before .before .pre .here) (first-item _ _ _ (c .before .before .before .before .before .before .before .before .before .pre .here) (c .before .before .before .if1 .left) _ (ap (λ (y : SavedItem). y .«at») (c .before .before .top .ensures))), c .if2 .taken)
+drop-success-requires c κs =
+    let c₁ = c .before .before in let c₂ = c₁ .before in let c₃ = c₂ .before .before .before .before .before .before in
+    (onTop (c₃ .pre .lends .here) (first-item (c₃ .pre .lends .here) (c₂ .if1 .left) _ (ap (λ (y : SavedItem). y .«at») (c₁ .top .ensures))), c .if2 .taken)
 
 returns-2 : tie.Need-returns-2
-returns-2 c = λ w. let t = first-item _ _ _ (w .here) (c .before .before .before .before .if1 .left) _ (ap (λ (y : SavedItem). y .«at») (c .before .before .before .top .ensures)) in step-acts _ _ _ _ _ _ _ _ w _ t _ (c .drop-success .ensures (onTop (w .here) t) _)
+returns-2 c =
+    let c₁ = c .before .before .before in let c₂ = c₁ .before in
+    λ w. let t = first-item (w .lends .here) (c₂ .if1 .left) _ (ap (λ (y : SavedItem). y .«at») (c₁ .top .ensures)) in
+    step-acts (w .lends) _ t _ (c .drop-success .ensures (onTop (w .lends .here) t) _)
 
 enter-named-requires : tie.Need-enter-named-requires
-enter-named-requires c κs = (onTop (c .before .before .before .before .before .before .before .before .before .before .pre .here) (first-item _ _ _ (c .before .before .before .before .before .before .before .before .before .before .pre .here) (c .before .before .before .before .if1 .left) _ (ap (λ (y : SavedItem). y .«at») (c .before .before .before .top .ensures))), c .if3 .taken)
+enter-named-requires c κs =
+    let c₁ = c .before .before .before in let c₂ = c₁ .before in let c₃ = c₂ .before .before .before .before .before .before in
+    let w = c₃ .pre in
+    (onTop (c₃ .pre .lends .here) (first-item (c₃ .pre .lends .here) (c₂ .if1 .left) _ (ap (λ (y : SavedItem). y .«at») (c₁ .top .ensures))), (c .if3 .taken, graphs-low w))
 
 returns-3 : tie.Need-returns-3
-returns-3 c = λ w. let t = first-item _ _ _ (w .here) (c .before .before .before .before .before .if1 .left) _ (ap (λ (y : SavedItem). y .«at») (c .before .before .before .before .top .ensures)) in step-acts _ _ _ _ _ _ _ _ w _ t _ (c .enter-named .ensures (onTop (w .here) t) _)
+returns-3 c =
+    let c₁ = c .before .before .before .before in let c₂ = c₁ .before in
+    λ w. let t = first-item (w .lends .here) (c₂ .if1 .left) _ (ap (λ (y : SavedItem). y .«at») (c₁ .top .ensures)) in
+    step-acts (w .lends) _ t _ (c .enter-named .ensures (onTop (w .lends .here) t) (w .stored) _)
 
 enter-sequence-requires : tie.Need-enter-sequence-requires
-enter-sequence-requires c κs = (onTop (c .before .before .before .before .before .before .before .before .before .before .before .pre .here) (first-item _ _ _ (c .before .before .before .before .before .before .before .before .before .before .before .pre .here) (c .before .before .before .before .before .if1 .left) _ (ap (λ (y : SavedItem). y .«at») (c .before .before .before .before .top .ensures))), c .if4 .taken)
+enter-sequence-requires c κs =
+    let c₁ = c .before .before .before .before in let c₂ = c₁ .before in let c₃ = c₂ .before .before .before .before .before .before in
+    (onTop (c₃ .pre .lends .here) (first-item (c₃ .pre .lends .here) (c₂ .if1 .left) _ (ap (λ (y : SavedItem). y .«at») (c₁ .top .ensures))), c .if4 .taken)
 
 returns-4 : tie.Need-returns-4
-returns-4 c = λ w. let t = first-item _ _ _ (w .here) (c .before .before .before .before .before .before .if1 .left) _ (ap (λ (y : SavedItem). y .«at») (c .before .before .before .before .before .top .ensures)) in step-acts _ _ _ _ _ _ _ _ w _ t _ (c .enter-sequence .ensures (onTop (w .here) t) _)
+returns-4 c =
+    let c₁ = c .before .before .before .before .before in let c₂ = c₁ .before in
+    λ w. let t = first-item (w .lends .here) (c₂ .if1 .left) _ (ap (λ (y : SavedItem). y .«at») (c₁ .top .ensures)) in
+    step-acts (w .lends) _ t _ (c .enter-sequence .ensures (onTop (w .lends .here) t) _)
 
 enter-block-requires : tie.Need-enter-block-requires
-enter-block-requires c κs = let t = first-item _ _ _ (c .before .before .before .before .before .before .before .before .before .before .before .pre .here) (c .before .before .before .before .before .if1 .left) _ (ap (λ (y : SavedItem). y .«at») (c .before .before .before .before .top .ensures)) in ((c .before .before .before .before .before .before .before .before .before .before .before .pre, t), is-block _ _ _ (c .before .before .before .before .before .before .before .before .before .before .before .pre .here) _ t (c .before .before .if2 .left) (c .before .if3 .left) (c .if4 .left))
+enter-block-requires c κs =
+    let c₁ = c .before in let c₂ = c₁ .before in let c₃ = c₂ .before .before in let c₄ = c₃ .before in let c₅ = c₄ .before .before .before .before .before .before in
+    let t = first-item (c₅ .pre .lends .here) (c₄ .if1 .left) _ (ap (λ (y : SavedItem). y .«at») (c₃ .top .ensures)) in
+    ((c₅ .pre .lends, t), is-block (c₅ .pre .lends .here) _ t (c₂ .if2 .left) (c₁ .if3 .left) (c .if4 .left))
 
 returns-5 : tie.Need-returns-5
-returns-5 c = λ w. let t = first-item _ _ _ (w .here) (c .before .before .before .before .before .before .if1 .left) _ (ap (λ (y : SavedItem). y .«at») (c .before .before .before .before .before .top .ensures)) in step-acts _ _ _ _ _ _ _ _ w _ t _ (c .enter-block .ensures w t)
+returns-5 c =
+    let c₁ = c .before .before .before .before .before in let c₂ = c₁ .before in
+    λ w. let t = first-item (w .lends .here) (c₂ .if1 .left) _ (ap (λ (y : SavedItem). y .«at») (c₁ .top .ensures)) in
+    step-acts (w .lends) _ t _ (c .enter-block .ensures (w .lends) t)
 
 pub step-spec : {M : Type 1} → statement M
 step-spec =

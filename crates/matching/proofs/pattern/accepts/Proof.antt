@@ -11,13 +11,17 @@ search-requires : tie.Need-search-requires
 search-requires c κs = (c .before .before .before .before .pre, caret-there (c .before .before .before .before .args .pattern .now) (c .if1 .taken))
 
 returns : tie.Need-returns
-returns c = with-caret (c .before .before .before .before .before .args .pattern .now) (c .before .before .before .before .before .args .field .now) _ (c .search .result .anywhere) (c .before .if1 .taken) (c .search .ensures)
+returns c =
+    let c₁ = c .before in let c₂ = c₁ .before .before .before .before in
+    with-caret (c₂ .args .pattern .now) (c₂ .args .field .now) _ (c .search .result .anywhere) (c₁ .if1 .taken) (c .search .ensures)
 
 search-requires-2 : tie.Need-search-requires-2
 search-requires-2 c κs = search needs
 
 returns-2 : tie.Need-returns-2
-returns-2 c = no-caret (c .before .before .before .before .before .args .pattern .now) (c .before .before .before .before .before .args .field .now) (c .search2 .result .front) _ (c .before .if1 .left) (c .search2 .ensures)
+returns-2 c =
+    let c₁ = c .before in let c₂ = c₁ .before .before .before .before in
+    no-caret (c₂ .args .pattern .now) (c₂ .args .field .now) (c .search2 .result .front) _ (c₁ .if1 .left) (c .search2 .ensures)
 
 pub accepts-spec : {M : Type 1} → statement M
 accepts-spec =

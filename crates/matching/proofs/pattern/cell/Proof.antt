@@ -15,13 +15,19 @@ hit-requires : tie.Need-hit-requires
 hit-requires c κs = search needs
 
 returns : tie.Need-returns
-returns c = λ t L R r e. cell-dollar (c .before .before .before .before .before .args .pattern .now) (c .before .before .before .before .before .args .k) (c .before .before .before .before .before .args .b) (omega (arith, c .before .before .before .before .before .pre)) t (c .before .before .before .before .before .args .t5) (c .before .before .before .before .before .args .t6) (c .before .before .hit .result) (c .before .before .hit .ensures) L R r e (omega (arith, c .before .before .before .before .before .pre, c .before .if1 .taken)) (c .if2 .taken)
+returns c =
+    let c₁ = c .before in let c₂ = c₁ .before in let c₃ = c₂ .before .before .before in
+    λ t L R r e. cell-dollar (c₃ .args .pattern .now) (c₃ .args .k) (c₃ .args .b) (omega (arith, c₃ .pre)) t (c₃ .args .t5) (c₃ .args .t6) (c₂ .hit .result) (c₂ .hit .ensures) L R
+    r e (omega (arith, c₃ .pre, c₁ .if1 .taken)) (c .if2 .taken)
 
 array-read-result : tie.Need-array-read-result
 array-read-result c = search needs
 
 returns-2 : tie.Need-returns-2
-returns-2 c = λ t L R r e. cell-last (c .before .before .before .before .before .args .pattern .now) (c .before .before .before .before .before .args .k) (c .before .before .before .before .before .args .b) (omega (arith, c .before .before .before .before .before .pre)) t (c .before .before .before .before .before .args .t5) (c .before .before .before .before .before .args .t6) (c .before .before .hit .result) (c .before .before .hit .ensures) L R r e (omega (arith, c .before .before .before .before .before .pre, c .before .if1 .taken)) (c .if2 .left)
+returns-2 c =
+    let c₁ = c .before in let c₂ = c₁ .before in let c₃ = c₂ .before .before .before in
+    λ t L R r e. cell-last (c₃ .args .pattern .now) (c₃ .args .k) (c₃ .args .b) (omega (arith, c₃ .pre)) t (c₃ .args .t5) (c₃ .args .t6) (c₂ .hit .result) (c₂ .hit .ensures) L R r
+    e (omega (arith, c₃ .pre, c₁ .if1 .taken)) (c .if2 .left)
 
 shared-slice-read-if3 : tie.Need-shared-slice-read-if3
 shared-slice-read-if3 c = search needs
@@ -36,13 +42,19 @@ array-read-result-2 : tie.Need-array-read-result-2
 array-read-result-2 c = search needs
 
 returns-3 : tie.Need-returns-3
-returns-3 c = λ t L R r e. cell-many (c .before .before .before .before .before .before .args .pattern .now) (c .before .before .before .before .before .before .args .k) (c .before .before .before .before .before .before .args .b) (omega (arith, c .before .before .before .before .before .before .pre)) t (c .before .before .before .before .before .before .args .t5) (c .before .before .before .before .before .before .args .t6) (c .before .before .before .hit .result) (c .before .before .before .hit .ensures) L R r e (omega (arith, c .before .before .before .before .before .before .pre, c .before .before .if1 .left)) (c .if3 .taken)
+returns-3 c =
+    let c₁ = c .before .before in let c₂ = c₁ .before in let c₃ = c₂ .before .before .before in
+    λ t L R r e. cell-many (c₃ .args .pattern .now) (c₃ .args .k) (c₃ .args .b) (omega (arith, c₃ .pre)) t (c₃ .args .t5) (c₃ .args .t6) (c₂ .hit .result) (c₂ .hit .ensures) L R r
+    e (omega (arith, c₃ .pre, c₁ .if1 .left)) (c .if3 .taken)
 
 array-read-result-3 : tie.Need-array-read-result-3
 array-read-result-3 c = search needs
 
 returns-4 : tie.Need-returns-4
-returns-4 c = λ t L R r e. cell-one (c .before .before .before .before .before .before .args .pattern .now) (c .before .before .before .before .before .before .args .k) (c .before .before .before .before .before .before .args .b) (omega (arith, c .before .before .before .before .before .before .pre)) t (c .before .before .before .before .before .before .args .t5) (c .before .before .before .before .before .before .args .t6) (c .before .before .before .hit .result) (c .before .before .before .hit .ensures) L R r e (omega (arith, c .before .before .before .before .before .before .pre, c .before .before .if1 .left)) (c .if3 .left)
+returns-4 c =
+    let c₁ = c .before .before in let c₂ = c₁ .before in let c₃ = c₂ .before .before .before in
+    λ t L R r e. cell-one (c₃ .args .pattern .now) (c₃ .args .k) (c₃ .args .b) (omega (arith, c₃ .pre)) t (c₃ .args .t5) (c₃ .args .t6) (c₂ .hit .result) (c₂ .hit .ensures) L R r e
+    (omega (arith, c₃ .pre, c₁ .if1 .left)) (c .if3 .left)
 
 pub cell-spec : {M : Type 1} → statement M
 cell-spec =

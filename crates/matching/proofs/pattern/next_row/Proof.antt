@@ -21,7 +21,13 @@ array-write-row : tie.Need-array-write-row Inv-loop μ-loop
 array-write-row c = omega (arith, c .before .pre)
 
 loop-holds : tie.Need-loop-holds Inv-loop μ-loop
-loop-holds c = (length-set (replicate (patternWidth + 1) false) (c .before .args .size) true, omega arith, λ t h. row-start (c .before .args .pattern .now) _ (replicate (patternWidth + 1) false) (c .before .args .size) (c .before .pre .1 .0) (omega (arith, c .before .pre)))
+loop-holds c =
+    let c₁ = c .before in (
+      length-set (replicate (patternWidth + 1) false) (c₁ .args .size) true,
+      omega arith,
+      λ t h. row-start (c₁ .args .pattern .now) _ (replicate (patternWidth + 1) false)
+          (c₁ .args .size) (c₁ .pre .1 .0) (omega (arith, c₁ .pre)),
+    )
 
 sub-k : tie.Need-sub-k Inv-loop μ-loop
 sub-k c = omega arith
@@ -36,10 +42,20 @@ loop-less : tie.Need-loop-less Inv-loop μ-loop
 loop-less c = omega arith
 
 loop-again : tie.Need-loop-again Inv-loop μ-loop
-loop-again c = (length-set (c .before .before .loop .row) (c .before .before .loop .k - 1) (c .cell .result) ∙ c .before .before .loop .inv .0, omega (arith, c .before .before .loop .inv), λ t h. row-more (c .before .before .before .before .args .pattern .now) _ (c .before .before .loop .row) (c .before .before .loop .k) _ (omega arith) (omega (arith, c .before .before .before .before .pre, c .before .before .loop .inv)) (c .before .before .loop .inv .2 t h) (c .cell .ensures t h))
+loop-again c =
+    let c₁ = c .before .before in
+    let c₂ = c₁ .before .before in (
+      length-set (c₁ .loop .row) (c₁ .loop .k - 1) (c .cell .result)
+          ∙ c₁ .loop .inv .0,
+      omega (arith, c₁ .loop .inv),
+      λ t h. row-more (c₂ .args .pattern .now) _ (c₁ .loop .row) (c₁ .loop .k) _ (omega arith)
+          (omega (arith, c₂ .pre, c₁ .loop .inv)) (c₁ .loop .inv .2 t h) (c .cell .ensures t h),
+    )
 
 returns : tie.Need-returns Inv-loop μ-loop
-returns c = λ t h. let z : c .before .loop .k ≡ 0 = omega arith in subst (λ n. RowFrom (c .before .before .before .args .pattern .now) n (ahead (c .before .before .before .args .b) t) (c .before .loop .row)) z (c .before .loop .inv .2 t h)
+returns c =
+    let c₁ = c .before in let c₂ = c₁ .before .before in
+    λ t h. let z : c₁ .loop .k ≡ 0 = omega arith in subst (λ n. RowFrom (c₂ .args .pattern .now) n (ahead (c₂ .args .b) t) (c₁ .loop .row)) z (c₁ .loop .inv .2 t h)
 
 pub next-row-spec : {M : Type 1} → statement M
 next-row-spec =

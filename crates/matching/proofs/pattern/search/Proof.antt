@@ -17,7 +17,9 @@ text-length-requires : tie.Need-text-length-requires Inv-loop μ-loop
 text-length-requires c κs = tt
 
 next-row-requires : tie.Need-next-row-requires Inv-loop μ-loop
-next-row-requires c κs = (c .before .before .before .pre .0, (c .text-length .ensures, omega (arith, c .before .before .before .pre, c .text-length .ensures, text-fits (c .before .before .before .args .pattern .now))))
+next-row-requires c κs =
+    let c₁ = c .before .before .before in
+    (c₁ .pre .0, (c .text-length .ensures, omega (arith, c₁ .pre, c .text-length .ensures, text-fits (c₁ .args .pattern .now))))
 
 array-read-found : tie.Need-array-read-found Inv-loop μ-loop
 array-read-found c = omega (arith, c .before .before .before .before .pre, text-fits (c .before .before .before .before .args .pattern .now))
@@ -26,7 +28,9 @@ text-length-requires-2 : tie.Need-text-length-requires-2 Inv-loop μ-loop
 text-length-requires-2 c κs = tt
 
 loop-holds : tie.Need-loop-holds Inv-loop μ-loop
-loop-holds c = sweep-start (c .before .before .before .before .before .args .pattern .now) (c .before .before .before .before .before .args .start) (c .before .before .before .before .before .pre .1) (c .before .before .before .before .before .args .field .now) _ _ (c .text-length2 .ensures) (c .before .next-row .ensures [] (λ n. absurd (n refl)))
+loop-holds c =
+    let c₁ = c .before in let c₂ = c₁ .before .before .before .before in
+    sweep-start (c₂ .args .pattern .now) (c₂ .args .start) (c₂ .pre .1) (c₂ .args .field .now) _ _ (c .text-length2 .ensures) (c₁ .next-row .ensures [] (λ n. absurd (n refl)))
 
 sub-i : tie.Need-sub-i Inv-loop μ-loop
 sub-i c = omega arith
@@ -35,22 +39,30 @@ shared-slice-read-b : tie.Need-shared-slice-read-b Inv-loop μ-loop
 shared-slice-read-b c = omega (arith, c .before .before .loop .inv .within, text-fits (c .before .before .before .before .before .before .before .before .args .field .now))
 
 next-row-requires-2 : tie.Need-next-row-requires-2 Inv-loop μ-loop
-next-row-requires-2 c κs = (c .before .before .before .before .before .before .before .before .pre .0, (c .before .before .before .before .before .text-length .ensures, omega (arith, c .before .before .before .before .before .before .before .before .pre, c .before .before .before .before .before .text-length .ensures, text-fits (c .before .before .before .before .before .before .before .before .args .pattern .now))))
+next-row-requires-2 c κs =
+    let c₁ = c .before .before .before .before .before in let c₂ = c₁ .before .before .before in
+    (c₂ .pre .0, (c₁ .text-length .ensures, omega (arith, c₂ .pre, c₁ .text-length .ensures, text-fits (c₂ .args .pattern .now))))
 
 array-read-found-2 : tie.Need-array-read-found-2 Inv-loop μ-loop
-array-read-found-2 c = omega (arith, c .before .before .before .before .before .before .before .before .before .pre, text-fits (c .before .before .before .before .before .before .before .before .before .args .pattern .now))
+array-read-found-2 c =
+    let c₁ = c .before .before .before .before .before .before .before .before .before in
+    omega (arith, c₁ .pre, text-fits (c₁ .args .pattern .now))
 
 loop-less : tie.Need-loop-less Inv-loop μ-loop
 loop-less c = omega arith
 
 loop-again : tie.Need-loop-again Inv-loop μ-loop
-loop-again c = sweep-more (c .before .before .before .before .before .before .before .before .before .args .pattern .now) (c .before .before .before .before .before .before .before .before .before .args .start) (c .before .before .before .before .before .before .before .before .before .pre .1) (c .before .before .before .before .before .before .before .before .before .args .field .now) _ _ _ (c .before .before .before .loop .inv) (omega arith) _ (c .next-row2 .ensures)
+loop-again c =
+    let c₁ = c .before .before .before in let c₂ = c₁ .before .before .before .before .before .before in
+    sweep-more (c₂ .args .pattern .now) (c₂ .args .start) (c₂ .pre .1) (c₂ .args .field .now) _ _ _ (c₁ .loop .inv) (omega arith) _ (c .next-row2 .ensures)
 
 array-read-t13 : tie.Need-array-read-t13 Inv-loop μ-loop
 array-read-t13 c = omega (arith, c .before .before .before .before .before .before .before .pre, text-fits (c .before .before .before .before .before .before .before .args .pattern .now))
 
 returns : tie.Need-returns Inv-loop μ-loop
-returns c = sweep-end (c .before .before .before .before .before .before .before .args .pattern .now) (c .before .before .before .before .before .before .before .args .start) (c .before .before .before .before .before .before .before .pre .1) (c .before .before .before .before .before .before .before .args .field .now) _ _ _ (c .before .loop .inv) (omega arith)
+returns c =
+    let c₁ = c .before in let c₂ = c₁ .before .before .before .before .before .before in
+    sweep-end (c₂ .args .pattern .now) (c₂ .args .start) (c₂ .pre .1) (c₂ .args .field .now) _ _ _ (c₁ .loop .inv) (omega arith)
 
 pub search-spec : {M : Type 1} → statement M
 search-spec =

@@ -21,7 +21,9 @@ shared-slice-read-if1 : tie.Need-shared-slice-read-if1 Inv-loop μ-loop
 shared-slice-read-if1 c = omega arith
 
 returns : tie.Need-returns Inv-loop μ-loop
-returns c = counted-end (c .before .before .before .before .args .field .now) (c .before .before .before .loop .i) (c .before .before .before .loop .inv .0) (rest-end (c .before .before .before .before .args .field .now) (c .before .before .before .loop .i) (omega arith) (c .if1 .taken))
+returns c =
+    let c₁ = c .before .before .before in let c₂ = c₁ .before in
+    counted-end (c₂ .args .field .now) (c₁ .loop .i) (c₁ .loop .inv .0) (rest-end (c₂ .args .field .now) (c₁ .loop .i) (omega arith) (c .if1 .taken))
 
 add-i : tie.Need-add-i Inv-loop μ-loop
 add-i c = omega arith
@@ -30,7 +32,9 @@ loop-less : tie.Need-loop-less Inv-loop μ-loop
 loop-less c = omega arith
 
 loop-again : tie.Need-loop-again Inv-loop μ-loop
-loop-again c = (counted-more (c .before .before .before .before .args .field .now) (c .before .before .before .loop .i) (c .before .before .before .loop .inv .0) (omega arith) (c .if1 .left), omega arith)
+loop-again c =
+    let c₁ = c .before .before .before in let c₂ = c₁ .before in
+    (counted-more (c₂ .args .field .now) (c₁ .loop .i) (c₁ .loop .inv .0) (omega arith) (c .if1 .left), omega arith)
 
 returns-2 : tie.Need-returns-2 Inv-loop μ-loop
 returns-2 c = counted-end (c .before .before .args .field .now) (c .before .loop .i) (c .before .loop .inv .0) (rest-out (c .before .before .args .field .now) (c .before .loop .i) (omega arith))

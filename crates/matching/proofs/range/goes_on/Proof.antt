@@ -36,7 +36,9 @@ shared-slice-read-if2 : tie.Need-shared-slice-read-if2 Inv-loop μ-loop
 shared-slice-read-if2 c = omega arith
 
 returns-2 : tie.Need-returns-2 Inv-loop μ-loop
-returns-2 c = λ h. along-other _ _ _ (c .before .before .before .before .before .before .loop .inv .0 h) (omega arith) (omega arith) _ (c .before .before .before .ends .ensures) (c .before .before .if1 .left) (c .if2 .taken)
+returns-2 c =
+    let c₁ = c .before .before in let c₂ = c₁ .before in let c₃ = c₂ .before .before .before in
+    λ h. along-other _ _ _ (c₃ .loop .inv .0 h) (omega arith) (omega arith) _ (c₂ .ends .ensures) (c₁ .if1 .left) (c .if2 .taken)
 
 add-i : tie.Need-add-i Inv-loop μ-loop
 add-i c = omega arith
@@ -45,7 +47,9 @@ loop-less : tie.Need-loop-less Inv-loop μ-loop
 loop-less c = omega arith
 
 loop-again : tie.Need-loop-again Inv-loop μ-loop
-loop-again c = (λ h. along-more _ _ _ (c .before .before .before .before .before .before .loop .inv .0 h) (omega arith) (omega arith) _ (c .before .before .before .ends .ensures) (c .before .before .if1 .left) (c .if2 .left), omega arith)
+loop-again c =
+    let c₁ = c .before .before in let c₂ = c₁ .before in let c₃ = c₂ .before .before .before in
+    (λ h. along-more _ _ _ (c₃ .loop .inv .0 h) (omega arith) (omega arith) _ (c₂ .ends .ensures) (c₁ .if1 .left) (c .if2 .left), omega arith)
 
 returns-3 : tie.Need-returns-3 Inv-loop μ-loop
 returns-3 c = λ h. along-out _ _ _ (c .before .loop .inv .0 h) (omega arith) (omega arith)

@@ -1,5 +1,7 @@
--- `pages::page_reader::next_record` meets its contract: a walk of its MIR, by hand. A `PageReader` is made, advanced and asked for its offset, each by a call. All that the proof knows of `opened`, `advanced` and `offset` is that each meets its contract.
--- The machine value that a call returns is stored and passed on as it is. In a local of a body MIR erases the lifetime of the struct's type, so the value is shown to have the type at `erased`: what the struct owns does not say the lifetime's name.
+-- `pages::page_reader::next_record` meets its contract: a walk of its MIR, by hand. A `PageReader` is made, advanced and asked for its offset, each by a call. All that
+-- the proof knows of `opened`, `advanced` and `offset` is that each meets its contract.
+-- The machine value that a call returns is stored and passed on as it is. In a local of a body MIR erases the lifetime of the struct's type, so the value is shown to
+-- have the type at `erased`: what the struct owns does not say the lifetime's name.
 -- Assumes nothing.
 use mathlib.Core.Path.{_≡_, refl, ap, _∙_}
 use mathlib.Core.Bool.{true}
@@ -80,7 +82,8 @@ module _ {M : Type 1} (𝓤 : URA M) (H : Heap 𝓤) (A : Atoms 𝓤) (mem : Mem
   abbrev Offset : Contract 𝓤
   Offset = tripleOf 𝓤 H A offset.signature (offset.spec 𝓤 H A mem run)
 
-module _ {M : Type 1} (𝓤 : URA M) (H : Heap 𝓤) (A : Atoms 𝓤) (W : Given 𝓤 H A) (mem : Memory → SProp 𝓤) (run : Routine → Fun 𝓤) (κ : Lft) (q : Share) (s : RefT (List ℕ)) (k : ℕ) (fits : k < 2 ^ 64) (good : isSome (readTriple (now s) k) ≡ true) where
+module _ {M : Type 1} (𝓤 : URA M) (H : Heap 𝓤) (A : Atoms 𝓤) (W : Given 𝓤 H A) (mem : Memory → SProp 𝓤) (run : Routine → Fun 𝓤) (κ : Lft) (q : Share) (s : RefT (List ℕ)) (k : ℕ)
+    (fits : k < 2 ^ 64) (good : isSome (readTriple (now s) k) ≡ true) where
   -- the machine value that s has
   abbrev v : Val
   v = sliceVal (s .ptr) (length (s .now))
@@ -121,7 +124,8 @@ module _ {M : Type 1} (𝓤 : URA M) (H : Heap 𝓤) (A : Atoms 𝓤) (W : Given
   goes-opened =
       qed W ((‵ (flft κ q) ⊛ ‵ ftrue) ∷ ‵ (owns (ShrSlice (named 0) κ u8 ∷ usize ∷ []) (s, (k, tt)) vals) ∷ []) ∵
       move ! (1 ∷ []) $ fsplit ! $ use1 W (‵ Own ⊛ ‵ Own) (shr-slice-copy 𝓤 H A W (named 0) κ u8 .twice s (v ∷ [])) $ split ! $
-      move ! (0 ∷ 2 ∷ []) $ fjoin ! $ move ! (2 ∷ 0 ∷ []) $ use2 W (raw (Opened 𝓤 H A mem run .pre to-opened)) (qed W ((‵ (flft κ q) ⊛ ‵ ftrue) ∷ ‵ (owns (ShrSlice (named 0) κ u8 ∷ usize ∷ []) (s, (k, tt)) vals) ∷ []) ∵ join ! $ frame ! $ done !) $ frame ! $ done !
+      move ! (0 ∷ 2 ∷ []) $ fjoin ! $ move ! (2 ∷ 0 ∷ []) $ use2 W (raw (Opened 𝓤 H A mem run .pre to-opened))
+      (qed W ((‵ (flft κ q) ⊛ ‵ ftrue) ∷ ‵ (owns (ShrSlice (named 0) κ u8 ∷ usize ∷ []) (s, (k, tt)) vals) ∷ []) ∵ join ! $ frame ! $ done !) $ frame ! $ done !
 
   opened-said : (r : PageReader) → ent 𝓤 (ensured 𝓤 H A opened.ended (opened.clauses 𝓤 H A mem run) (κ, tt) (s, (k, tt)) tt r) (fact 𝓤 ((r .page ≡ s) × (r .at ≡ k)))
   opened-said r = exE 𝓤 _ (λ ws. snd∗ 𝓤 (sem 𝓤 H A (lasts opened.ended (κ, tt) (s, (k, tt)) ws)) (fact 𝓤 ((r .page ≡ s) × (r .at ≡ k))))
@@ -152,7 +156,8 @@ module _ {M : Type 1} (𝓤 : URA M) (H : Heap 𝓤) (A : Atoms 𝓤) (W : Given
       suffices ! _ (ends-at 𝓤 H A next-record.ended stayed (next-record.clauses 𝓤 H A mem run) W (((κ, tt), (q, tt), tt, (s, (k, tt)), vals), tt) u m (tt, (tt, tt)) (tt, (tt, tt))) $ says ! e $
       move ! (1 ∷ []) $ frame ! $ nothing ! $ owned ! usize (Is usize) (uint-makes 𝓤 H A W w64) k _ (refl, fits) $ fjoin ! $ move ! (2 ∷ 0 ∷ []) $ fjoin ! $ frame ! $ done !
 
-  module _ (C : Calls 𝓤 H) (Λ : Loops 𝓤 H) (fm : FmC 𝓤 H (W .laws) C) (known-opened : Triple 𝓤 (C #pages·page-reader·opened) (Opened 𝓤 H A mem run)) (known-advanced : Triple 𝓤 (C #pages·page-reader·advanced) (Advanced 𝓤 H A mem run)) (known-offset : Triple 𝓤 (C #pages·page-reader·offset) (Offset 𝓤 H A mem run)) where
+  module _ (C : Calls 𝓤 H) (Λ : Loops 𝓤 H) (fm : FmC 𝓤 H (W .laws) C) (known-opened : Triple 𝓤 (C #pages·page-reader·opened) (Opened 𝓤 H A mem run))
+      (known-advanced : Triple 𝓤 (C #pages·page-reader·advanced) (Advanced 𝓤 H A mem run)) (known-offset : Triple 𝓤 (C #pages·page-reader·offset) (Offset 𝓤 H A mem run)) where
     walk : Is (ShrSlice (named 0) κ u8) s (v ∷ []) → ent 𝓤 (onEntry 𝓤 H A next-record.signature (κ, tt) (q, tt) (s, (k, tt)) vals) (WpFn 𝓤 H C Λ code.function (v ∷ vint w64 k ∷ []) Post)
     walk p =
         qed W (raw (onEntry 𝓤 H A next-record.signature (κ, tt) (q, tt) (s, (k, tt)) vals) ∷ []) ∵ enter ! C Λ code.function (v ∷ vint w64 k ∷ []) _ $
@@ -161,7 +166,8 @@ module _ {M : Type 1} (𝓤 : URA M) (H : Heap 𝓤) (A : Atoms 𝓤) (W : Given
         -- `opened`: [room for _4; …; _3; …; _2; …; _1; …; _0; …; what is had at entry]
         move ! (10 ∷ []) $ use1 W (raw (Opened 𝓤 H A mem run .pre to-opened) ⊛ ‵ Own) goes-opened $ split ! $
         calls-at ! fm (Opened 𝓤 H A mem run) known-opened to-opened (and-then ! (load ! (from ! (stop !)) (look ! 8 refl)) (and-then ! (load ! (from ! (stop !)) (look ! 6 refl)) (no-more !))) (λ u₀.
-        use1 W (later (some (λ (r : PageReader). ((‵ (flft κ q) ⊛ ‵ ftrue) ⊛ ‵ (B (κ, tt) .own r (u₀ ∷ []))) ⊛ raw (ensured 𝓤 H A opened.ended (opened.clauses 𝓤 H A mem run) (κ, tt) (s, (k, tt)) tt r)))) (id⊢ 𝓤 _) $ await ! tt $ pick ! (λ r₀.
+        use1 W (later (some (λ (r : PageReader). ((‵ (flft κ q) ⊛ ‵ ftrue) ⊛ ‵ (B (κ, tt) .own r (u₀ ∷ []))) ⊛ raw
+        (ensured 𝓤 H A opened.ended (opened.clauses 𝓤 H A mem run) (κ, tt) (s, (k, tt)) tt r)))) (id⊢ 𝓤 _) $ await ! tt $ pick ! (λ r₀.
         split ! $ move ! (1 ∷ []) $ use1 W (raw (fact 𝓤 ((r₀ .page ≡ s) × (r₀ .at ≡ k)))) (opened-said r₀) $ heard ! ((r₀ .page ≡ s) × (r₀ .at ≡ k)) (λ e₀.
         split ! $ rewrite ! 1 (λ (r : PageReader). ‵ (B (κ, tt) .own r (u₀ ∷ []))) (λ i. record { page = e₀ .0 i; at = e₀ .1 i }) refl $ move ! (1 ∷ []) $
         -- `advanced`: [what the reader owns; the token; what s owns; room for _4; …; _3; …; _2; …; _1; …; _0; …]
@@ -169,14 +175,16 @@ module _ {M : Type 1} (𝓤 : URA M) (H : Heap 𝓤) (A : Atoms 𝓤) (W : Given
         land ! (from ! (stop !)) (init ! 3 refl (typed d u₀ is₀)) $
         move ! (1 ∷ 0 ∷ []) $ use2 W (raw (Advanced 𝓤 H A mem run .pre (to-advanced u₀))) (goes-advanced u₀) $
         calls-at ! fm (Advanced 𝓤 H A mem run) known-advanced (to-advanced u₀) (and-then ! (load ! (from ! (stop !)) (look ! 2 refl)) (no-more !)) (λ u₁.
-        use1 W (later (some (λ (r : PageReader). ((‵ (flft κ q) ⊛ ‵ ftrue) ⊛ ‵ (B (κ, tt) .own r (u₁ ∷ []))) ⊛ raw (ensured 𝓤 H A advanced.ended (advanced.clauses 𝓤 H A mem run) (κ, tt) (d, tt) tt r)))) (id⊢ 𝓤 _) $ await ! tt $ pick ! (λ r₁.
+        use1 W (later (some (λ (r : PageReader). ((‵ (flft κ q) ⊛ ‵ ftrue) ⊛ ‵ (B (κ, tt) .own r (u₁ ∷ []))) ⊛ raw
+        (ensured 𝓤 H A advanced.ended (advanced.clauses 𝓤 H A mem run) (κ, tt) (d, tt) tt r)))) (id⊢ 𝓤 _) $ await ! tt $ pick ! (λ r₁.
         split ! $ move ! (1 ∷ []) $ use1 W (raw (fact 𝓤 (After r₁))) (advanced-said r₁) $ heard ! (After r₁) (λ e₁. split ! $ move ! (1 ∷ []) $
         -- `offset`: [what the reader owns; the token; what s owns; _4; …; room for _3; …; _2; …; _1; …; _0; …]
         peeks ! (B (κ, tt)) (Is (B (κ, tt))) (shows 𝓤 H A (B (κ, tt))) r₁ (u₁ ∷ []) (λ is₁.
         land ! (from ! (stop !)) (init ! 5 refl (typed r₁ u₁ is₁)) $
         move ! (1 ∷ 0 ∷ []) $ use2 W (raw (Offset 𝓤 H A mem run .pre (to-offset r₁ u₁))) (goes-offset r₁ u₁) $
         calls-at ! fm (Offset 𝓤 H A mem run) known-offset (to-offset r₁ u₁) (and-then ! (load ! (from ! (stop !)) (look ! 4 refl)) (no-more !)) (λ u.
-        use1 W (later (some (λ (m : ℕ). ((‵ (flft κ q) ⊛ ‵ ftrue) ⊛ ‵ (usize .own m (u ∷ []))) ⊛ raw (ensured 𝓤 H A offset.ended (offset.clauses 𝓤 H A mem run) (κ, tt) (r₁, tt) tt m)))) (id⊢ 𝓤 _) $ await ! tt $ pick ! (λ m.
+        use1 W (later (some (λ (m : ℕ). ((‵ (flft κ q) ⊛ ‵ ftrue) ⊛ ‵ (usize .own m (u ∷ []))) ⊛ raw
+        (ensured 𝓤 H A offset.ended (offset.clauses 𝓤 H A mem run) (κ, tt) (r₁, tt) tt m)))) (id⊢ 𝓤 _) $ await ! tt $ pick ! (λ m.
         split ! $ move ! (1 ∷ []) $ use1 W (raw (fact 𝓤 (m ≡ r₁ .at))) (offset-said r₁ m) $ heard ! (m ≡ r₁ .at) (λ e. split ! $ move ! (1 ∷ []) $
         -- [the number returned; the token; what s owns; _4; …; _3; …; _2; …; _1; …; room for _0; …]
         peeks ! usize (Is usize) (shows 𝓤 H A usize) m (u ∷ []) (λ is.
@@ -186,16 +194,21 @@ module _ {M : Type 1} (𝓤 : URA M) (H : Heap 𝓤) (A : Atoms 𝓤) (W : Given
         by ! (exits m u (ap Read.Next e ∙ e₁ .1)))))))))))))))))))
 
 module _ {M : Type 1} (𝓤 : URA M) (H : Heap 𝓤) (A : Atoms 𝓤) (W : Given 𝓤 H A) (mem : Memory → SProp 𝓤) (run : Routine → Fun 𝓤) where
-  next-record-walks : (C : Calls 𝓤 H) (Λ : Loops 𝓤 H) → FmC 𝓤 H (W .laws) C → Triple 𝓤 (C #pages·page-reader·opened) (Opened 𝓤 H A mem run) → Triple 𝓤 (C #pages·page-reader·advanced) (Advanced 𝓤 H A mem run) → Triple 𝓤 (C #pages·page-reader·offset) (Offset 𝓤 H A mem run)
+  next-record-walks : (C : Calls 𝓤 H) (Λ : Loops 𝓤 H) → FmC 𝓤 H (W .laws) C → Triple 𝓤 (C #pages·page-reader·opened) (Opened 𝓤 H A mem run)
+      → Triple 𝓤 (C #pages·page-reader·advanced) (Advanced 𝓤 H A mem run) → Triple 𝓤 (C #pages·page-reader·offset) (Offset 𝓤 H A mem run)
       → Walks 𝓤 H A next-record.ended stayed (WpFn 𝓤 H C Λ code.function) (next-record.clauses 𝓤 H A mem run)
-  next-record-walks C Λ fm known-opened known-advanced known-offset = walked 𝓤 H A next-record.ended stayed (next-record.clauses 𝓤 H A mem run) (WpFn 𝓤 H C Λ code.function) (λ κs. (slice-vals, (uint-vals w64, tt))) (λ κs. (shr-slice-tells (named 0) (κs .0) u8, (uint-tells w64, tt)))
+  next-record-walks C Λ fm known-opened known-advanced known-offset = walked 𝓤 H A next-record.ended stayed (next-record.clauses 𝓤 H A mem run) (WpFn 𝓤 H C Λ code.function)
+      (λ κs. (slice-vals, (uint-vals w64, tt))) (λ κs. (shr-slice-tells (named 0) (κs .0) u8, (uint-tells w64, tt)))
       (λ κs qs bounds a g are. needs 𝓤 (isSome (readTriple (now (a .0)) (a .1 .0)) ≡ true) _ (λ good.
       walk 𝓤 H A W mem run (κs .0) (qs .0) (a .0) (a .1 .0) (are .1 .0 .1) good C Λ fm known-opened known-advanced known-offset (are .0)))
 
 next-record-meets : {M : Type 1} (𝓤 : URA M) (H : Heap 𝓤) (A : Atoms 𝓤) (W : Given 𝓤 H A) (mem : Memory → SProp 𝓤) (run : Routine → Fun 𝓤) (𝓣 : Tables 𝓤 H)
-    → Triple 𝓤 (𝓣 .C #pages·page-reader·opened) (Opened 𝓤 H A mem run) → Triple 𝓤 (𝓣 .C #pages·page-reader·advanced) (Advanced 𝓤 H A mem run) → Triple 𝓤 (𝓣 .C #pages·page-reader·offset) (Offset 𝓤 H A mem run)
+    → Triple 𝓤 (𝓣 .C #pages·page-reader·opened) (Opened 𝓤 H A mem run) → Triple 𝓤 (𝓣 .C #pages·page-reader·advanced) (Advanced 𝓤 H A mem run)
+    → Triple 𝓤 (𝓣 .C #pages·page-reader·offset) (Offset 𝓤 H A mem run)
     → Meets 𝓤 H A next-record.signature (WpFn 𝓤 H (𝓣 .C) (𝓣 .Λ) code.function) (next-record.spec 𝓤 H A mem run)
-next-record-meets 𝓤 H A W mem run 𝓣 known-opened known-advanced known-offset = walk-meets 𝓤 H A next-record.ended stayed W (goes-none-slice 𝓤 H A W 1 (0 ∷ []) tt (plain (λ _. u8)) yes, (goes-none 𝓤 H A W 1 (λ _. usize) yes (λ κs x f. refl), tt)) (next-record.clauses 𝓤 H A mem run) (WpFn 𝓤 H (𝓣 .C) (𝓣 .Λ) code.function) (WpFn-mono 𝓤 H (W .laws) 𝓣 code.function)
+next-record-meets 𝓤 H A W mem run 𝓣 known-opened known-advanced known-offset = walk-meets 𝓤 H A next-record.ended stayed W
+    (goes-none-slice 𝓤 H A W 1 (0 ∷ []) tt (plain (λ _. u8)) yes, (goes-none 𝓤 H A W 1 (λ _. usize) yes (λ κs x f. refl), tt)) (next-record.clauses 𝓤 H A mem run)
+    (WpFn 𝓤 H (𝓣 .C) (𝓣 .Λ) code.function) (WpFn-mono 𝓤 H (W .laws) 𝓣 code.function)
     (next-record-walks 𝓤 H A W mem run (𝓣 .C) (𝓣 .Λ) (fmOf 𝓤 H (W .laws) 𝓣) known-opened known-advanced known-offset)
 
 pub next-record-spec : {M : Type 1} → stated.statement M

@@ -3,8 +3,6 @@ use Rattle.definitions.specs.Types.{Datatype}
 use Rattle.pages.proofs.TakeLaws.{code-is, code-last}
 use Rattle.pages.proofs.triples.object_code.Statement.{statement}
 use Rattle.pages.proofs.triples.object_code.Tie as tie
-use Rattle.pages.proofs.triples.object_code.Reads as reads
-use Rattle.pages.proofs.triples.object_code.Lts as lts
 
 returns : tie.Need-returns
 returns c = code-is _ 0x81 Datatype.anyURI (c .match .keys1) refl

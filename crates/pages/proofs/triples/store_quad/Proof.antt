@@ -3,10 +3,6 @@ use Rattle.pages.proofs.TakeLaws.{quads-width, stores-there, stores-ful
 use borrow.Author.Needs.{needs}
 use Rattle.pages.proofs.triples.store_quad.Statement.{statement}
 use Rattle.pages.proofs.triples.store_quad.Tie as tie
-use Rattle.pages.proofs.triples.store_quad.Reads as reads
-use Rattle.pages.proofs.triples.store_quad.Lts as lts
-use Rattle.store.proofs.quads.has_quad.Reads as has-quad-reads
-use Rattle.store.proofs.quads.put_quad.Reads as put-quad-reads
 
 has-quad-requires : tie.Need-has-quad-requires
 has-quad-requires c κs = (quads-width _ _ (c .before .before .pre .0) (c .before .before .pre .1), c .before .before .pre .1 .few)
@@ -24,7 +20,9 @@ same-length-2 : tie.Need-same-length-2
 same-length-2 c = search needs
 
 returns-2 : tie.Need-returns-2
-returns-2 c = λ qs h. stores-full (c .before .before .before .before .before .args .table .now) (c .before .before .before .before .before .args .n) qs h _ (c .before .before .has-quad .ensures) (c .before .if1 .left) (c .if2 .taken)
+returns-2 c =
+    let c₁ = c .before in let c₂ = c₁ .before in let c₃ = c₂ .before .before .before in
+    λ qs h. stores-full (c₃ .args .table .now) (c₃ .args .n) qs h _ (c₂ .has-quad .ensures) (c₁ .if1 .left) (c .if2 .taken)
 
 put-quad-requires : tie.Need-put-quad-requires
 put-quad-requires c κs = (quads-width _ _ (c .before .before .before .before .before .before .pre .0) (c .before .before .before .before .before .before .pre .1), omega arith)
@@ -36,7 +34,10 @@ same-length-3 : tie.Need-same-length-3
 same-length-3 c = search needs
 
 returns-3 : tie.Need-returns-3
-returns-3 c = λ qs h. stores-written (c .before .before .before .before .before .before .before .before .before .args .table .now) (c .before .before .before .before .before .before .before .before .before .args .n) qs h _ (c .before .before .before .before .before .before .has-quad .ensures) (c .before .before .before .before .before .if1 .left) (omega arith) (record { graph = omega arith; subject = omega arith; property = omega arith; object = omega arith }) _ (c .before .before .put-quad .ensures)
+returns-3 c =
+    let c₁ = c .before .before in let c₂ = c₁ .before .before .before in let c₃ = c₂ .before in let c₄ = c₃ .before .before .before in
+    λ qs h. stores-written (c₄ .args .table .now) (c₄ .args .n) qs h _ (c₃ .has-quad .ensures) (c₂ .if1 .left) (omega arith)
+    (record { graph = omega arith; subject = omega arith; property = omega arith; object = omega arith }) _ (c₁ .put-quad .ensures)
 
 pub store-quad-spec : {M : Type 1} → statement M
 store-quad-spec =

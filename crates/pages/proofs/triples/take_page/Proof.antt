@@ -1,13 +1,8 @@
 -- `pages::triples::take_page` meets its contract.
-use mathlib.Core.Path.{ap}
-use Rattle.laws.specs.ReadAnswers.{isSome}
-use Rattle.pages.proofs.TermLaws.{held-width}
+use Rattle.records.proofs.NumberingLaws.{held-width}
 use borrow.Author.Needs.{needs}
 use Rattle.pages.proofs.triples.take_page.Statement.{statement}
 use Rattle.pages.proofs.triples.take_page.Tie as tie
-
-hash-entries-requires : tie.Need-hash-entries-requires
-hash-entries-requires c κs = (ap isSome (c .before .before .before .before .pre .1 .1 .0 .1), c .before .before .before .before .pre .1 .1 .0 .2)
 
 hash-slots-requires : tie.Need-hash-slots-requires
 hash-slots-requires c κs = let h = c .before .before .before .before .before .before .pre .1 .1 .1 .0 .1 .terms in (held-width _ _ _ h, h .few)
@@ -15,11 +10,11 @@ hash-slots-requires c κs = let h = c .before .before .before .before .before .b
 slice-aggregate-take-records : tie.Need-slice-aggregate-take-records
 slice-aggregate-take-records c = search needs
 
-slice-aggregate-take-records-2 : tie.Need-slice-aggregate-take-records-2
-slice-aggregate-take-records-2 c = search needs
-
 take-records-requires : tie.Need-take-records-requires
-take-records-requires c κs = let p = c .before .before .before .before .before .before .before .before .before .before .before .pre in (p .0, (p .1 .0, (p .1 .1 .0, (c .before .before .before .before .before .before .hash-entries .ensures, (p .1 .1 .1 .0, (record { room = search needs; each = λ few. c .before .before .before .before .hash-slots .ensures }, p .1 .1 .1 .1))))))
+take-records-requires c κs =
+    let c₁ = c .before .before .before in let c₂ = c₁ .before .before .before .before .before .before .before in
+    let p = c₂ .pre in
+    (p .0, (p .1 .0, (p .1 .1 .0, (p .1 .1 .1 .0, (record { room = search needs; each = λ few. c₁ .hash-slots .ensures }, p .1 .1 .1 .1)))))
 
 same-length : tie.Need-same-length
 same-length c = search needs
@@ -34,10 +29,8 @@ pub take-page-spec : {M : Type 1} → statement M
 take-page-spec =
     tie.close
     (tie.spec
-    hash-entries-requires
     hash-slots-requires
     slice-aggregate-take-records
-    slice-aggregate-take-records-2
     take-records-requires
     same-length
     same-length-2

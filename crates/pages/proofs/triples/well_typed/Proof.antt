@@ -41,7 +41,12 @@ part-datatype-of-end : tie.Need-part-datatype-of-end
 part-datatype-of-end c = search needs
 
 datatype-of-requires : tie.Need-datatype-of-requires
-datatype-of-requires c κs = (ap isSome (c .before .before .before .before .before .before .before .before .pre .1 .0 .1), (property-uri (c .before .before .before .before .before .before .before .before .args .page .now) (c .before .before .before .before .before .before .before .before .args .at) (c .before .before .before .before .before .before .before .before .args .next) (c .before .before .before .before .before .before .before .before .pre .0 .0) (c .before .before .before .before .before .before .before .before .pre .0 .1), (c .before .before .before .before .before .before .before .before .pre .1 .1, c .before .hash-of .ensures ∙ ap hashOf (c .before .before .before .slot-of .ensures))))
+datatype-of-requires c κs =
+    let c₁ = c .before in let c₂ = c₁ .before .before in
+    let c₃ = c₂ .before .before .before .before .before in (
+      ap isSome (c₃ .pre .1 .1),
+      (property-uri (c₃ .args .page .now) (c₃ .args .at) (c₃ .args .next) (c₃ .pre .0 .0) (c₃ .pre .0 .1), (c₃ .pre .1 .2, c₁ .hash-of .ensures ∙ ap hashOf (c₂ .slot-of .ensures))),
+    )
 
 shared-slice-read-object-code : tie.Need-shared-slice-read-object-code
 shared-slice-read-object-code c = search needs
@@ -49,8 +54,15 @@ shared-slice-read-object-code c = search needs
 object-code-requires : tie.Need-object-code-requires
 object-code-requires c κs = search needs
 
+has-type-requires : tie.Need-has-type-requires
+has-type-requires c κs = search needs
+
 returns : tie.Need-returns
-returns c = λ S x e r. typed-is (c .before .before .before .before .before .before .before .before .before .before .before .args .schema .now) (c .before .before .before .before .before .before .before .before .before .before .before .args .page .now) S (c .before .before .before .before .before .before .before .before .before .before .before .args .at) (c .before .before .before .before .before .before .before .before .before .before .before .args .next) x e r _ _ (c .before .before .datatype-of .ensures) (c .object-code .ensures (r .datatype) (r .kind))
+returns c =
+    let c₁ = c .before in let c₂ = c₁ .before .before in let c₃ = c₂ .before .before .before .before .before .before .before .before .before in
+    λ S x e r. c .has-type .ensures
+    ∙ typed-is (c₃ .args .schema .now) (c₃ .args .page .now) S (c₃ .args .at) (c₃ .args .next) x e r _ _ (c₂ .datatype-of .ensures)
+    (c₁ .object-code .ensures (r .datatype) (r .kind))
 
 pub well-typed-spec : {M : Type 1} → statement M
 well-typed-spec =
@@ -70,4 +82,5 @@ well-typed-spec =
     datatype-of-requires
     shared-slice-read-object-code
     object-code-requires
+    has-type-requires
     returns)

@@ -35,14 +35,12 @@ loop-less c = search needs
 
 loop-again : tie.Need-loop-again Inv-loop μ-loop
 loop-again c =
-    let c₁ = c .before .before .before in
-    let c₂ = c₁ .before .before in
+    let c₁ = c .before .before .before in let c₂ = c₁ .before .before in
     (omega arith, omega (arith, c .one-if .ensures .1), omega (arith, ones-next (c₂ .args .codes .now) (c₁ .loop .i) (omega arith), c .one-if .ensures .0, c₁ .loop .inv .2))
 
 returns : tie.Need-returns Inv-loop μ-loop
 returns c =
-    let c₁ = c .before in
-    let c₂ = c₁ .before .before in
+    let c₁ = c .before in let c₂ = c₁ .before .before in
     omega (arith, ones-none (c₂ .args .codes .now) (c₁ .loop .i) (omega arith), c₁ .loop .inv .2)
 
 pub bound-ones-spec : {M : Type 1} → statement M

@@ -17,8 +17,7 @@ same-length c = search needs
 
 returns-2 : tie.Need-returns-2
 returns-2 c =
-    let c₁ = c .before .before in
-    let c₂ = c₁ .before .before in
+    let c₁ = c .before .before in let c₂ = c₁ .before .before in
     (written-as (c₁ .put-variable .ensures .0) (a-line _ _ (c₂ .if1 .left)), c₁ .put-variable .ensures .1)
 
 pub put-bound-spec : {M : Type 1} → statement M

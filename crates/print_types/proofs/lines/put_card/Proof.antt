@@ -25,11 +25,12 @@ same-length c = search needs
 returns : tie.Need-returns
 unfolding ascii
 returns c =
-    let c₁ = c .before .before in
-    let c₂ = c₁ .before .before .before .before in
-    let c₃ = c₂ .before .before .before .before in
-    let c₄ = c₃ .before .before .before in
-    (written-as (written-then (written-then (c₃ .put-text .ensures) (c₂ .put-number .ensures .0) (omega arith)) (c₁ .put-byte .ensures) (omega arith)) (refused-text _ _ (c₄ .if1 .taken)), omega (arith, c₃ .put-text .ensures .end, c₂ .put-number .ensures .1, c₁ .put-byte .ensures .end))
+    let c₁ = c .before .before in let c₂ = c₁ .before .before .before .before in let c₃ = c₂ .before .before .before .before in
+    let c₄ = c₃ .before .before .before in (
+      written-as (written-then (written-then (c₃ .put-text .ensures) (c₂ .put-number .ensures .0) (omega arith)) (c₁ .put-byte .ensures) (omega arith))
+          (refused-text _ _ (c₄ .if1 .taken)),
+      omega (arith, c₃ .put-text .ensures .end, c₂ .put-number .ensures .1, c₁ .put-byte .ensures .end),
+    )
 
 slice-aggregate-put-text-2 : tie.Need-slice-aggregate-put-text-2
 slice-aggregate-put-text-2 c = search needs
@@ -55,13 +56,14 @@ same-length-2 c = search needs
 returns-2 : tie.Need-returns-2
 unfolding ascii
 returns-2 c =
-    let c₁ = c .before .before in
-    let c₂ = c₁ .before .before .before .before in
-    let c₃ = c₂ .before .before .before .before in
-    let c₄ = c₃ .before .before in
+    let c₁ = c .before .before in let c₂ = c₁ .before .before .before .before in let c₃ = c₂ .before .before .before .before in let c₄ = c₃ .before .before in
     let c₅ = c₄ .before .before .before in
-    let c₆ = c₅ .before .before .before in
-    (written-as (written-then (written-then (written-then (c₅ .put-text2 .ensures) (c₃ .put-number2 .ensures .0) (omega arith)) (c₂ .put-byte2 .ensures) (omega arith)) (c₁ .put-lines .ensures .0) (omega arith)) (accepted-text _ _ _ (c₆ .if1 .left) (c₄ .bound-ones .ensures)), omega (arith, c₅ .put-text2 .ensures .end, c₃ .put-number2 .ensures .1, c₂ .put-byte2 .ensures .end, c₁ .put-lines .ensures .1))
+    let c₆ = c₅ .before .before .before in (
+      written-as (written-then (written-then (written-then (c₅ .put-text2 .ensures) (c₃ .put-number2 .ensures .0) (omega arith)) (c₂ .put-byte2 .ensures) (omega arith))
+          (c₁ .put-lines .ensures .0) (omega arith)) (accepted-text _ _ _ (c₆ .if1 .left) (c₄ .bound-ones .ensures)),
+      omega
+          (arith, c₅ .put-text2 .ensures .end, c₃ .put-number2 .ensures .1, c₂ .put-byte2 .ensures .end, c₁ .put-lines .ensures .1),
+    )
 
 pub put-card-spec : {M : Type 1} → statement M
 put-card-spec =

@@ -45,8 +45,7 @@ same-length c = search needs
 returns : tie.Need-returns
 unfolding datatypeText ascii
 returns c =
-    let c₁ = c .before .before in
-    let c₂ = c₁ .before .before .before in
+    let c₁ = c .before .before in let c₂ = c₁ .before .before .before in
     (written-as (c₁ .put-text .ensures) (sym (ap datatypeText (c₂ .match .keys1))), omega (arith, c₁ .put-text .ensures .end))
 
 same-length-2 : tie.Need-same-length-2
@@ -55,8 +54,7 @@ same-length-2 c = search needs
 returns-2 : tie.Need-returns-2
 unfolding datatypeText ascii
 returns-2 c =
-    let c₁ = c .before .before in
-    let c₂ = c₁ .before .before .before in
+    let c₁ = c .before .before in let c₂ = c₁ .before .before .before in
     (written-as (c₁ .put-text2 .ensures) (sym (ap datatypeText (c₂ .match .keys2))), omega (arith, c₁ .put-text2 .ensures .end))
 
 same-length-3 : tie.Need-same-length-3
@@ -65,8 +63,7 @@ same-length-3 c = search needs
 returns-3 : tie.Need-returns-3
 unfolding datatypeText ascii
 returns-3 c =
-    let c₁ = c .before .before in
-    let c₂ = c₁ .before .before .before in
+    let c₁ = c .before .before in let c₂ = c₁ .before .before .before in
     (written-as (c₁ .put-text3 .ensures) (sym (ap datatypeText (c₂ .match .keys3))), omega (arith, c₁ .put-text3 .ensures .end))
 
 same-length-4 : tie.Need-same-length-4
@@ -75,8 +72,7 @@ same-length-4 c = search needs
 returns-4 : tie.Need-returns-4
 unfolding datatypeText ascii
 returns-4 c =
-    let c₁ = c .before .before in
-    let c₂ = c₁ .before .before .before in
+    let c₁ = c .before .before in let c₂ = c₁ .before .before .before in
     (written-as (c₁ .put-text4 .ensures) (sym (ap datatypeText (c₂ .match .keys4))), omega (arith, c₁ .put-text4 .ensures .end))
 
 same-length-5 : tie.Need-same-length-5
@@ -85,12 +81,15 @@ same-length-5 c = search needs
 returns-5 : tie.Need-returns-5
 unfolding datatypeText ascii
 returns-5 c =
-    let c₁ = c .before .before in
-    let c₂ = c₁ .before .before .before in
+    let c₁ = c .before .before in let c₂ = c₁ .before .before .before in
     (written-as (c₁ .put-text5 .ensures) (sym (ap datatypeText (c₂ .match .keys5))), omega (arith, c₁ .put-text5 .ensures .end))
 
 returns-6 : tie.Need-returns-6
-returns-6 c = (written-as (written-none _ _) (no-datatype _ (c .match .rest .0 .0 .0 .0 .1) (c .match .rest .0 .0 .0 .1) (c .match .rest .0 .0 .1) (c .match .rest .0 .1) (c .match .rest .1)), omega arith)
+returns-6 c = (
+  written-as (written-none _ _)
+      (no-datatype _ (c .match .rest .0 .0 .0 .0 .1) (c .match .rest .0 .0 .0 .1) (c .match .rest .0 .0 .1) (c .match .rest .0 .1) (c .match .rest .1)),
+  omega arith,
+)
 
 pub put-datatype-spec : {M : Type 1} → statement M
 put-datatype-spec =

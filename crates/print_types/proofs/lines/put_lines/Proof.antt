@@ -38,9 +38,7 @@ loop-less c = search needs
 
 loop-again : tie.Need-loop-again Inv-loop μ-loop
 loop-again c =
-    let c₁ = c .before .before in
-    let c₂ = c₁ .before .before .before .before in
-    let c₃ = c₂ .before .before .before in
+    let c₁ = c .before .before in let c₂ = c₁ .before .before .before .before in let c₃ = c₂ .before .before .before in
     let more = lines-next (c₃ .args .codes .now) (c₂ .loop .i) (omega arith) in (
       omega arith,
       omega (arith, c₁ .put-bound .ensures .1),
@@ -53,8 +51,7 @@ same-length c = search needs
 
 returns : tie.Need-returns Inv-loop μ-loop
 returns c =
-    let c₁ = c .before in
-    let c₂ = c₁ .before .before .before in
+    let c₁ = c .before in let c₂ = c₁ .before .before .before in
     (written-as (c₁ .loop .inv .3) (lines-all (c₂ .args .codes .now) (c₁ .loop .i) (omega arith)), omega arith)
 
 pub put-lines-spec : {M : Type 1} → statement M

@@ -17,8 +17,7 @@ same-length c = search needs
 
 returns : tie.Need-returns
 returns c =
-    let c₁ = c .before .before in
-    let c₂ = c₁ .before .before in
+    let c₁ = c .before .before in let c₂ = c₁ .before .before in
     (written-as (c₁ .put-byte .ensures) (one-digit _ (c₂ .if1 .taken)), omega (arith, c₁ .put-byte .ensures .end))
 
 add-put-byte-2 : tie.Need-add-put-byte-2
@@ -38,12 +37,12 @@ same-length-2 c = search needs
 
 returns-2 : tie.Need-returns-2
 returns-2 c =
-    let c₁ = c .before .before in
-    let c₂ = c₁ .before .before .before .before in
-    let c₃ = c₂ .before .before in
-    let c₄ = c₃ .before in
-    let c₅ = c₄ .before .before in
-    (written-as (written-then (c₂ .put-byte2 .ensures) (c₁ .put-byte3 .ensures) (omega (arith, c₅ .pre))) (two-digits _ (c₄ .if1 .left) (c₃ .if2 .taken)), omega (arith, c₂ .put-byte2 .ensures .end, c₁ .put-byte3 .ensures .end))
+    let c₁ = c .before .before in let c₂ = c₁ .before .before .before .before in let c₃ = c₂ .before .before in let c₄ = c₃ .before in
+    let c₅ = c₄ .before .before in (
+      written-as (written-then (c₂ .put-byte2 .ensures) (c₁ .put-byte3 .ensures) (omega (arith, c₅ .pre))) (two-digits _ (c₄ .if1 .left) (c₃ .if2 .taken)),
+      omega
+          (arith, c₂ .put-byte2 .ensures .end, c₁ .put-byte3 .ensures .end),
+    )
 
 add-put-byte-4 : tie.Need-add-put-byte-4
 add-put-byte-4 c = search needs
@@ -68,12 +67,12 @@ same-length-3 c = search needs
 
 returns-3 : tie.Need-returns-3
 returns-3 c =
-    let c₁ = c .before .before in
-    let c₂ = c₁ .before .before .before .before in
-    let c₃ = c₂ .before .before .before .before in
-    let c₄ = c₃ .before .before in
-    let c₅ = c₄ .before .before .before in
-    (written-as (written-then (written-then (c₃ .put-byte4 .ensures) (c₂ .put-byte5 .ensures) (omega (arith, c₅ .pre))) (c₁ .put-byte6 .ensures) (omega (arith, c₅ .pre))) (three-digits _ (c₄ .if2 .left) (omega arith)), omega (arith, c₃ .put-byte4 .ensures .end, c₂ .put-byte5 .ensures .end, c₁ .put-byte6 .ensures .end))
+    let c₁ = c .before .before in let c₂ = c₁ .before .before .before .before in let c₃ = c₂ .before .before .before .before in let c₄ = c₃ .before .before in
+    let c₅ = c₄ .before .before .before in (
+      written-as (written-then (written-then (c₃ .put-byte4 .ensures) (c₂ .put-byte5 .ensures) (omega (arith, c₅ .pre))) (c₁ .put-byte6 .ensures) (omega (arith, c₅ .pre)))
+          (three-digits _ (c₄ .if2 .left) (omega arith)),
+      omega (arith, c₃ .put-byte4 .ensures .end, c₂ .put-byte5 .ensures .end, c₁ .put-byte6 .ensures .end),
+    )
 
 pub put-number-spec : {M : Type 1} → statement M
 put-number-spec =

@@ -24,8 +24,7 @@ same-length c = search needs
 
 returns : tie.Need-returns
 returns c =
-    let c₁ = c .before .before in
-    let c₂ = c₁ .before .before .before .before in
+    let c₁ = c .before .before in let c₂ = c₁ .before .before .before .before in
     written-text _ _ _ _ (c₂ .pre) (c₁ .copy .ensures .1)
 
 pub put-text-spec : {M : Type 1} → statement M

@@ -15,8 +15,7 @@ same-length c = search needs
 
 returns : tie.Need-returns
 returns c =
-    let c₁ = c .before .before in
-    let c₂ = c₁ .before .before in
+    let c₁ = c .before .before in let c₂ = c₁ .before .before in
     (written-as (c₁ .put-datatype .ensures .0) (plain-text _ (c₂ .if1 .taken)), omega (arith, c₁ .put-datatype .ensures .1))
 
 slice-aggregate-put-text : tie.Need-slice-aggregate-put-text
@@ -40,12 +39,12 @@ same-length-2 c = search needs
 returns-2 : tie.Need-returns-2
 unfolding ascii
 returns-2 c =
-    let c₁ = c .before .before in
-    let c₂ = c₁ .before .before .before .before in
-    let c₃ = c₂ .before .before .before .before in
-    let c₄ = c₃ .before .before .before in
-    let c₅ = c₄ .before .before in
-    (written-as (written-then (written-then (c₃ .put-text .ensures) (c₂ .put-datatype2 .ensures .0) (omega (arith, c₅ .pre))) (c₁ .put-byte .ensures) (omega (arith, c₅ .pre))) (range-text _ (c₄ .if1 .left)), omega (arith, c₃ .put-text .ensures .end, c₂ .put-datatype2 .ensures .1, c₁ .put-byte .ensures .end))
+    let c₁ = c .before .before in let c₂ = c₁ .before .before .before .before in let c₃ = c₂ .before .before .before .before in let c₄ = c₃ .before .before .before in
+    let c₅ = c₄ .before .before in (
+      written-as (written-then (written-then (c₃ .put-text .ensures) (c₂ .put-datatype2 .ensures .0) (omega (arith, c₅ .pre))) (c₁ .put-byte .ensures) (omega (arith, c₅ .pre)))
+          (range-text _ (c₄ .if1 .left)),
+      omega (arith, c₃ .put-text .ensures .end, c₂ .put-datatype2 .ensures .1, c₁ .put-byte .ensures .end),
+    )
 
 pub put-type-spec : {M : Type 1} → statement M
 put-type-spec =

@@ -25,12 +25,14 @@ same-length c = search needs
 returns : tie.Need-returns
 unfolding ascii
 returns c =
-    let c₁ = c .before .before in
-    let c₂ = c₁ .before .before .before .before in
-    let c₃ = c₂ .before .before .before .before in
-    let c₄ = c₃ .before .before .before .before in
-    let c₅ = c₄ .before .before .before in
-    (written-as (written-then (written-then (written-then (c₄ .put-number .ensures .0) (c₃ .put-byte .ensures) (omega (arith, c₅ .pre))) (c₂ .put-type .ensures .0) (omega (arith, c₅ .pre))) (c₁ .put-byte2 .ensures) (omega (arith, c₅ .pre))) (line-text _ _), omega (arith, c₄ .put-number .ensures .1, c₃ .put-byte .ensures .end, c₂ .put-type .ensures .1, c₁ .put-byte2 .ensures .end))
+    let c₁ = c .before .before in let c₂ = c₁ .before .before .before .before in let c₃ = c₂ .before .before .before .before in let c₄ = c₃ .before .before .before .before in
+    let c₅ = c₄ .before .before .before in (
+      written-as (written-then
+          (written-then (written-then (c₄ .put-number .ensures .0) (c₃ .put-byte .ensures) (omega (arith, c₅ .pre))) (c₂ .put-type .ensures .0) (omega (arith, c₅ .pre)))
+          (c₁ .put-byte2 .ensures) (omega (arith, c₅ .pre))) (line-text _ _),
+      omega
+          (arith, c₄ .put-number .ensures .1, c₃ .put-byte .ensures .end, c₂ .put-type .ensures .1, c₁ .put-byte2 .ensures .end),
+    )
 
 pub put-variable-spec : {M : Type 1} → statement M
 put-variable-spec =

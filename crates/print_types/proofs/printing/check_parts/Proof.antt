@@ -1,5 +1,7 @@
 -- The parts as they are cut are those of the definition.
 use mathlib.Core.Path.{ap, _∙_}
+use Rattle.definitions.specs.Result.{Result}
+use Rattle.definitions.specs.Calls.{Checked}
 use Rattle.card.specs.Check.{cardOf}
 use Rattle.print_types.proofs.Printed.{parts-checked}
 use borrow.Author.Needs.{needs}
@@ -56,11 +58,10 @@ check-card-requires c κs = search needs
 
 returns : tie.Need-returns
 returns c =
-    let c₁ = c .before .before in
-    let c₂ = c₁ .before .before .before .before .before .before in
-    let c₃ = c₂ .before in
-    let c₄ = c₃ .before in
-    c₁ .check-card .ensures .0 ∙ ap cardOf (parts-checked _ (c₄ .before .terms-end .ensures .0) (c₄ .schema-end .ensures .0) (c₃ .least .ensures) (c₂ .least2 .ensures))
+    let c₁ = c .before .before in let c₂ = c₁ .before .before .before .before .before .before in let c₃ = c₂ .before in let c₄ = c₃ .before in
+    c₁ .check-card .ensures .0
+    ∙ ap (λ (m : Result Checked). cardOf m (c₁ .check-card .result .entries))
+    (parts-checked _ (c₄ .before .terms-end .ensures .0) (c₄ .schema-end .ensures .0) (c₃ .least .ensures) (c₂ .least2 .ensures))
 
 pub check-parts-spec : {M : Type 1} → statement M
 check-parts-spec =

@@ -17,9 +17,7 @@ same-length c = search needs
 
 returns : tie.Need-returns
 returns c =
-    let c₁ = c .before .before in
-    let c₂ = c₁ .before .before .before in
-    let c₃ = c₂ .before .before .before in
+    let c₁ = c .before .before in let c₂ = c₁ .before .before .before in let c₃ = c₂ .before .before .before in
     (written-as (c₁ .put-card .ensures .0) (too-long _ _ (c₂ .if1 .taken)), omega (arith, c₁ .put-card .ensures .1, c₃ .pre))
 
 check-parts-requires : tie.Need-check-parts-requires
@@ -36,10 +34,7 @@ same-length-2 c = search needs
 
 returns-2 : tie.Need-returns-2
 returns-2 c =
-    let c₁ = c .before .before in
-    let c₂ = c₁ .before .before .before .before in
-    let c₃ = c₂ .before in
-    let c₄ = c₃ .before .before .before in
+    let c₁ = c .before .before in let c₂ = c₁ .before .before .before .before in let c₃ = c₂ .before in let c₄ = c₃ .before .before .before in
     (written-as (c₁ .put-card2 .ensures .0) (card-printed _ (c₃ .if1 .left) (c₂ .check-parts .ensures)), omega (arith, c₁ .put-card2 .ensures .1, c₄ .pre))
 
 pub print-spec : {M : Type 1} → statement M

@@ -30,8 +30,7 @@ body-width-requires c κs = search needs
 
 returns : tie.Need-returns Inv-loop μ-loop
 returns c =
-    let c₁ = c .before in
-    let c₂ = c₁ .before .before .before in
+    let c₁ = c .before in let c₂ = c₁ .before .before .before in
     (ends-here _ _ (width-none _ (sym (c₁ .body-width .ensures) ∙ c .if1 .taken)) (c₂ .loop .inv .1), omega arith)
 
 add-next : tie.Need-add-next Inv-loop μ-loop
@@ -39,9 +38,7 @@ add-next c = search needs
 
 add-next-2 : tie.Need-add-next-2 Inv-loop μ-loop
 add-next-2 c =
-    let c₁ = c .before in
-    let c₂ = c₁ .before .before .before in
-    let c₃ = c₂ .before .before in
+    let c₁ = c .before in let c₂ = c₁ .before .before .before in let c₃ = c₂ .before .before in
     omega (arith, width-few (ofTermKind (byte (c₃ .args .s .now) (c₂ .loop .«at»))), c₁ .body-width .ensures)
 
 loop-less : tie.Need-loop-less Inv-loop μ-loop
@@ -49,10 +46,12 @@ loop-less c = omega arith
 
 loop-again : tie.Need-loop-again Inv-loop μ-loop
 loop-again c =
-    let c₁ = c .before in
-    let c₂ = c₁ .before .before .before in
-    let c₃ = c₂ .before .before in
-    (omega (arith, width-few (ofTermKind (byte (c₃ .args .s .now) (c₂ .loop .«at»))), c₁ .body-width .ensures), ends-next _ _ (width-some _ (λ z. c .if1 .left (c₁ .body-width .ensures ∙ z))) (omega arith) (c₂ .loop .inv .1) (omega (arith, c₁ .body-width .ensures)))
+    let c₁ = c .before in let c₂ = c₁ .before .before .before in
+    let c₃ = c₂ .before .before in (
+      omega (arith, width-few (ofTermKind (byte (c₃ .args .s .now) (c₂ .loop .«at»))), c₁ .body-width .ensures),
+      ends-next _ _
+          (width-some _ (λ z. c .if1 .left (c₁ .body-width .ensures ∙ z))) (omega arith) (c₂ .loop .inv .1) (omega (arith, c₁ .body-width .ensures)),
+    )
 
 returns-2 : tie.Need-returns-2 Inv-loop μ-loop
 returns-2 c = (ends-out _ _ refl (omega arith) (c .before .loop .inv .1), omega arith)

@@ -47,7 +47,7 @@ module _ (t : ℕ) where
   start c = c .before .before .before .before
 
   here : (c : lts.After-shared-slice-known4 (calls t) (eval-cond-at t) eval-cond.Post)
-      → CondAt t (start c .args .script .now) (start c .args .terms) (start c .args .left) (start c .args .at)
+      → CondAt t (start c .args .script .now) (start c .args .context .loaded) (start c .args .left) (start c .args .at)
   here c = cond-at _ _ _ _ _ (start c .pre .0) (start c .pre .1 .0)
 
   eval-cond-requires : lts.Need-eval-cond-requires (calls t) (eval-cond-at t) eval-cond.Post
@@ -72,7 +72,7 @@ module _ (t : ℕ) where
   eval-expr-requires c κs = (here (c .before) .regex (c .match .keys6) .rest .child, start (c .before) .pre .1 .1)
 
   regex-requires : lts.Need-regex-requires (calls t) (eval-cond-at t) eval-cond.Post
-  regex-requires c κs = (good-value _ _ _ _ (start (c .before .before) .pre .1 .1) (c .eval-expr .ensures), omega (arith, here (c .before .before) .regex (c .before .match .keys6) .room))
+  regex-requires c κs = (good-value _ _ _ (start (c .before .before) .pre .1 .1) (c .eval-expr .ensures), omega (arith, here (c .before .before) .regex (c .before .match .keys6) .room))
 
   add-text-2 : lts.Need-add-text-2 (calls t) (eval-cond-at t) eval-cond.Post
   add-text-2 c = omega (arith, here (c .before) .langMatches (c .match .keys7) .room)
@@ -82,7 +82,7 @@ module _ (t : ℕ) where
 
   lang-matches-requires : lts.Need-lang-matches-requires (calls t) (eval-cond-at t) eval-cond.Post
   lang-matches-requires c κs =
-      (good-value _ _ _ _ (start (c .before .before) .pre .1 .1) (c .eval-expr2 .ensures), omega (arith, here (c .before .before) .langMatches (c .before .match .keys7) .room))
+      (good-value _ _ _ (start (c .before .before) .pre .1 .1) (c .eval-expr2 .ensures), omega (arith, here (c .before .before) .langMatches (c .before .match .keys7) .room))
 
   eval-expr-requires-3 : lts.Need-eval-expr-requires-3 (calls t) (eval-cond-at t) eval-cond.Post
   eval-expr-requires-3 c κs = (here (c .before) .equal (c .match .keys8) .first, start (c .before) .pre .1 .1)
@@ -91,7 +91,7 @@ module _ (t : ℕ) where
   eval-expr-requires-4 c κs = (here (c .before .before) .equal (c .before .match .keys8) .second (c .eval-expr3 .ensures), start (c .before .before) .pre .1 .1)
 
   equal-requires : lts.Need-equal-requires (calls t) (eval-cond-at t) eval-cond.Post
-  equal-requires c κs = let l = start (c .before .before .before) .pre .1 .1 in (good-value _ _ _ _ l (c .before .eval-expr3 .ensures), good-value _ _ _ _ l (c .eval-expr4 .ensures))
+  equal-requires c κs = let l = start (c .before .before .before) .pre .1 .1 in (good-value _ _ _ l (c .before .eval-expr3 .ensures), good-value _ _ _ l (c .eval-expr4 .ensures))
 
   eval-expr-requires-5 : lts.Need-eval-expr-requires-5 (calls t) (eval-cond-at t) eval-cond.Post
   eval-expr-requires-5 c κs = (here (c .before) .less (c .match .rest) .first, start (c .before) .pre .1 .1)
@@ -100,7 +100,7 @@ module _ (t : ℕ) where
   eval-expr-requires-6 c κs = (here (c .before .before) .less (c .before .match .rest) .second (c .eval-expr5 .ensures), start (c .before .before) .pre .1 .1)
 
   less-requires : lts.Need-less-requires (calls t) (eval-cond-at t) eval-cond.Post
-  less-requires c κs = let l = start (c .before .before .before) .pre .1 .1 in (good-value _ _ _ _ l (c .before .eval-expr5 .ensures), good-value _ _ _ _ l (c .eval-expr6 .ensures))
+  less-requires c κs = let l = start (c .before .before .before) .pre .1 .1 in (good-value _ _ _ l (c .before .eval-expr5 .ensures), good-value _ _ _ l (c .eval-expr6 .ensures))
 
   returns : lts.Need-returns (calls t) (eval-cond-at t) eval-cond.Post
   returns c = leaf-walked (here (c .before) .no (c .match .keys1)) (no-truth _ _ _)

@@ -53,32 +53,32 @@ module _ (t : ℕ) where
   start c = c .before .before .before .before
 
   here : (c : lts.After-shared-slice-known4 (calls t) (eval-expr-at t) eval-expr.Post)
-      → ExprAt t (start c .args .script .now) (start c .args .terms) (start c .args .left) (start c .args .at)
+      → ExprAt t (start c .args .script .now) (start c .args .context .loaded) (start c .args .left) (start c .args .at)
   here c = expr-at _ _ _ _ _ (start c .pre .0) (start c .pre .1 .0)
 
   name-at-requires : lts.Need-name-at-requires (calls t) (eval-expr-at t) eval-expr.Post
   name-at-requires c κs = (here (c .before) .name (c .if1 .taken) .child, start (c .before) .pre .1 .1 .variables)
 
   term-value-requires : lts.Need-term-value-requires (calls t) (eval-expr-at t) eval-expr.Post
-  term-value-requires c κs = start (c .before .before) .pre .1 .1
+  term-value-requires c κs = let l = start (c .before .before) .pre .1 .1 in ((l .terms, l .tabled), l .told)
 
   returns : lts.Need-returns (calls t) (eval-expr-at t) eval-expr.Post
   returns c = here (c .before .before .before) .name (c .before .before .if1 .taken) .node (c .before .name-at .ensures) (λ n h. name-value _ _ _ n _ _ h (c .term-value .ensures))
 
   clock-value-requires : lts.Need-clock-value-requires (calls t) (eval-expr-at t) eval-expr.Post
-  clock-value-requires c κs = start (c .before .before) .pre .1 .1 .clocked
+  clock-value-requires c κs = start (c .before .before) .pre .1 .1 .told .clocked
 
   eval-expr-requires : lts.Need-eval-expr-requires (calls t) (eval-expr-at t) eval-expr.Post
   eval-expr-requires c κs = let n = here (c .before .before) .str (c .match .keys2) in (n .falls, (n .child, start (c .before .before) .pre .1 .1))
 
   text-of-requires : lts.Need-text-of-requires (calls t) (eval-expr-at t) eval-expr.Post
-  text-of-requires c κs = good-value _ _ _ _ (start (c .before .before .before) .pre .1 .1) (c .eval-expr .ensures)
+  text-of-requires c κs = good-value _ _ _ (start (c .before .before .before) .pre .1 .1) (c .eval-expr .ensures)
 
   eval-expr-requires-2 : lts.Need-eval-expr-requires-2 (calls t) (eval-expr-at t) eval-expr.Post
   eval-expr-requires-2 c κs = let n = here (c .before .before) .abs (c .match .keys3) in (n .falls, (n .child, start (c .before .before) .pre .1 .1))
 
   abs-requires : lts.Need-abs-requires (calls t) (eval-expr-at t) eval-expr.Post
-  abs-requires c κs = good-value _ _ _ _ (start (c .before .before .before) .pre .1 .1) (c .eval-expr2 .ensures)
+  abs-requires c κs = good-value _ _ _ (start (c .before .before .before) .pre .1 .1) (c .eval-expr2 .ensures)
 
   eval-expr-requires-3 : lts.Need-eval-expr-requires-3 (calls t) (eval-expr-at t) eval-expr.Post
   eval-expr-requires-3 c κs = let n = here (c .before .before) .plus (c .match .keys4) in (n .falls, (n .first, start (c .before .before) .pre .1 .1))
@@ -89,7 +89,7 @@ module _ (t : ℕ) where
       (n .falls, (n .second (c .eval-expr3 .ensures), start (c .before .before .before) .pre .1 .1))
 
   plus-requires : lts.Need-plus-requires (calls t) (eval-expr-at t) eval-expr.Post
-  plus-requires c κs = let l = start (c .before .before .before .before) .pre .1 .1 in (good-value _ _ _ _ l (c .before .eval-expr3 .ensures), good-value _ _ _ _ l (c .eval-expr4 .ensures))
+  plus-requires c κs = let l = start (c .before .before .before .before) .pre .1 .1 in (good-value _ _ _ l (c .before .eval-expr3 .ensures), good-value _ _ _ l (c .eval-expr4 .ensures))
 
   eval-expr-requires-5 : lts.Need-eval-expr-requires-5 (calls t) (eval-expr-at t) eval-expr.Post
   eval-expr-requires-5 c κs = let n = here (c .before .before) .minusLast (c .before .if1 .left) (c .match .rest) in (n .falls, (n .first, start (c .before .before) .pre .1 .1))
@@ -100,7 +100,7 @@ module _ (t : ℕ) where
       (n .falls, (n .second (c .eval-expr5 .ensures), start (c .before .before .before) .pre .1 .1))
 
   minus-requires : lts.Need-minus-requires (calls t) (eval-expr-at t) eval-expr.Post
-  minus-requires c κs = let l = start (c .before .before .before .before) .pre .1 .1 in (good-value _ _ _ _ l (c .before .eval-expr5 .ensures), good-value _ _ _ _ l (c .eval-expr6 .ensures))
+  minus-requires c κs = let l = start (c .before .before .before .before) .pre .1 .1 in (good-value _ _ _ l (c .before .eval-expr5 .ensures), good-value _ _ _ l (c .eval-expr6 .ensures))
 
   returns-2 : lts.Need-returns-2 (calls t) (eval-expr-at t) eval-expr.Post
   returns-2 c = leaf-walked (here (c .before .before .before) .now (c .before .match .keys1)) (now-value _ _ _ (c .clock-value .ensures))

@@ -32,14 +32,14 @@ module _ (t : ℕ) where
   start c = c .before .before .before .before .before
 
   here : (c : lts.After-shared-slice-known5 (calls t) (eval-query-at t) eval-query.Post)
-      → QueryAt t (start c .args .script .now) (start c .args .terms) (start c .args .left) (start c .args .at)
+      → QueryAt t (start c .args .script .now) (start c .args .context .loaded) (start c .args .left) (start c .args .at)
   here c = query-at _ _ _ _ _ (start c .pre .0) (start c .pre .1 .0)
 
   names-at-requires : lts.Need-names-at-requires (calls t) (eval-query-at t) eval-query.Post
   names-at-requires c κs = (here (c .before) .pattern (c .match .keys1) .all, start (c .before) .pre .1 .1 .0 .variables)
 
   scan-requires : lts.Need-scan-requires (calls t) (eval-query-at t) eval-query.Post
-  scan-requires c κs = start (c .before .before) .pre .1 .1 .1
+  scan-requires c κs = start (c .before .before) .pre .1 .1 .1 .room
 
   eval-query-requires : lts.Need-eval-query-requires (calls t) (eval-query-at t) eval-query.Post
   eval-query-requires c κs = let n = here (c .before) .both (c .match .keys2) in (n .falls, (n .first, start (c .before) .pre .1 .1))

@@ -32,7 +32,7 @@ module _ (t : ℕ) where
   start c = c .before .before .before
 
   here : (c : lts.After-shared-slice-known3 (calls t) (known-cond-at t) known-cond.Post)
-      → CondAt t (start c .args .script .now) (start c .args .terms) (start c .args .left) (start c .args .at)
+      → CondAt t (start c .args .script .now) (start c .args .loaded) (start c .args .left) (start c .args .at)
   here c = cond-at _ _ _ _ _ (start c .pre .0) (start c .pre .1 .0)
 
   known-cond-requires : lts.Need-known-cond-requires (calls t) (known-cond-at t) known-cond.Post

@@ -34,7 +34,7 @@ module _ (t : ℕ) where
   start c = c .before .before .before
 
   here : (c : lts.After-shared-slice-known3 (calls t) (known-expr-at t) known-expr.Post)
-      → ExprAt t (start c .args .script .now) (start c .args .terms) (start c .args .left) (start c .args .at)
+      → ExprAt t (start c .args .script .now) (start c .args .loaded) (start c .args .left) (start c .args .at)
   here c = expr-at _ _ _ _ _ (start c .pre .0) (start c .pre .1 .0)
 
   name-at-requires : lts.Need-name-at-requires (calls t) (known-expr-at t) known-expr.Post

@@ -1,7 +1,7 @@
 -- `query::names::name_at` meets its contract: what loads is a variable or a constant. Assumes nothing.
 use borrow.Author.Needs.{needs}
 use native.Mathlib.Omega.{arith}
-use mathlib.Core.Path.{_≡_, ap, _∙_}
+use mathlib.Core.Path.{ap, _∙_}
 use Rattle.definitions.specs.Tree.{var}
 use Rattle.laws.proofs.Records.{name-inside, variable-of, constant-of, name-last}
 use Rattle.laws.proofs.Walked.{leaf-walked}
@@ -15,11 +15,11 @@ shared-slice-read-kind c = name-inside _ _ _ _ (c .before .before .before .pre .
 add-first : tie.Need-add-first
 add-first c = omega (arith, name-inside _ _ _ _ (c .before .before .before .pre .0))
 
-shared-slice-read-wide : tie.Need-shared-slice-read-wide
-shared-slice-read-wide c = omega (arith, variable-of _ _ _ _ (c .before .before .before .before .before .pre .0) (c .before .if1 .taken))
+shared-slice-read-index : tie.Need-shared-slice-read-index
+shared-slice-read-index c = omega (arith, variable-of _ _ _ _ (c .before .before .before .before .before .pre .0) (c .before .if1 .taken))
 
-wide-requires : tie.Need-wide-requires
-wide-requires c κs = search needs
+index-requires : tie.Need-index-requires
+index-requires c κs = search needs
 
 variable-code-requires : tie.Need-variable-code-requires
 variable-code-requires c κs = omega (arith, variable-of _ _ _ _ (c .before .before .before .before .before .before .pre .0) (c .before .before .if1 .taken))
@@ -28,7 +28,10 @@ add-next : tie.Need-add-next
 add-next c = omega (arith, variable-of _ _ _ _ (c .before .before .before .before .before .before .before .pre .0) (c .before .before .before .if1 .taken))
 
 returns : tie.Need-returns
-returns c = leaf-walked (variable-of _ _ _ _ (c .before .before .before .before .before .before .before .pre .0) (c .before .before .before .if1 .taken) .2) (c .variable-code .ensures ∙ ap (λ w. codeOf (c .before .before .before .before .before .before .before .args .known .now) (c .before .before .before .before .before .before .before .args .v) (var w)) (c .before .wide .ensures), variable-of _ _ _ _ (c .before .before .before .before .before .before .before .pre .0) (c .before .before .before .if1 .taken) .1)
+returns c =
+    let c₁ = c .before in let c₂ = c₁ .before .before in let c₃ = c₂ .before .before .before .before in
+    leaf-walked (variable-of _ _ _ _ (c₃ .pre .0) (c₂ .if1 .taken) .2)
+    (c .variable-code .ensures ∙ ap (λ w. codeOf (c₃ .args .known .now) (c₃ .args .v) (var w)) (c₁ .index .ensures), variable-of _ _ _ _ (c₃ .pre .0) (c₂ .if1 .taken) .1)
 
 word-at-requires : tie.Need-word-at-requires
 word-at-requires c κs = omega (arith, constant-of _ _ _ _ (c .before .before .before .before .pre .0) (name-last _ _ _ _ (c .before .before .before .before .pre .0) (tt, c .if1 .left)))
@@ -38,7 +41,9 @@ add-next-2 c = omega (arith, constant-of _ _ _ _ (c .before .before .before .bef
 
 returns-2 : tie.Need-returns-2
 unfolding codeOf
-returns-2 c = leaf-walked (constant-of _ _ _ _ (c .before .before .before .before .before .pre .0) (name-last _ _ _ _ (c .before .before .before .before .before .pre .0) (tt, c .before .if1 .left)) .2) (c .word-at .ensures .0, omega arith)
+returns-2 c =
+    let c₁ = c .before in let c₂ = c₁ .before .before .before .before in
+    leaf-walked (constant-of _ _ _ _ (c₂ .pre .0) (name-last _ _ _ _ (c₂ .pre .0) (tt, c₁ .if1 .left)) .2) (c .word-at .ensures .0, omega arith)
 
 pub name-at-spec : {M : Type 1} → statement M
 name-at-spec =
@@ -46,8 +51,8 @@ name-at-spec =
     (tie.spec
     shared-slice-read-kind
     add-first
-    shared-slice-read-wide
-    wide-requires
+    shared-slice-read-index
+    index-requires
     variable-code-requires
     add-next
     returns

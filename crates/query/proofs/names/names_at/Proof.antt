@@ -1,5 +1,5 @@
 -- `query::names::names_at` meets its contract: four names, one after the other. Assumes nothing.
-use mathlib.Core.Path.{_≡_, refl}
+use mathlib.Core.Path.{refl}
 use Rattle.laws.proofs.Productions.{four-at}
 use Rattle.query.proofs.CodeLaws.{four-codes}
 use Rattle.query.proofs.names.names_at.Statement.{statement}

@@ -5,17 +5,17 @@ use borrow.Author.Needs.{needs}
 use Rattle.query.proofs.scan.reaches.Statement.{statement}
 use Rattle.query.proofs.scan.reaches.Tie as tie
 
-add-wide : tie.Need-add-wide
-add-wide c = search needs
+add-number-index : tie.Need-add-number-index
+add-number-index c = search needs
 
-mul-wide : tie.Need-mul-wide
-mul-wide c = search needs
+mul-number-index : tie.Need-mul-number-index
+mul-number-index c = search needs
 
-shared-slice-read-wide : tie.Need-shared-slice-read-wide
-shared-slice-read-wide c = search needs
+shared-slice-read-number-index : tie.Need-shared-slice-read-number-index
+shared-slice-read-number-index c = search needs
 
-wide-requires : tie.Need-wide-requires
-wide-requires c κs = search needs
+number-index-requires : tie.Need-number-index-requires
+number-index-requires c κs = search needs
 
 returns : tie.Need-returns
 returns c = search needs
@@ -33,10 +33,10 @@ pub reaches-spec : {M : Type 1} → statement M
 reaches-spec =
     tie.close
     (tie.spec
-    add-wide
-    mul-wide
-    shared-slice-read-wide
-    wide-requires
+    add-number-index
+    mul-number-index
+    shared-slice-read-number-index
+    number-index-requires
     returns
     returns-2
     returns-3

@@ -25,7 +25,9 @@ cast-scan-fixed-2 : tie.Need-cast-scan-fixed-2
 cast-scan-fixed-2 c = search needs
 
 scan-fixed-requires-2 : tie.Need-scan-fixed-requires-2
-scan-fixed-requires-2 c κs = (c .before .before .before .before .before .before .before .before .pre, (omega arith, (fixed-object _ (c .before .if3 .taken), c .before .before .before .before .before .sought-at .ensures)))
+scan-fixed-requires-2 c κs =
+    let c₁ = c .before in let c₂ = c₁ .before .before .before .before in let c₃ = c₂ .before .before .before in
+    (c₃ .pre, (omega arith, (fixed-object _ (c₁ .if3 .taken), c₂ .sought-at .ensures)))
 
 returns-3 : tie.Need-returns-3
 returns-3 c = search needs
@@ -34,7 +36,9 @@ cast-scan-fixed-3 : tie.Need-cast-scan-fixed-3
 cast-scan-fixed-3 c = search needs
 
 scan-fixed-requires-3 : tie.Need-scan-fixed-requires-3
-scan-fixed-requires-3 c κs = (c .before .before .before .before .before .before .before .before .before .before .pre, (omega arith, (fixed-property _ (c .before .if4 .taken), c .before .before .before .before .before .before .before .sought-at .ensures)))
+scan-fixed-requires-3 c κs =
+    let c₁ = c .before in let c₂ = c₁ .before .before .before .before .before .before in let c₃ = c₂ .before .before .before in
+    (c₃ .pre, (omega arith, (fixed-property _ (c₁ .if4 .taken), c₂ .sought-at .ensures)))
 
 returns-4 : tie.Need-returns-4
 returns-4 c = search needs
@@ -43,7 +47,9 @@ cast-scan-fixed-4 : tie.Need-cast-scan-fixed-4
 cast-scan-fixed-4 c = search needs
 
 scan-fixed-requires-4 : tie.Need-scan-fixed-requires-4
-scan-fixed-requires-4 c κs = (c .before .before .before .before .before .before .before .before .before .before .before .before .pre, (omega arith, (fixed-graph _ (c .before .if5 .taken), c .before .before .before .before .before .before .before .before .before .sought-at .ensures)))
+scan-fixed-requires-4 c κs =
+    let c₁ = c .before in let c₂ = c₁ .before .before .before .before .before .before .before .before in let c₃ = c₂ .before .before .before in
+    (c₃ .pre, (omega arith, (fixed-graph _ (c₁ .if5 .taken), c₂ .sought-at .ensures)))
 
 returns-5 : tie.Need-returns-5
 returns-5 c = search needs

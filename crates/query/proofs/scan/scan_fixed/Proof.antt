@@ -11,7 +11,8 @@ use Rattle.query.proofs.scan.scan_fixed.Statement.{statement}
 use Rattle.query.proofs.scan.scan_fixed.Tie as tie
 
 abbrev Inv-loop : tie.InvT-loop
-Inv-loop quads n codes place number given lo end best₀ i₀ at₀ best i at = (at ≡ 4 * i) × (i ≤ n) × (isScan (placesAt codes) lo end (rowsFrom n quads 0) ≡ isScan (placesAt codes) lo best (rowsFrom (n - i) quads at))
+Inv-loop quads n codes place number given lo end best₀ i₀ at₀ best i at = (at ≡ 4 * i) × (i ≤ n)
+    × (isScan (placesAt codes) lo end (rowsFrom n quads 0) ≡ isScan (placesAt codes) lo best (rowsFrom (n - i) quads at))
 
 abbrev μ-loop : tie.MeasureT-loop
 μ-loop quads n codes place number given lo end best₀ i₀ at₀ best i at = n - i
@@ -35,7 +36,9 @@ better-requires : tie.Need-better-requires Inv-loop μ-loop
 better-requires c κs = omega arith
 
 returns : tie.Need-returns Inv-loop μ-loop
-returns c = scan-done _ _ _ _ _ (scan-turn _ _ _ _ _ _ _ _ (c .before .before .before .before .before .before .before .loop .inv .2) (c .before .before .before .before .before .before .loop-test .taken) _ (c .before .better .ensures)) (omega (arith, c .if3 .taken))
+returns c =
+    let c₁ = c .before in let c₂ = c₁ .before .before .before .before .before in let c₃ = c₂ .before in
+    scan-done _ _ _ _ _ (scan-turn _ _ _ _ _ _ _ _ (c₃ .loop .inv .2) (c₂ .loop-test .taken) _ (c₁ .better .ensures)) (omega (arith, c .if3 .taken))
 
 add-at : tie.Need-add-at Inv-loop μ-loop
 add-at c = omega arith
@@ -47,7 +50,16 @@ loop-less : tie.Need-loop-less Inv-loop μ-loop
 loop-less c = omega arith
 
 loop-again : tie.Need-loop-again Inv-loop μ-loop
-loop-again c = (omega arith, omega arith, scan-turn _ _ _ _ _ _ _ _ (c .before .before .before .loop .inv .2) (c .before .before .loop-test .taken) _ (⊎-elim (λ w. w .5 ∙ w .3 .ensures) (⊎-elim (λ w. w .3 ∙ too-far _ _ _ (c .before .before .before .before .before .args .quads .now) (c .before .before .before .loop .at) _ (c .before .before .before .before .before .pre .1 .1 .1) (w .1 .ensures (w .2 .left))) (λ w. w .1 ∙ c .before .before .before .before .before .pre .1 .1 .0 _ _ (c .before .before .before .before .before .args .quads .now) (c .before .before .before .loop .at) (w .0 .left))) (c .if1 .came)))
+loop-again c =
+    let c₁ = c .before .before in let c₂ = c₁ .before in
+    let c₃ = c₂ .before .before in (
+      omega arith,
+      omega arith,
+      scan-turn _ _ _ _ _ _ _ _ (c₂ .loop .inv .2) (c₁ .loop-test .taken) _
+          (⊎-elim (λ w. w .5 ∙ w .3 .ensures)
+          (⊎-elim (λ w. w .3 ∙ too-far _ _ _ (c₃ .args .quads .now) (c₂ .loop .at) _ (c₃ .pre .1 .1 .1) (w .1 .ensures (w .2 .left)))
+          (λ w. w .1 ∙ c₃ .pre .1 .1 .0 _ _ (c₃ .args .quads .now) (c₂ .loop .at) (w .0 .left))) (c .if1 .came)),
+    )
 
 returns-2 : tie.Need-returns-2 Inv-loop μ-loop
 returns-2 c = scan-ends _ _ _ _ _ _ _ _ (c .before .loop .inv .2) (c .loop-test .left)

@@ -36,7 +36,10 @@ pair-ok-requires : tie.Need-pair-ok-requires Inv-loop μ-loop
 pair-ok-requires c κs = search needs
 
 returns-2 : tie.Need-returns-2 Inv-loop μ-loop
-returns-2 c = sym (c .before .before .before .before .before .loop .inv .0 ∙ pair-bad (c .before .before .before .before .before .before .before .before .args .s .now) (c .before .before .before .before .before .before .before .before .args .count) (c .before .before .before .before .before .loop .k) (c .before .before .before .before .before .loop .next) (omega arith) (sym (c .before .pair-ok .ensures) ∙ not-true (c .before .pair-ok .result) (c .if2 .taken)))
+returns-2 c =
+    let c₁ = c .before in let c₂ = c₁ .before .before .before .before in let c₃ = c₂ .before .before .before in
+    sym (c₂ .loop .inv .0
+    ∙ pair-bad (c₃ .args .s .now) (c₃ .args .count) (c₂ .loop .k) (c₂ .loop .next) (omega arith) (sym (c₁ .pair-ok .ensures) ∙ not-true (c₁ .pair-ok .result) (c .if2 .taken)))
 
 add-next : tie.Need-add-next Inv-loop μ-loop
 add-next c = omega arith
@@ -48,10 +51,19 @@ loop-less : tie.Need-loop-less Inv-loop μ-loop
 loop-less c = omega arith
 
 loop-again : tie.Need-loop-again Inv-loop μ-loop
-loop-again c = (c .before .before .before .before .before .loop .inv .0 ∙ pair-turn (c .before .before .before .before .before .before .before .before .args .s .now) (c .before .before .before .before .before .before .before .before .args .count) (c .before .before .before .before .before .loop .k) (c .before .before .before .before .before .loop .next) (omega arith) (sym (c .before .pair-ok .ensures) ∙ not-false (c .before .pair-ok .result) (c .if2 .left)), omega arith, omega arith)
+loop-again c =
+    let c₁ = c .before in let c₂ = c₁ .before .before .before .before in
+    let c₃ = c₂ .before .before .before in (
+      c₂ .loop .inv .0 ∙ pair-turn (c₃ .args .s .now) (c₃ .args .count) (c₂ .loop .k) (c₂ .loop .next) (omega arith)
+          (sym (c₁ .pair-ok .ensures) ∙ not-false (c₁ .pair-ok .result) (c .if2 .left)),
+      omega arith,
+      omega arith,
+    )
 
 returns-3 : tie.Need-returns-3 Inv-loop μ-loop
-returns-3 c = sym (c .before .loop .inv .0 ∙ pairs-done (c .before .before .before .before .args .s .now) (c .before .before .before .before .args .count) (c .before .loop .k) (c .before .loop .next) (omega arith) (omega arith))
+returns-3 c =
+    let c₁ = c .before in let c₂ = c₁ .before .before .before in
+    sym (c₁ .loop .inv .0 ∙ pairs-done (c₂ .args .s .now) (c₂ .args .count) (c₁ .loop .k) (c₁ .loop .next) (omega arith) (omega arith))
 
 pub pairs-ok-spec : {M : Type 1} → statement M
 pairs-ok-spec =

@@ -18,13 +18,17 @@ pieces-ok-requires : tie.Need-pieces-ok-requires
 pieces-ok-requires c κs = search needs
 
 returns : tie.Need-returns
-returns c = c .pieces-ok .ensures ∙ sym (anchored (c .before .before .before .before .args .s .now) (c .before .before .before .before .args .at) (c .before .before .before .before .pre) (c .before .if1 .taken))
+returns c =
+    let c₁ = c .before in let c₂ = c₁ .before .before .before in
+    c .pieces-ok .ensures ∙ sym (anchored (c₂ .args .s .now) (c₂ .args .at) (c₂ .pre) (c₁ .if1 .taken))
 
 pieces-ok-requires-2 : tie.Need-pieces-ok-requires-2
 pieces-ok-requires-2 c κs = search needs
 
 returns-2 : tie.Need-returns-2
-returns-2 c = c .pieces-ok2 .ensures ∙ sym (unanchored (c .before .before .before .before .args .s .now) (c .before .before .before .before .args .at) (c .before .before .before .before .pre) (c .before .if1 .left))
+returns-2 c =
+    let c₁ = c .before in let c₂ = c₁ .before .before .before in
+    c .pieces-ok2 .ensures ∙ sym (unanchored (c₂ .args .s .now) (c₂ .args .at) (c₂ .pre) (c₁ .if1 .left))
 
 pub pattern-ok-spec : {M : Type 1} → statement M
 pattern-ok-spec =

@@ -26,7 +26,9 @@ zeros-requires : tie.Need-zeros-requires Inv-loop μ-loop
 zeros-requires c κs = omega arith
 
 returns : tie.Need-returns Inv-loop μ-loop
-returns c = c .zeros .ensures ∙ sym (c .before .before .before .before .loop .inv ∙ pieces-zero (c .before .before .before .before .before .before .args .s .now) (c .before .before .before .before .loop .i) (c .before .before .before .before .before .before .args .end) (c .before .before .before .before .loop .atom) (omega arith) (omega arith) (c .before .if1 .taken))
+returns c =
+    let c₁ = c .before in let c₂ = c₁ .before .before .before in let c₃ = c₂ .before .before in
+    c .zeros .ensures ∙ sym (c₂ .loop .inv ∙ pieces-zero (c₃ .args .s .now) (c₂ .loop .i) (c₃ .args .end) (c₂ .loop .atom) (omega arith) (omega arith) (c₁ .if1 .taken))
 
 add-zeros : tie.Need-add-zeros Inv-loop μ-loop
 add-zeros c = omega arith
@@ -35,13 +37,18 @@ zeros-requires-2 : tie.Need-zeros-requires-2 Inv-loop μ-loop
 zeros-requires-2 c κs = omega arith
 
 returns-2 : tie.Need-returns-2 Inv-loop μ-loop
-returns-2 c = c .zeros2 .ensures ∙ sym (c .before .before .before .before .before .loop .inv ∙ pieces-end (c .before .before .before .before .before .before .before .args .s .now) (c .before .before .before .before .before .loop .i) (c .before .before .before .before .before .before .before .args .end) (c .before .before .before .before .before .loop .atom) (omega arith) (omega arith) (c .before .if2 .taken))
+returns-2 c =
+    let c₁ = c .before in let c₂ = c₁ .before .before .before .before in let c₃ = c₂ .before .before in
+    c .zeros2 .ensures ∙ sym (c₂ .loop .inv ∙ pieces-end (c₃ .args .s .now) (c₂ .loop .i) (c₃ .args .end) (c₂ .loop .atom) (omega arith) (omega arith) (c₁ .if2 .taken))
 
 may-follow-requires : tie.Need-may-follow-requires Inv-loop μ-loop
 may-follow-requires c κs = search needs
 
 returns-3 : tie.Need-returns-3 Inv-loop μ-loop
-returns-3 c = sym (c .before .before .before .before .before .before .loop .inv ∙ pieces-bad (c .before .before .before .before .before .before .before .before .args .s .now) (c .before .before .before .before .before .before .loop .i) (c .before .before .before .before .before .before .before .before .args .end) (c .before .before .before .before .before .before .loop .atom) (omega arith) (omega arith) (c .before .before .before .if1 .left) (c .before .before .if2 .left) (sym (c .before .may-follow .ensures) ∙ not-true (c .before .may-follow .result) (c .if3 .taken)))
+returns-3 c =
+    let c₁ = c .before in let c₂ = c₁ .before in let c₃ = c₂ .before in let c₄ = c₃ .before .before .before in let c₅ = c₄ .before .before in
+    sym (c₄ .loop .inv ∙ pieces-bad (c₅ .args .s .now) (c₄ .loop .i) (c₅ .args .end) (c₄ .loop .atom) (omega arith) (omega arith) (c₃ .if1 .left) (c₂ .if2 .left)
+    (sym (c₁ .may-follow .ensures) ∙ not-true (c₁ .may-follow .result) (c .if3 .taken)))
 
 add-i : tie.Need-add-i Inv-loop μ-loop
 add-i c = omega arith
@@ -50,7 +57,10 @@ loop-less : tie.Need-loop-less Inv-loop μ-loop
 loop-less c = omega arith
 
 loop-again : tie.Need-loop-again Inv-loop μ-loop
-loop-again c = c .before .before .before .before .before .before .loop .inv ∙ pieces-turn (c .before .before .before .before .before .before .before .before .args .s .now) (c .before .before .before .before .before .before .loop .i) (c .before .before .before .before .before .before .before .before .args .end) (c .before .before .before .before .before .before .loop .atom) (omega arith) (omega arith) (c .before .before .before .if1 .left) (c .before .before .if2 .left) (sym (c .before .may-follow .ensures) ∙ not-false (c .before .may-follow .result) (c .if3 .left))
+loop-again c =
+    let c₁ = c .before in let c₂ = c₁ .before in let c₃ = c₂ .before in let c₄ = c₃ .before .before .before in let c₅ = c₄ .before .before in
+    c₄ .loop .inv ∙ pieces-turn (c₅ .args .s .now) (c₄ .loop .i) (c₅ .args .end) (c₄ .loop .atom) (omega arith) (omega arith) (c₃ .if1 .left) (c₂ .if2 .left)
+    (sym (c₁ .may-follow .ensures) ∙ not-false (c₁ .may-follow .result) (c .if3 .left))
 
 returns-4 : tie.Need-returns-4 Inv-loop μ-loop
 returns-4 c = sym (c .before .loop .inv ∙ pieces-done (c .before .before .before .args .s .now) (c .before .loop .i) (c .before .before .before .args .end) (c .before .loop .atom) (omega arith))

@@ -32,7 +32,9 @@ zeros-requires : tie.Need-zeros-requires Inv-loop μ-loop
 zeros-requires c κs = omega arith
 
 returns : tie.Need-returns Inv-loop μ-loop
-returns c = c .zeros .ensures ∙ sym (everything-alone (c .before .before .before .before .args .s .now) (c .before .before .before .before .args .at) (c .before .before .before .before .pre) (c .before .if1 .taken))
+returns c =
+    let c₁ = c .before in let c₂ = c₁ .before .before .before in
+    c .zeros .ensures ∙ sym (everything-alone (c₂ .args .s .now) (c₂ .args .at) (c₂ .pre) (c₁ .if1 .taken))
 
 loop-holds : tie.Need-loop-holds Inv-loop μ-loop
 loop-holds c = tag-begins (c .before .before .before .args .s .now) (c .before .before .before .args .at) (c .before .before .before .pre) (c .if1 .left)
@@ -44,7 +46,10 @@ zeros-requires-2 : tie.Need-zeros-requires-2 Inv-loop μ-loop
 zeros-requires-2 c κs = omega arith
 
 returns-2 : tie.Need-returns-2 Inv-loop μ-loop
-returns-2 c = ap (λ (t : Bool). c .before .before .before .before .loop .letter && t) (c .zeros2 .ensures) ∙ sym (c .before .before .before .before .loop .inv ∙ tag-zero (c .before .before .before .before .before .before .before .before .args .s .now) (c .before .before .before .before .loop .i) (c .before .before .before .before .before .before .before .before .args .at + 8) (c .before .before .before .before .loop .letter) (c .before .before .before .before .loop .hyphen) (omega arith) (omega arith) (c .before .if2 .taken))
+returns-2 c =
+    let c₁ = c .before in let c₂ = c₁ .before .before .before in let c₃ = c₂ .before .before .before .before in
+    ap (λ (t : Bool). c₂ .loop .letter && t) (c .zeros2 .ensures)
+    ∙ sym (c₂ .loop .inv ∙ tag-zero (c₃ .args .s .now) (c₂ .loop .i) (c₃ .args .at + 8) (c₂ .loop .letter) (c₂ .loop .hyphen) (omega arith) (omega arith) (c₁ .if2 .taken))
 
 add-zeros-2 : tie.Need-add-zeros-2 Inv-loop μ-loop
 add-zeros-2 c = omega arith
@@ -53,13 +58,19 @@ zeros-requires-3 : tie.Need-zeros-requires-3 Inv-loop μ-loop
 zeros-requires-3 c κs = omega arith
 
 returns-3 : tie.Need-returns-3 Inv-loop μ-loop
-returns-3 c = ap (λ (t : Bool). (c .before .before .before .before .before .loop .letter && c .before .before .before .before .before .loop .hyphen) && t) (c .zeros3 .ensures) ∙ sym (c .before .before .before .before .before .loop .inv ∙ tag-end (c .before .before .before .before .before .before .before .before .before .args .s .now) (c .before .before .before .before .before .loop .i) (c .before .before .before .before .before .before .before .before .before .args .at + 8) (c .before .before .before .before .before .loop .letter) (c .before .before .before .before .before .loop .hyphen) (omega arith) (omega arith) (c .before .if3 .taken))
+returns-3 c =
+    let c₁ = c .before in let c₂ = c₁ .before .before .before .before in let c₃ = c₂ .before .before .before .before in
+    ap (λ (t : Bool). (c₂ .loop .letter && c₂ .loop .hyphen) && t) (c .zeros3 .ensures)
+    ∙ sym (c₂ .loop .inv ∙ tag-end (c₃ .args .s .now) (c₂ .loop .i) (c₃ .args .at + 8) (c₂ .loop .letter) (c₂ .loop .hyphen) (omega arith) (omega arith) (c₁ .if3 .taken))
 
 tag-byte-requires : tie.Need-tag-byte-requires Inv-loop μ-loop
 tag-byte-requires c κs = search needs
 
 returns-4 : tie.Need-returns-4 Inv-loop μ-loop
-returns-4 c = sym (c .before .before .before .before .before .before .loop .inv ∙ tag-bad (c .before .before .before .before .before .before .before .before .before .before .args .s .now) (c .before .before .before .before .before .before .loop .i) (c .before .before .before .before .before .before .before .before .before .before .args .at + 8) (c .before .before .before .before .before .before .loop .letter) (c .before .before .before .before .before .before .loop .hyphen) (omega arith) (omega arith) (c .before .before .before .if2 .left) (c .before .before .if3 .left) (sym (c .before .tag-byte .ensures) ∙ not-true (c .before .tag-byte .result) (c .if4 .taken)))
+returns-4 c =
+    let c₁ = c .before in let c₂ = c₁ .before in let c₃ = c₂ .before in let c₄ = c₃ .before .before .before in let c₅ = c₄ .before .before .before .before in
+    sym (c₄ .loop .inv ∙ tag-bad (c₅ .args .s .now) (c₄ .loop .i) (c₅ .args .at + 8) (c₄ .loop .letter) (c₄ .loop .hyphen) (omega arith) (omega arith) (c₃ .if2 .left)
+    (c₂ .if3 .left) (sym (c₁ .tag-byte .ensures) ∙ not-true (c₁ .tag-byte .result) (c .if4 .taken)))
 
 add-i : tie.Need-add-i Inv-loop μ-loop
 add-i c = omega arith
@@ -68,10 +79,15 @@ loop-less : tie.Need-loop-less Inv-loop μ-loop
 loop-less c = omega arith
 
 loop-again : tie.Need-loop-again Inv-loop μ-loop
-loop-again c = c .before .before .before .before .before .before .loop .inv ∙ tag-turn (c .before .before .before .before .before .before .before .before .before .before .args .s .now) (c .before .before .before .before .before .before .loop .i) (c .before .before .before .before .before .before .before .before .before .before .args .at + 8) (c .before .before .before .before .before .before .loop .letter) (c .before .before .before .before .before .before .loop .hyphen) (omega arith) (omega arith) (c .before .before .before .if2 .left) (c .before .before .if3 .left) (sym (c .before .tag-byte .ensures) ∙ not-false (c .before .tag-byte .result) (c .if4 .left))
+loop-again c =
+    let c₁ = c .before in let c₂ = c₁ .before in let c₃ = c₂ .before in let c₄ = c₃ .before .before .before in let c₅ = c₄ .before .before .before .before in
+    c₄ .loop .inv ∙ tag-turn (c₅ .args .s .now) (c₄ .loop .i) (c₅ .args .at + 8) (c₄ .loop .letter) (c₄ .loop .hyphen) (omega arith) (omega arith) (c₃ .if2 .left) (c₂ .if3 .left)
+    (sym (c₁ .tag-byte .ensures) ∙ not-false (c₁ .tag-byte .result) (c .if4 .left))
 
 returns-5 : tie.Need-returns-5 Inv-loop μ-loop
-returns-5 c = sym (c .before .loop .inv ∙ tag-done (c .before .before .before .before .before .args .s .now) (c .before .loop .i) (c .before .before .before .before .before .args .at + 8) (c .before .loop .letter) (c .before .loop .hyphen) (omega arith))
+returns-5 c =
+    let c₁ = c .before in let c₂ = c₁ .before .before .before .before in
+    sym (c₁ .loop .inv ∙ tag-done (c₂ .args .s .now) (c₁ .loop .i) (c₂ .args .at + 8) (c₁ .loop .letter) (c₁ .loop .hyphen) (omega arith))
 
 pub range-ok-spec : {M : Type 1} → statement M
 range-ok-spec =

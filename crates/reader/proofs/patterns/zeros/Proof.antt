@@ -20,7 +20,9 @@ shared-slice-read-if1 : tie.Need-shared-slice-read-if1 Inv-loop μ-loop
 shared-slice-read-if1 c = omega arith
 
 returns : tie.Need-returns Inv-loop μ-loop
-returns c = sym (c .before .before .before .loop .inv ∙ zeros-stop (c .before .before .before .before .args .s .now) (c .before .before .before .loop .i) (c .before .before .before .before .args .end) (omega arith) (omega arith) (c .if1 .taken))
+returns c =
+    let c₁ = c .before .before .before in let c₂ = c₁ .before in
+    sym (c₁ .loop .inv ∙ zeros-stop (c₂ .args .s .now) (c₁ .loop .i) (c₂ .args .end) (omega arith) (omega arith) (c .if1 .taken))
 
 add-i : tie.Need-add-i Inv-loop μ-loop
 add-i c = omega arith
@@ -29,7 +31,9 @@ loop-less : tie.Need-loop-less Inv-loop μ-loop
 loop-less c = omega arith
 
 loop-again : tie.Need-loop-again Inv-loop μ-loop
-loop-again c = c .before .before .before .loop .inv ∙ zeros-turn (c .before .before .before .before .args .s .now) (c .before .before .before .loop .i) (c .before .before .before .before .args .end) (omega arith) (omega arith) (c .if1 .left)
+loop-again c =
+    let c₁ = c .before .before .before in let c₂ = c₁ .before in
+    c₁ .loop .inv ∙ zeros-turn (c₂ .args .s .now) (c₁ .loop .i) (c₂ .args .end) (omega arith) (omega arith) (c .if1 .left)
 
 returns-2 : tie.Need-returns-2 Inv-loop μ-loop
 returns-2 c = sym (c .before .loop .inv ∙ ap allZero (part-done (c .before .before .args .s .now) (c .before .loop .i) (c .before .before .args .end) (omega arith)))

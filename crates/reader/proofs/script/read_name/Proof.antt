@@ -21,7 +21,9 @@ sub-room : tie.Need-sub-room
 sub-room c = search needs
 
 returns-3 : tie.Need-returns-3
-returns-3 c = none-ends (name-is _ _ _ _ (omega arith) 0x31 (c .before .match .keys1) ∙ variable-cut (c .before .before .before .before .before .before .args .script .now) (c .before .before .before .before .before .before .args .terms) (c .before .before .before .before .before .before .args .at) (omega arith))
+returns-3 c =
+    let c₁ = c .before in let c₂ = c₁ .before .before .before .before .before in
+    none-ends (name-is _ _ _ _ (omega arith) 0x31 (c₁ .match .keys1) ∙ variable-cut (c₂ .args .script .now) (c₂ .args .terms) (c₂ .args .at) (omega arith))
 
 add-if4 : tie.Need-add-if4
 add-if4 c = search needs
@@ -36,7 +38,9 @@ add-next : tie.Need-add-next
 add-next c = search needs
 
 returns-4 : tie.Need-returns-4
-returns-4 c = none-ends (name-is _ _ _ _ (omega arith) 0x32 (c .before .match .keys2) ∙ constant-cut (c .before .before .before .before .before .before .args .script .now) (c .before .before .before .before .before .before .args .terms) (c .before .before .before .before .before .before .args .at) (omega arith))
+returns-4 c =
+    let c₁ = c .before in let c₂ = c₁ .before .before .before .before .before in
+    none-ends (name-is _ _ _ _ (omega arith) 0x32 (c₁ .match .keys2) ∙ constant-cut (c₂ .args .script .now) (c₂ .args .terms) (c₂ .args .at) (omega arith))
 
 add-word-at : tie.Need-add-word-at
 add-word-at c = search needs
@@ -48,16 +52,24 @@ add-next-2 : tie.Need-add-next-2
 add-next-2 c = search needs
 
 returns-5 : tie.Need-returns-5
-returns-5 c = leaf-ends (name-is _ _ _ _ (omega arith) 0x31 (c .before .before .before .match .keys1) ∙ variable-is (c .before .before .before .before .before .before .before .before .args .script .now) (c .before .before .before .before .before .before .before .before .args .terms) (c .before .before .before .before .before .before .before .before .args .at) (omega arith) (omega arith))
+returns-5 c =
+    let c₁ = c .before .before .before in let c₂ = c₁ .before .before .before .before .before in
+    leaf-ends (name-is _ _ _ _ (omega arith) 0x31 (c₁ .match .keys1) ∙ variable-is (c₂ .args .script .now) (c₂ .args .terms) (c₂ .args .at) (omega arith) (omega arith))
 
 returns-6 : tie.Need-returns-6
-returns-6 c = none-ends (name-is _ _ _ _ (omega arith) 0x31 (c .before .before .before .match .keys1) ∙ variable-bad (c .before .before .before .before .before .before .before .before .args .script .now) (c .before .before .before .before .before .before .before .before .args .terms) (c .before .before .before .before .before .before .before .before .args .at) (omega arith) (omega arith))
+returns-6 c =
+    let c₁ = c .before .before .before in let c₂ = c₁ .before .before .before .before .before in
+    none-ends (name-is _ _ _ _ (omega arith) 0x31 (c₁ .match .keys1) ∙ variable-bad (c₂ .args .script .now) (c₂ .args .terms) (c₂ .args .at) (omega arith) (omega arith))
 
 returns-7 : tie.Need-returns-7
-returns-7 c = leaf-ends (name-is _ _ _ _ (omega arith) 0x32 (c .before .before .before .match .keys2) ∙ constant-is (c .before .before .before .before .before .before .before .before .args .script .now) (c .before .before .before .before .before .before .before .before .args .terms) (c .before .before .before .before .before .before .before .before .args .at) (omega arith) (omega arith))
+returns-7 c =
+    let c₁ = c .before .before .before in let c₂ = c₁ .before .before .before .before .before in
+    leaf-ends (name-is _ _ _ _ (omega arith) 0x32 (c₁ .match .keys2) ∙ constant-is (c₂ .args .script .now) (c₂ .args .terms) (c₂ .args .at) (omega arith) (omega arith))
 
 returns-8 : tie.Need-returns-8
-returns-8 c = none-ends (name-is _ _ _ _ (omega arith) 0x32 (c .before .before .before .match .keys2) ∙ constant-bad (c .before .before .before .before .before .before .before .before .args .script .now) (c .before .before .before .before .before .before .before .before .args .terms) (c .before .before .before .before .before .before .before .before .args .at) (omega arith) (omega arith))
+returns-8 c =
+    let c₁ = c .before .before .before in let c₂ = c₁ .before .before .before .before .before in
+    none-ends (name-is _ _ _ _ (omega arith) 0x32 (c₁ .match .keys2) ∙ constant-bad (c₂ .args .script .now) (c₂ .args .terms) (c₂ .args .at) (omega arith) (omega arith))
 
 returns-9 : tie.Need-returns-9
 returns-9 c = none-ends (name-others _ _ _ _ (omega arith) (c .match .rest))

@@ -27,16 +27,39 @@ add-next : tie.Need-add-next Inv-loop μ-loop
 add-next c = omega (arith, entry-inside _ _ (good-one readEntry entry-forward _ _ (c .before .loop .inv .0) (c .loop-test .taken)))
 
 property-again-requires : tie.Need-property-again-requires Inv-loop μ-loop
-property-again-requires c κs = (good-one readEntry entry-forward _ _ (c .before .loop .inv .0) (c .loop-test .taken), good-rest readEntry entry-forward _ _ (c .before .loop .inv .0) (c .loop-test .taken) (entry-ends _ _ (good-one readEntry entry-forward _ _ (c .before .loop .inv .0) (c .loop-test .taken))))
+property-again-requires c κs =
+    let c₁ = c .before in (
+      good-one readEntry entry-forward _ _ (c₁ .loop .inv .0) (c .loop-test .taken),
+      good-rest readEntry entry-forward _ _ (c₁ .loop .inv .0) (c .loop-test .taken)
+          (entry-ends _ _ (good-one readEntry entry-forward _ _ (c₁ .loop .inv .0) (c .loop-test .taken))),
+    )
 
 returns : tie.Need-returns Inv-loop μ-loop
-returns c = sym (c .before .before .before .loop .inv .1 ∙ distinct-not readEntry entry-forward _ _ (c .before .before .before .loop .inv .0) (c .before .before .loop-test .taken) (entry-ends _ _ (good-one readEntry entry-forward _ _ (c .before .before .before .loop .inv .0) (c .before .before .loop-test .taken))) _ (sym (c .before .property-again .ensures) ∙ c .if1 .taken))
+returns c =
+    let c₁ = c .before in let c₂ = c₁ .before in let c₃ = c₂ .before in
+    sym (c₃ .loop .inv .1
+    ∙ distinct-not readEntry entry-forward _ _ (c₃ .loop .inv .0) (c₂ .loop-test .taken)
+    (entry-ends _ _ (good-one readEntry entry-forward _ _ (c₃ .loop .inv .0) (c₂ .loop-test .taken))) _ (sym (c₁ .property-again .ensures) ∙ c .if1 .taken))
 
 loop-less : tie.Need-loop-less Inv-loop μ-loop
-loop-less c = omega (arith, good-after readEntry entry-forward _ _ (c .before .before .before .loop .inv .0) (c .before .before .loop-test .taken) (entry-ends _ _ (good-one readEntry entry-forward _ _ (c .before .before .before .loop .inv .0) (c .before .before .loop-test .taken))))
+loop-less c =
+    let c₁ = c .before .before in let c₂ = c₁ .before in
+    omega (
+      arith,
+      good-after readEntry entry-forward _ _ (c₂ .loop .inv .0) (c₁ .loop-test .taken)
+          (entry-ends _ _ (good-one readEntry entry-forward _ _ (c₂ .loop .inv .0) (c₁ .loop-test .taken))),
+    )
 
 loop-again : tie.Need-loop-again Inv-loop μ-loop
-loop-again c = (good-rest readEntry entry-forward _ _ (c .before .before .before .loop .inv .0) (c .before .before .loop-test .taken) (entry-ends _ _ (good-one readEntry entry-forward _ _ (c .before .before .before .loop .inv .0) (c .before .before .loop-test .taken))), c .before .before .before .loop .inv .1 ∙ distinct-rest readEntry entry-forward _ _ (c .before .before .before .loop .inv .0) (c .before .before .loop-test .taken) (entry-ends _ _ (good-one readEntry entry-forward _ _ (c .before .before .before .loop .inv .0) (c .before .before .loop-test .taken))) _ (sym (c .before .property-again .ensures) ∙ c .if1 .left))
+loop-again c =
+    let c₁ = c .before in let c₂ = c₁ .before in
+    let c₃ = c₂ .before in (
+      good-rest readEntry entry-forward _ _ (c₃ .loop .inv .0) (c₂ .loop-test .taken)
+          (entry-ends _ _ (good-one readEntry entry-forward _ _ (c₃ .loop .inv .0) (c₂ .loop-test .taken))),
+      c₃ .loop .inv .1
+          ∙ distinct-rest readEntry entry-forward _ _ (c₃ .loop .inv .0) (c₂ .loop-test .taken)
+          (entry-ends _ _ (good-one readEntry entry-forward _ _ (c₃ .loop .inv .0) (c₂ .loop-test .taken))) _ (sym (c₁ .property-again .ensures) ∙ c .if1 .left),
+    )
 
 returns-2 : tie.Need-returns-2 Inv-loop μ-loop
 returns-2 c = sym (c .before .loop .inv .1 ∙ distinct-end readEntry entry-forward _ _ _ (c .loop-test .left))

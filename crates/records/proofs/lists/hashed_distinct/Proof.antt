@@ -55,25 +55,47 @@ add-property-again : tie.Need-add-property-again Inv-loop μ-loop
 add-property-again c = search needs
 
 property-again-requires : tie.Need-property-again-requires Inv-loop μ-loop
-property-again-requires c κs = (entry-good (c .before .before .before .before .before .before .before .before .args .s .now) (c .before .before .before .before .before .loop .i) (c .before .before .before .before .before .loop .inv .0) (c .before .before .before .before .loop-test .taken), after-good (c .before .before .before .before .before .before .before .before .args .s .now) (c .before .before .before .before .before .loop .i) (c .before .before .before .before .before .loop .inv .0) (c .before .before .before .before .loop-test .taken))
+property-again-requires c κs =
+    let c₁ = c .before .before .before .before in let c₂ = c₁ .before in let c₃ = c₂ .before .before .before in
+    (entry-good (c₃ .args .s .now) (c₂ .loop .i) (c₂ .loop .inv .0) (c₁ .loop-test .taken), after-good (c₃ .args .s .now) (c₂ .loop .i) (c₂ .loop .inv .0) (c₁ .loop-test .taken))
 
 returns : tie.Need-returns Inv-loop μ-loop
-returns c = sym (c .before .before .before .before .before .before .before .loop .inv .1 ∙ distinct-found (c .before .before .before .before .before .before .before .before .before .before .args .s .now) (c .before .before .before .before .before .before .before .before .before .before .args .hashes .now) (c .before .before .before .before .before .before .before .before .before .before .pre .0) (c .before .before .before .before .before .before .before .before .before .before .pre .1) (c .before .before .before .before .before .before .before .loop .i) (c .before .before .before .before .before .before .before .loop .inv .0) (c .before .before .before .before .before .before .loop-test .taken) (c .before .property-again .ensures) (c .if2 .taken))
+returns c =
+    let c₁ = c .before in let c₂ = c₁ .before .before .before .before .before in let c₃ = c₂ .before in let c₄ = c₃ .before .before .before in
+    sym (c₃ .loop .inv .1
+    ∙ distinct-found (c₄ .args .s .now) (c₄ .args .hashes .now) (c₄ .pre .0) (c₄ .pre .1) (c₃ .loop .i) (c₃ .loop .inv .0) (c₂ .loop-test .taken) (c₁ .property-again .ensures)
+    (c .if2 .taken))
 
 loop-less : tie.Need-loop-less Inv-loop μ-loop
 loop-less c = search needs
 
 loop-again : tie.Need-loop-again Inv-loop μ-loop
-loop-again c = (next-good (c .before .before .before .before .before .before .before .before .before .before .args .s .now) (c .before .before .before .before .before .before .before .loop .i) (c .before .before .before .before .before .before .before .loop .inv .0) (c .before .before .before .before .before .before .loop-test .taken), c .before .before .before .before .before .before .before .loop .inv .1 ∙ distinct-next (c .before .before .before .before .before .before .before .before .before .before .args .s .now) (c .before .before .before .before .before .before .before .before .before .before .args .hashes .now) (c .before .before .before .before .before .before .before .before .before .before .pre .0) (c .before .before .before .before .before .before .before .before .before .before .pre .1) (c .before .before .before .before .before .before .before .loop .i) (c .before .before .before .before .before .before .before .loop .inv .0) (c .before .before .before .before .before .before .loop-test .taken) (c .before .property-again .ensures) (c .if2 .left))
+loop-again c =
+    let c₁ = c .before in let c₂ = c₁ .before .before .before .before .before in let c₃ = c₂ .before in
+    let c₄ = c₃ .before .before .before in (
+      next-good (c₄ .args .s .now) (c₃ .loop .i) (c₃ .loop .inv .0) (c₂ .loop-test .taken),
+      c₃ .loop .inv .1
+          ∙ distinct-next (c₄ .args .s .now) (c₄ .args .hashes .now) (c₄ .pre .0) (c₄ .pre .1) (c₃ .loop .i) (c₃ .loop .inv .0) (c₂ .loop-test .taken) (c₁ .property-again .ensures)
+          (c .if2 .left),
+    )
 
 loop-less-2 : tie.Need-loop-less-2 Inv-loop μ-loop
 loop-less-2 c = search needs
 
 loop-again-2 : tie.Need-loop-again-2 Inv-loop μ-loop
-loop-again-2 c = (next-good (c .before .before .before .before .before .before .before .before .args .s .now) (c .before .before .before .before .before .loop .i) (c .before .before .before .before .before .loop .inv .0) (c .before .before .before .before .loop-test .taken), c .before .before .before .before .before .loop .inv .1 ∙ distinct-hashes (c .before .before .before .before .before .before .before .before .args .s .now) (c .before .before .before .before .before .before .before .before .args .hashes .now) (c .before .before .before .before .before .before .before .before .pre .0) (c .before .before .before .before .before .before .before .before .pre .1) (c .before .before .before .before .before .loop .i) (c .before .before .before .before .before .loop .inv .0) (c .before .before .before .before .loop-test .taken) (c .before .is-in .ensures) (c .if1 .left))
+loop-again-2 c =
+    let c₁ = c .before in let c₂ = c₁ .before .before .before in let c₃ = c₂ .before in
+    let c₄ = c₃ .before .before .before in (
+      next-good (c₄ .args .s .now) (c₃ .loop .i) (c₃ .loop .inv .0) (c₂ .loop-test .taken),
+      c₃ .loop .inv .1
+          ∙ distinct-hashes (c₄ .args .s .now) (c₄ .args .hashes .now) (c₄ .pre .0) (c₄ .pre .1) (c₃ .loop .i) (c₃ .loop .inv .0) (c₂ .loop-test .taken) (c₁ .is-in .ensures)
+          (c .if1 .left),
+    )
 
 returns-2 : tie.Need-returns-2 Inv-loop μ-loop
-returns-2 c = sym (c .before .loop .inv .1 ∙ distinct-end readEntry entry-forward _ _ _ (omega (arith, schema-whole (c .before .before .before .before .args .s .now) (c .before .before .before .before .pre .0) .1)))
+returns-2 c =
+    let c₁ = c .before in let c₂ = c₁ .before .before .before in
+    sym (c₁ .loop .inv .1 ∙ distinct-end readEntry entry-forward _ _ _ (omega (arith, schema-whole (c₂ .args .s .now) (c₂ .pre .0) .1)))
 
 pub hashed-distinct-spec : {M : Type 1} → statement M
 hashed-distinct-spec =

@@ -26,16 +26,31 @@ term-end-requires : tie.Need-term-end-requires Inv-loop μ-loop
 term-end-requires c κs = good-one readTerm term-forward _ _ (c .before .loop .inv .0) (c .loop-test .taken)
 
 term-again-requires : tie.Need-term-again-requires Inv-loop μ-loop
-term-again-requires c κs = (good-one readTerm term-forward _ _ (c .before .before .loop .inv .0) (c .before .loop-test .taken), good-rest readTerm term-forward _ _ (c .before .before .loop .inv .0) (c .before .loop-test .taken) (c .term-end .ensures))
+term-again-requires c κs =
+    let c₁ = c .before in
+    let c₂ = c₁ .before in (
+      good-one readTerm term-forward _ _ (c₂ .loop .inv .0) (c₁ .loop-test .taken),
+      good-rest readTerm term-forward _ _ (c₂ .loop .inv .0) (c₁ .loop-test .taken)
+          (c .term-end .ensures),
+    )
 
 returns : tie.Need-returns Inv-loop μ-loop
-returns c = sym (c .before .before .before .before .loop .inv .1 ∙ distinct-not readTerm term-forward _ _ (c .before .before .before .before .loop .inv .0) (c .before .before .before .loop-test .taken) (c .before .before .term-end .ensures) _ (sym (c .before .term-again .ensures) ∙ c .if1 .taken))
+returns c =
+    let c₁ = c .before in let c₂ = c₁ .before in let c₃ = c₂ .before in let c₄ = c₃ .before in
+    sym (c₄ .loop .inv .1
+    ∙ distinct-not readTerm term-forward _ _ (c₄ .loop .inv .0) (c₃ .loop-test .taken) (c₂ .term-end .ensures) _ (sym (c₁ .term-again .ensures) ∙ c .if1 .taken))
 
 loop-less : tie.Need-loop-less Inv-loop μ-loop
 loop-less c = omega (arith, good-after readTerm term-forward _ _ (c .before .before .before .before .loop .inv .0) (c .before .before .before .loop-test .taken) (c .before .before .term-end .ensures))
 
 loop-again : tie.Need-loop-again Inv-loop μ-loop
-loop-again c = (good-rest readTerm term-forward _ _ (c .before .before .before .before .loop .inv .0) (c .before .before .before .loop-test .taken) (c .before .before .term-end .ensures), c .before .before .before .before .loop .inv .1 ∙ distinct-rest readTerm term-forward _ _ (c .before .before .before .before .loop .inv .0) (c .before .before .before .loop-test .taken) (c .before .before .term-end .ensures) _ (sym (c .before .term-again .ensures) ∙ c .if1 .left))
+loop-again c =
+    let c₁ = c .before in let c₂ = c₁ .before in let c₃ = c₂ .before in
+    let c₄ = c₃ .before in (
+      good-rest readTerm term-forward _ _ (c₄ .loop .inv .0) (c₃ .loop-test .taken) (c₂ .term-end .ensures),
+      c₄ .loop .inv .1
+          ∙ distinct-rest readTerm term-forward _ _ (c₄ .loop .inv .0) (c₃ .loop-test .taken) (c₂ .term-end .ensures) _ (sym (c₁ .term-again .ensures) ∙ c .if1 .left),
+    )
 
 returns-2 : tie.Need-returns-2 Inv-loop μ-loop
 returns-2 c = sym (c .before .loop .inv .1 ∙ distinct-end readTerm term-forward _ _ _ (c .loop-test .left))

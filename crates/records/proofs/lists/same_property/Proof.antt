@@ -39,7 +39,9 @@ same-requires : tie.Need-same-requires
 same-requires c κs = search needs
 
 returns : tie.Need-returns
-returns c = same-properties (c .before .before .before .before .args .s .now) (c .before .before .before .before .args .a) (c .before .before .before .before .args .b) (c .before .before .before .before .pre .0) (c .before .before .before .before .pre .1) (c .same .ensures)
+returns c =
+    let c₁ = c .before .before .before .before in
+    same-properties (c₁ .args .s .now) (c₁ .args .a) (c₁ .args .b) (c₁ .pre .0) (c₁ .pre .1) (c .same .ensures)
 
 pub same-property-spec : {M : Type 1} → statement M
 same-property-spec =

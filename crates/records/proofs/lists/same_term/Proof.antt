@@ -33,7 +33,9 @@ same-requires : tie.Need-same-requires
 same-requires c κs = search needs
 
 returns : tie.Need-returns
-returns c = same-terms (c .before .before .before .before .before .before .args .s .now) (λ i. omega (arith, c .before .before .before .before .before .shared-slice-known .given i)) _ _ _ _ (c .before .before .before .before .term-end .ensures) (c .before .before .before .term-end2 .ensures) (c .same .ensures)
+returns c =
+    let c₁ = c .before .before .before in let c₂ = c₁ .before in let c₃ = c₂ .before in let c₄ = c₃ .before in
+    same-terms (c₄ .args .s .now) (λ i. omega (arith, c₃ .shared-slice-known .given i)) _ _ _ _ (c₂ .term-end .ensures) (c₁ .term-end2 .ensures) (c .same .ensures)
 
 pub same-term-spec : {M : Type 1} → statement M
 same-term-spec =

@@ -26,7 +26,9 @@ same-term-requires : tie.Need-same-term-requires Inv-loop μ-loop
 same-term-requires c κs = (c .before .before .before .pre .0, good-one readTerm term-forward _ _ (c .before .loop .inv .0) (c .loop-test .taken))
 
 returns : tie.Need-returns Inv-loop μ-loop
-returns c = sym (c .before .before .before .loop .inv .1 ∙ again-here readTerm term-forward _ _ (c .before .before .before .loop .inv .0) (c .before .before .loop-test .taken) _ _ (sym (c .before .same-term .ensures) ∙ c .if1 .taken))
+returns c =
+    let c₁ = c .before in let c₂ = c₁ .before in let c₃ = c₂ .before in
+    sym (c₃ .loop .inv .1 ∙ again-here readTerm term-forward _ _ (c₃ .loop .inv .0) (c₂ .loop-test .taken) _ _ (sym (c₁ .same-term .ensures) ∙ c .if1 .taken))
 
 term-end-requires : tie.Need-term-end-requires Inv-loop μ-loop
 term-end-requires c κs = good-one readTerm term-forward _ _ (c .before .before .before .loop .inv .0) (c .before .before .loop-test .taken)
@@ -35,7 +37,13 @@ loop-less : tie.Need-loop-less Inv-loop μ-loop
 loop-less c = omega (arith, good-after readTerm term-forward _ _ (c .before .before .before .before .loop .inv .0) (c .before .before .before .loop-test .taken) (c .term-end .ensures))
 
 loop-again : tie.Need-loop-again Inv-loop μ-loop
-loop-again c = (good-rest readTerm term-forward _ _ (c .before .before .before .before .loop .inv .0) (c .before .before .before .loop-test .taken) (c .term-end .ensures), c .before .before .before .before .loop .inv .1 ∙ again-rest readTerm term-forward _ _ (c .before .before .before .before .loop .inv .0) (c .before .before .before .loop-test .taken) (c .term-end .ensures) _ _ (sym (c .before .before .same-term .ensures) ∙ c .before .if1 .left))
+loop-again c =
+    let c₁ = c .before in let c₂ = c₁ .before in let c₃ = c₂ .before in
+    let c₄ = c₃ .before in (
+      good-rest readTerm term-forward _ _ (c₄ .loop .inv .0) (c₃ .loop-test .taken) (c .term-end .ensures),
+      c₄ .loop .inv .1
+          ∙ again-rest readTerm term-forward _ _ (c₄ .loop .inv .0) (c₃ .loop-test .taken) (c .term-end .ensures) _ _ (sym (c₂ .same-term .ensures) ∙ c₁ .if1 .left),
+    )
 
 returns-2 : tie.Need-returns-2 Inv-loop μ-loop
 returns-2 c = sym (c .before .loop .inv .1 ∙ again-end readTerm term-forward _ _ _ _ (c .loop-test .left))

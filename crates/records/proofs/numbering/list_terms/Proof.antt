@@ -1,94 +1,70 @@
--- `records::numbering::list_terms` meets its contract. The loop keeps what is asked of the rest equal to what is asked of the whole.
-use Prim.Native.Nat.{ℕ, _-_}
+-- `records::numbering::list_terms` meets its contract.
 use native.Mathlib.Omega.{arith}
-use mathlib.Core.Path.{sym, ap, _∙_}
+use mathlib.Core.Path.{sym, _∙_}
+use Rattle.records.proofs.NumberingLaws.{listed-bad, listed-count, listed-twice}
 use borrow.Author.Needs.{needs}
-use lib.ListN.{length, length-replicate}
-use Rattle.definitions.specs.Limits.{termTableWidth}
-use Rattle.definitions.specs.Terms.{readTerm}
-use Rattle.laws.proofs.RecordsAt.{term-forward}
-use Rattle.records.proofs.ListLaws.{good-one, good-after}
-use Rattle.records.proofs.NumberingLaws.{Listing, holding-width, listing-start, listing-end, listing-next, listing-full, listing-short}
 use Rattle.records.proofs.numbering.list_terms.Statement.{statement}
 use Rattle.records.proofs.numbering.list_terms.Tie as tie
 
-abbrev Inv-loop : tie.InvT-loop
-Inv-loop terms table₀ n₀ at₀ table n at = Listing terms table at n
+write-terms-requires : tie.Need-write-terms-requires
+write-terms-requires c κs = search needs
 
-abbrev μ-loop : tie.MeasureT-loop
-μ-loop terms table₀ n₀ at₀ table n at = length terms - at
+enum-known-count : tie.Need-enum-known-count
+enum-known-count c = search needs
 
-loop-holds : tie.Need-loop-holds Inv-loop μ-loop
-loop-holds c = listing-start _ _ (c .before .before .pre .0) (c .before .before .pre .1)
+enum-told : tie.Need-enum-told
+enum-told c = search needs
 
-same-length : tie.Need-same-length Inv-loop μ-loop
-same-length c = holding-width _ _ _ (c .before .before .loop .inv .holding) ∙ sym (ap length (c .before .before .before .before .before .pre .1) ∙ length-replicate {A = ℕ} termTableWidth 0)
+same-length : tie.Need-same-length
+same-length c = search needs
 
-returns : tie.Need-returns Inv-loop μ-loop
-returns c = listing-full _ _ _ _ (c .before .before .loop .inv) (c .before .loop-test .taken) (c .if1 .taken)
+same-length-2 : tie.Need-same-length-2
+same-length-2 c = search needs
 
-term-end-requires : tie.Need-term-end-requires Inv-loop μ-loop
-term-end-requires c κs = good-one readTerm term-forward _ _ (c .before .before .loop .inv .good) (c .before .loop-test .taken)
+returns : tie.Need-returns
+returns c = (listed-bad _ (c .before .before .before .before .before .before .write-terms .ensures .0) (c .enum-told .given .1), λ z. absurd (omega arith))
 
-add-body : tie.Need-add-body Inv-loop μ-loop
-add-body c = omega (arith, c .before .before .loop-test .taken, good-after readTerm term-forward _ _ (c .before .before .before .loop .inv .good) (c .before .before .loop-test .taken) (c .term-end .ensures))
+different-requires : tie.Need-different-requires
+different-requires c κs =
+    let c₁ = c .before .before .before in let c₂ = c₁ .before .before .before .before .before .before in
+    (sym (c₁ .count .given .1) ∙ c₂ .write-terms .ensures .0, (search needs, c₂ .write-terms .ensures .1 _ (c₁ .count .given .1)))
 
-shared-slice-read-slot-of : tie.Need-shared-slice-read-slot-of Inv-loop μ-loop
-shared-slice-read-slot-of c = c .before .before .before .loop-test .taken
+same-length-3 : tie.Need-same-length-3
+same-length-3 c = search needs
 
-sub-slot-of : tie.Need-sub-slot-of Inv-loop μ-loop
-sub-slot-of c = omega (arith, c .before .before .before .loop-test .taken, good-after readTerm term-forward _ _ (c .before .before .before .before .loop .inv .good) (c .before .before .before .loop-test .taken) (c .before .term-end .ensures))
+same-length-4 : tie.Need-same-length-4
+same-length-4 c = search needs
 
-part-slot-of-start : tie.Need-part-slot-of-start Inv-loop μ-loop
-part-slot-of-start c = omega (arith, c .before .before .before .loop-test .taken, good-after readTerm term-forward _ _ (c .before .before .before .before .loop .inv .good) (c .before .before .before .loop-test .taken) (c .before .term-end .ensures))
+returns-2 : tie.Need-returns-2
+returns-2 c =
+    let c₁ = c .before in let c₂ = c₁ .before .before .before .before in let c₃ = c₂ .before .before .before .before .before .before in
+    (listed-count _ (sym (c₂ .count .given .1) ∙ c₃ .write-terms .ensures .0) (c₁ .different .ensures) (c .if1 .taken), λ z. c₃ .write-terms .ensures .1 _ (c₂ .count .given .1))
 
-part-slot-of-end : tie.Need-part-slot-of-end Inv-loop μ-loop
-part-slot-of-end c = omega (arith, c .before .before .before .loop-test .taken, good-after readTerm term-forward _ _ (c .before .before .before .before .loop .inv .good) (c .before .before .before .loop-test .taken) (c .before .term-end .ensures))
+same-length-5 : tie.Need-same-length-5
+same-length-5 c = search needs
 
-slot-of-requires : tie.Need-slot-of-requires Inv-loop μ-loop
-slot-of-requires c κs = listing-short _ _ _ _ (c .before .before .before .before .before .loop .inv) (c .before .before .before .before .loop-test .taken) (c .before .before .term-end .ensures) (λ k. omega (arith, c .before .before .before .before .before .before .before .shared-slice-known .given k))
+same-length-6 : tie.Need-same-length-6
+same-length-6 c = search needs
 
-slice-aggregate-put-slot : tie.Need-slice-aggregate-put-slot Inv-loop μ-loop
-slice-aggregate-put-slot c = search needs
-
-put-slot-requires : tie.Need-put-slot-requires Inv-loop μ-loop
-put-slot-requires c κs = (holding-width _ _ _ (c .before .before .before .before .before .before .before .before .loop .inv .holding), (c .before .before .before .before .before .before .if1 .left, search needs))
-
-add-n : tie.Need-add-n Inv-loop μ-loop
-add-n c = omega (arith, c .before .before .before .before .before .before .before .before .before .if1 .left)
-
-loop-less : tie.Need-loop-less Inv-loop μ-loop
-loop-less c = omega (arith, c .before .before .before .before .before .before .before .before .before .before .loop-test .taken, good-after readTerm term-forward _ _ (c .before .before .before .before .before .before .before .before .before .before .before .loop .inv .good) (c .before .before .before .before .before .before .before .before .before .before .loop-test .taken) (c .before .before .before .before .before .before .before .before .term-end .ensures))
-
-loop-again : tie.Need-loop-again Inv-loop μ-loop
-loop-again c = listing-next _ _ _ _ (c .before .before .before .before .before .before .before .before .before .before .before .loop .inv) (c .before .before .before .before .before .before .before .before .before .before .loop-test .taken) (c .before .before .before .before .before .before .before .before .term-end .ensures) (λ k. omega (arith, c .before .before .before .before .before .before .before .before .before .before .before .before .before .shared-slice-known .given k)) (c .before .before .before .before .before .before .before .before .before .if1 .left) (c .before .before .before .before .before .slot-of .ensures) (c .before .before .put-slot .ensures)
-
-same-length-2 : tie.Need-same-length-2 Inv-loop μ-loop
-same-length-2 c = holding-width _ _ _ (c .before .loop .inv .holding) ∙ sym (ap length (c .before .before .before .before .pre .1) ∙ length-replicate {A = ℕ} termTableWidth 0)
-
-returns-2 : tie.Need-returns-2 Inv-loop μ-loop
-returns-2 c = listing-end _ _ _ _ (c .before .loop .inv) (c .loop-test .left)
+returns-3 : tie.Need-returns-3
+returns-3 c =
+    let c₁ = c .before in let c₂ = c₁ .before .before .before .before in let c₃ = c₂ .before .before .before .before .before .before in
+    (listed-twice _ (sym (c₂ .count .given .1) ∙ c₃ .write-terms .ensures .0) (c₁ .different .ensures) (c .if1 .left), λ z. absurd (omega arith))
 
 pub list-terms-spec : {M : Type 1} → statement M
 list-terms-spec =
     tie.close
     (tie.spec
-    Inv-loop
-    μ-loop
-    loop-holds
+    write-terms-requires
+    enum-known-count
+    enum-told
     same-length
-    returns
-    term-end-requires
-    add-body
-    shared-slice-read-slot-of
-    sub-slot-of
-    part-slot-of-start
-    part-slot-of-end
-    slot-of-requires
-    slice-aggregate-put-slot
-    put-slot-requires
-    add-n
-    loop-less
-    loop-again
     same-length-2
-    returns-2)
+    returns
+    different-requires
+    same-length-3
+    same-length-4
+    returns-2
+    same-length-5
+    same-length-6
+    returns-3)

@@ -20,13 +20,17 @@ abbrev μ-loop : tie.MeasureT-loop
 μ-loop schema hashes uri hash entries i₀ i = entries - i
 
 slice-aggregate-place-of : tie.Need-slice-aggregate-place-of Inv-loop μ-loop
-slice-aggregate-place-of c = sym (length-take-le (length (c .before .before .before .before .args .schema .now) / entryWidth) (c .before .before .before .before .args .hashes .now) (omega (arith, c .before .before .before .before .pre .1 .1 .0 .few, c .before .before .before .before .pre .1 .1 .0 .room)))
+slice-aggregate-place-of c =
+    let c₁ = c .before .before .before .before in
+    sym (length-take-le (length (c₁ .args .schema .now) / entryWidth) (c₁ .args .hashes .now) (omega (arith, c₁ .pre .1 .1 .0 .few, c₁ .pre .1 .1 .0 .room)))
 
 place-of-requires : tie.Need-place-of-requires Inv-loop μ-loop
 place-of-requires c κs = search needs
 
 loop-holds : tie.Need-loop-holds Inv-loop μ-loop
-loop-holds c = code-first (c .before .before .before .before .before .args .schema .now) (c .before .before .before .before .before .args .hashes .now) _ (c .before .before .before .before .before .pre .1 .0) (c .before .before .before .before .before .pre .1 .1 .0) (c .before .before .before .before .before .pre .1 .1 .1) (c .before .before .before .before .before .pre .0) (c .place-of .ensures)
+loop-holds c =
+    let c₁ = c .before .before .before .before .before in
+    code-first (c₁ .args .schema .now) (c₁ .args .hashes .now) _ (c₁ .pre .1 .0) (c₁ .pre .1 .1 .0) (c₁ .pre .1 .1 .1) (c₁ .pre .0) (c .place-of .ensures)
 
 mul-at : tie.Need-mul-at Inv-loop μ-loop
 mul-at c = search needs
@@ -53,7 +57,10 @@ shared-slice-read-result : tie.Need-shared-slice-read-result Inv-loop μ-loop
 shared-slice-read-result c = search needs
 
 returns : tie.Need-returns Inv-loop μ-loop
-returns c = code-found (c .before .before .before .before .before .before .before .before .before .before .before .args .schema .now) (c .before .before .before .before .before .loop .i) (c .before .before .before .before .before .loop .inv .0) (c .before .before .before .before .loop-test .taken) _ (c .before .before .before .before .before .before .before .before .before .before .before .pre .1 .0) (compared _ _ _ (c .before .before .same-bytes .ensures)) (c .before .if1 .taken) ∙ sym (c .before .before .before .before .before .loop .inv .1)
+returns c =
+    let c₁ = c .before in let c₂ = c₁ .before in let c₃ = c₂ .before .before in let c₄ = c₃ .before in let c₅ = c₄ .before .before .before .before .before .before in
+    code-found (c₅ .args .schema .now) (c₄ .loop .i) (c₄ .loop .inv .0) (c₃ .loop-test .taken) _ (c₅ .pre .1 .0) (compared _ _ _ (c₂ .same-bytes .ensures)) (c₁ .if1 .taken)
+    ∙ sym (c₄ .loop .inv .1)
 
 add-next : tie.Need-add-next Inv-loop μ-loop
 add-next c = search needs
@@ -74,16 +81,32 @@ place-of-requires-2 : tie.Need-place-of-requires-2 Inv-loop μ-loop
 place-of-requires-2 c κs = search needs
 
 add-i : tie.Need-add-i Inv-loop μ-loop
-add-i c = omega (arith, c .before .before .before .before .before .before .before .before .before .before .before .before .pre .1 .1 .0 .few, place-within _ (c .before .before .before .before .before .before .before .before .before .before .before .before .args .hashes .now) (length (c .before .before .before .before .before .before .before .before .before .before .before .before .args .schema .now) / entryWidth) (c .before .before .before .before .before .before .loop .i + 1) (omega (arith, c .before .before .before .before .before .before .before .before .before .before .before .before .pre .1 .1 .0 .few, c .before .before .before .before .before .before .before .before .before .before .before .before .pre .1 .1 .0 .room)) (omega (arith, c .before .before .before .before .before .loop-test .taken)) (c .place-of2 .ensures))
+add-i c =
+    let c₁ = c .before .before .before .before .before in let c₂ = c₁ .before in let c₃ = c₂ .before .before .before .before .before .before in
+    omega (
+      arith,
+      c₃ .pre .1 .1 .0 .few,
+      place-within _ (c₃ .args .hashes .now) (length (c₃ .args .schema .now) / entryWidth) (c₂ .loop .i + 1)
+          (omega (arith, c₃ .pre .1 .1 .0 .few, c₃ .pre .1 .1 .0 .room)) (omega (arith, c₁ .loop-test .taken)) (c .place-of2 .ensures),
+    )
 
 loop-less : tie.Need-loop-less Inv-loop μ-loop
 loop-less c = search needs
 
 loop-again : tie.Need-loop-again Inv-loop μ-loop
-loop-again c = code-place (c .before .before .before .before .before .before .before .before .before .before .before .before .args .schema .now) (c .before .before .before .before .before .before .before .before .before .before .before .before .args .hashes .now) _ (c .before .before .before .before .before .before .before .before .before .before .before .before .pre .1 .0) (c .before .before .before .before .before .before .before .before .before .before .before .before .pre .1 .1 .0) (c .before .before .before .before .before .before .before .before .before .before .before .before .pre .1 .1 .1) (c .before .before .before .before .before .before .loop .i + 1) (omega (arith, c .before .before .before .before .before .loop-test .taken)) (next-good (c .before .before .before .before .before .before .before .before .before .before .before .before .args .schema .now) (c .before .before .before .before .before .before .loop .i) (c .before .before .before .before .before .before .loop .inv .0) (c .before .before .before .before .before .loop-test .taken), c .before .before .before .before .before .before .loop .inv .1 ∙ code-next (c .before .before .before .before .before .before .before .before .before .before .before .before .args .schema .now) (c .before .before .before .before .before .before .loop .i) (c .before .before .before .before .before .before .loop .inv .0) (c .before .before .before .before .before .loop-test .taken) _ (c .before .before .before .before .before .before .before .before .before .before .before .before .pre .1 .0) (compared _ _ _ (c .before .before .before .same-bytes .ensures)) (c .before .before .if1 .left)) (c .place-of2 .ensures)
+loop-again c =
+    let c₁ = c .before .before in let c₂ = c₁ .before in let c₃ = c₂ .before .before in let c₄ = c₃ .before in let c₅ = c₄ .before .before .before .before .before .before in
+    code-place (c₅ .args .schema .now) (c₅ .args .hashes .now) _ (c₅ .pre .1 .0) (c₅ .pre .1 .1 .0) (c₅ .pre .1 .1 .1) (c₄ .loop .i + 1) (omega (arith, c₃ .loop-test .taken)) (
+      next-good (c₅ .args .schema .now) (c₄ .loop .i) (c₄ .loop .inv .0) (c₃ .loop-test .taken),
+      c₄ .loop .inv .1
+          ∙ code-next (c₅ .args .schema .now) (c₄ .loop .i) (c₄ .loop .inv .0) (c₃ .loop-test .taken) _ (c₅ .pre .1 .0) (compared _ _ _ (c₂ .same-bytes .ensures)) (c₁ .if1 .left),
+    )
+    (c .place-of2 .ensures)
 
 returns-2 : tie.Need-returns-2 Inv-loop μ-loop
-returns-2 c = sym (c .before .loop .inv .1 ∙ code-end _ _ _ (c .before .before .before .before .before .before .before .pre .1 .0) (omega (arith, schema-whole (c .before .before .before .before .before .before .before .args .schema .now) (c .before .before .before .before .before .before .before .pre .0) .1)))
+returns-2 c =
+    let c₁ = c .before in let c₂ = c₁ .before .before .before .before .before .before in
+    sym (c₁ .loop .inv .1 ∙ code-end _ _ _ (c₂ .pre .1 .0) (omega (arith, schema-whole (c₂ .args .schema .now) (c₂ .pre .0) .1)))
 
 pub datatype-of-spec : {M : Type 1} → statement M
 datatype-of-spec =

@@ -59,10 +59,18 @@ loop-less : tie.Need-loop-less Inv-loop μ-loop
 loop-less c = search needs
 
 loop-again : tie.Need-loop-again Inv-loop μ-loop
-loop-again c = (simp length-set (c .before .before .before .before .before .loop .inv .0), one-entry (c .before .before .before .before .before .before .before .args .schema .now) (c .before .before .before .before .before .loop .hashes) _ (c .before .before .before .before .before .loop .i) _ (omega arith) (c .before .before .before .before .before .loop .inv .1) (c .before .before .slot-of .ensures) (c .hash-of .ensures))
+loop-again c =
+    let c₁ = c .before .before in let c₂ = c₁ .before .before .before in
+    let c₃ = c₂ .before .before in (
+      simp length-set (c₂ .loop .inv .0),
+      one-entry (c₃ .args .schema .now) (c₂ .loop .hashes) _ (c₂ .loop .i) _ (omega arith) (c₂ .loop .inv .1) (c₁ .slot-of .ensures)
+          (c .hash-of .ensures),
+    )
 
 returns : tie.Need-returns Inv-loop μ-loop
-returns c = all-entries (c .before .before .before .args .schema .now) (c .before .loop .hashes) (c .before .loop .i) (c .before .before .before .pre .0) (c .before .before .before .pre .1) (c .before .loop .inv .0) (omega arith) (c .before .loop .inv .1)
+returns c =
+    let c₁ = c .before in let c₂ = c₁ .before .before in
+    all-entries (c₂ .args .schema .now) (c₁ .loop .hashes) (c₁ .loop .i) (c₂ .pre .0) (c₂ .pre .1) (c₁ .loop .inv .0) (omega arith) (c₁ .loop .inv .1)
 
 pub hash-entries-spec : {M : Type 1} → statement M
 hash-entries-spec =

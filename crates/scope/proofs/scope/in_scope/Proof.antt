@@ -14,7 +14,9 @@ none-set-requires : tie.Need-none-set-requires
 none-set-requires c κs = search needs
 
 returns : tie.Need-returns
-returns c = scope-is _ _ (c .before .before .before .before .before .before .before .pre) (c .before .before .before .before .before .script-uses .ensures) (c .before .before .before .bind-script .ensures) (c .before .none-set .ensures)
+returns c =
+    let c₁ = c .before in let c₂ = c₁ .before .before in let c₃ = c₂ .before .before in let c₄ = c₃ .before .before in
+    scope-is _ _ (c₄ .pre) (c₃ .script-uses .ensures) (c₂ .bind-script .ensures) (c₁ .none-set .ensures)
 
 pub in-scope-spec : {M : Type 1} → statement M
 in-scope-spec =

@@ -24,7 +24,10 @@ array-read-if1 : tie.Need-array-read-if1 Inv-loop μ-loop
 array-read-if1 c = omega arith
 
 returns : tie.Need-returns Inv-loop μ-loop
-returns c = let n : length (c .before .before .before .args .t1) ≡ variableLimit = search needs in sym (c .before .before .loop .inv .0 ∙ flag-stop (c .before .before .before .args .t1) (c .before .before .loop .i) (omega arith) (c .if1 .taken))
+returns c =
+    let c₁ = c .before .before in let c₂ = c₁ .before in
+    let n : length (c₂ .args .t1) ≡ variableLimit = search needs in
+    sym (c₁ .loop .inv .0 ∙ flag-stop (c₂ .args .t1) (c₁ .loop .i) (omega arith) (c .if1 .taken))
 
 add-i : tie.Need-add-i Inv-loop μ-loop
 add-i c = omega arith
@@ -33,7 +36,10 @@ loop-less : tie.Need-loop-less Inv-loop μ-loop
 loop-less c = omega arith
 
 loop-again : tie.Need-loop-again Inv-loop μ-loop
-loop-again c = let n : length (c .before .before .before .args .t1) ≡ variableLimit = search needs in (c .before .before .loop .inv .0 ∙ flag-turn (c .before .before .before .args .t1) (c .before .before .loop .i) (omega arith) (c .if1 .left), omega arith)
+loop-again c =
+    let c₁ = c .before .before in let c₂ = c₁ .before in
+    let n : length (c₂ .args .t1) ≡ variableLimit = search needs in
+    (c₁ .loop .inv .0 ∙ flag-turn (c₂ .args .t1) (c₁ .loop .i) (omega arith) (c .if1 .left), omega arith)
 
 returns-2 : tie.Need-returns-2 Inv-loop μ-loop
 returns-2 c = let n : length (c .before .before .args .t1) ≡ variableLimit = search needs in sym (c .before .loop .inv .0 ∙ flags-done (c .before .before .args .t1) (c .before .loop .i) (omega arith))

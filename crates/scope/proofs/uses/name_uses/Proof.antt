@@ -40,11 +40,17 @@ add-next-2 c = omega (arith, constant-of _ _ _ _ (c .before .before .pre) (name-
 
 returns : tie.Need-returns
 unfolding inName
-returns c = let n : length (c .before .before .before .args .t6) ≡ variableLimit = search needs in leaf-walked (variable-of _ _ _ _ (c .before .before .before .pre) (c .before .match .keys1) .2) (uses-one (c .before .before .before .args .t5) (c .before .before .before .args .t6) _ n (omega (arith, variable-of _ _ _ _ (c .before .before .before .pre) (c .before .match .keys1))))
+returns c =
+    let c₁ = c .before in let c₂ = c₁ .before .before in
+    let n : length (c₂ .args .t6) ≡ variableLimit = search needs in
+    leaf-walked (variable-of _ _ _ _ (c₂ .pre) (c₁ .match .keys1) .2) (uses-one (c₂ .args .t5) (c₂ .args .t6) _ n (omega (arith, variable-of _ _ _ _ (c₂ .pre) (c₁ .match .keys1))))
 
 returns-2 : tie.Need-returns-2
 unfolding inName
-returns-2 c = let n : length (c .before .before .args .t6) ≡ variableLimit = search needs in leaf-walked (constant-of _ _ _ _ (c .before .before .pre) (name-last _ _ _ _ (c .before .before .pre) (c .match .rest)) .2) (uses-none (c .before .before .args .t5) (c .before .before .args .t6) n)
+returns-2 c =
+    let c₁ = c .before .before in
+    let n : length (c₁ .args .t6) ≡ variableLimit = search needs in
+    leaf-walked (constant-of _ _ _ _ (c₁ .pre) (name-last _ _ _ _ (c₁ .pre) (c .match .rest)) .2) (uses-none (c₁ .args .t5) (c₁ .args .t6) n)
 
 pub name-uses-spec : {M : Type 1} → statement M
 name-uses-spec =

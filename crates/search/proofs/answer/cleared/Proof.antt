@@ -1,5 +1,5 @@
 -- `search::answer::cleared` meets its contract. The loop's invariant: the variables from j on are still to clear. Assumes nothing.
-use mathlib.Core.Path.{_≡_, _∙_}
+use mathlib.Core.Path.{_≡_}
 use Prim.Native.Nat.{_-_}
 use native.Mathlib.Omega.{arith}
 use borrow.Author.Needs.{needs}

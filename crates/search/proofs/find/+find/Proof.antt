@@ -2,12 +2,13 @@
 -- Assumes nothing.
 use borrow.Author.Needs.{needs}
 use native.Mathlib.Omega.{arith}
-use mathlib.Core.Path.{refl, _∙_}
+use mathlib.Core.Path.{_≡_, refl, _∙_}
 use mathlib.Core.Logic.{⊎-elim}
 use Prim.Native.Nat.{_-_}
-use lib.ListN.{length-set}
-use Rattle.laws.specs.Quads.{rowsFrom}
-use Rattle.search.proofs.FindLaws.{level-set, SoFar, level-enter, find-tight, find-test, find-past, find-none, find-skip, find-on, find-hit}
+use lib.ListN.{length, length-set}
+use Rattle.search.specs.Finding.{World}
+use Rattle.query.proofs.TermLaws.{few}
+use Rattle.search.proofs.FindLaws.{loads-here, lent-here, SoFar, level-enter, find-tight, find-test, find-past, find-none, find-skip, find-on, find-hit}
 use mathlib.Core.List.{[]}
 use Prim.Native.Nat.{ℕ, _<_}
 use borrow.Fn.Kinds.{In}
@@ -23,7 +24,7 @@ use Rattle.search.proofs.find.+find.{statement}
 use Rattle.search.proofs.find.+find.Tie.{close}
 
 abbrev μ-find : Measures 4 find-kinds.ps ℕ
-μ-find κs a = a .1 .1 .0 .size - a .1 .1 .1 .1 .1 .1 .1 .1 .1 .1 .0
+μ-find κs a = a .1 .1 .0 .size - a .1 .1 .1 .1 .1 .1 .1 .0
 
 abbrev find-at : ℕ → In 4 find-kinds.ps
 find-at t = and 4 find-kinds.ps (is 4 find-kinds.ps μ-find t) find.Pre
@@ -32,11 +33,11 @@ abbrev find-below : ℕ → In 4 find-kinds.ps
 find-below t = and 4 find-kinds.ps (falls 4 find-kinds.ps _<_ μ-find t) find.Pre
 
 abbrev find-Inv-loop : lts.InvT-loop
-find-Inv-loop script loaded block table count clock quads n leasts k tight known at left size v l lo₀ lo =
-    SoFar script loaded block table leasts known clock (rowsFrom n quads 0) k tight lo
+find-Inv-loop script context block table quads leasts k tight known at left size count v l lo₀ lo =
+    (w : World script table quads leasts context block) → SoFar w known k tight lo
 
 abbrev find-μ-loop : lts.MeasureT-loop
-find-μ-loop script loaded block table count clock quads n leasts k tight known at left size v l lo₀ lo = count - lo
+find-μ-loop script context block table quads leasts k tight known at left size count v l lo₀ lo = count - lo
 
 abbrev calls : ℕ → lts.Claims
 calls t = (eval-query.Asked, eval-query.Learnt, either.Asked, either.Learnt, next.Asked, next.Learnt, hopeful.Asked, hopeful.Learnt, find-below t, find.Post)
@@ -49,34 +50,37 @@ module _ (t : ℕ) where
   abbrev level : lts.Else3 (calls t) (find-at t) find.Post find-Inv-loop find-μ-loop → lts.Else1 (calls t) (find-at t) find.Post find-Inv-loop find-μ-loop
   level c = c .before .before .before .before .before .before .before .before
 
+  sixteen : (c : lts.Start (calls t) (find-at t) find.Post find-Inv-loop find-μ-loop) → length (c .args .t7) ≡ 16
+  sixteen c = search needs
+
   returns : lts.Need-returns (calls t) (find-at t) find.Post find-Inv-loop find-μ-loop
   returns c =
       let s = c .before .before .before .before .before .before in
-      (find-tight _ _ _ _ _ _ _ _ _ (s .pre .1 .lent) (s .args .k) (s .args .tight) (c .before .if1 .taken) [] (c .if2 .taken), refl)
+      (λ w. find-tight w _ (s .args .k) (s .args .tight) (c .before .if1 .taken) [] (c .if2 .taken), refl)
 
   eval-query-requires : lts.Need-eval-query-requires (calls t) (find-at t) find.Post find-Inv-loop find-μ-loop
-  eval-query-requires c κs = let g = c .before .before .before .before .before .before .before .pre .1 in (g .loads, (g .lent, g .rows))
+  eval-query-requires c κs = let s = c .before .before .before .before .before .before .before in (loads-here (s .pre .1), (lent-here (s .pre .1) _ (sixteen s), s .pre .1 .lent .stored))
 
   returns-2 : lts.Need-returns-2 (calls t) (find-at t) find.Post find-Inv-loop find-μ-loop
   returns-2 c =
       let s = c .before .before .before .before .before .before .before .before in
-      (find-test _ _ _ _ _ _ _ _ _ (s .pre .1 .lent) (s .args .k) (s .args .tight) (c .before .before .before .if1 .taken) _ (c .before .before .if2 .left) (c .eval-query .ensures), refl)
+      (λ w. find-test w _ (s .args .k) (s .args .tight) (c .before .before .before .if1 .taken) _ (c .before .before .if2 .left) (c .eval-query .ensures), refl)
 
   loop-holds : lts.Need-loop-holds (calls t) (find-at t) find.Post find-Inv-loop find-μ-loop
   loop-holds c =
       let e = c .before .before .before in
       let s = start e in
-      level-enter _ _ _ _ _ _ _ _ _ (s .pre .1 .lent) (s .args .k) (s .args .tight) (e .if1 .left) _ (c .either .ensures)
+      λ w. level-enter w _ (s .args .k) (s .args .tight) (e .if1 .left) _ (c .either .ensures)
 
   next-requires : lts.Need-next-requires (calls t) (find-at t) find.Post find-Inv-loop find-μ-loop
-  next-requires c κs = let e = c .before .before .before .before .before .before in (start e .pre .1, e .if1 .left)
+  next-requires c κs = let e = c .before .before .before .before .before .before in (start e .pre .1, (sixteen (start e), e .if1 .left))
 
   returns-3 : lts.Need-returns-3 (calls t) (find-at t) find.Post find-Inv-loop find-μ-loop
   returns-3 c =
       let d = c .before .before .before .before in
       let e = d .before .before .before .before in
       let s = start e in
-      (find-none _ _ _ _ _ _ _ _ _ (s .pre .1 .lent) (s .args .k) (s .args .tight) (e .if1 .left) _ (d .loop .inv) [] _ (c .before .next .ensures) (c .if3 .taken), refl)
+      (λ w. find-none w _ (s .args .k) (s .args .tight) (e .if1 .left) _ (d .loop .inv w) [] _ (c .before .next .ensures w) (c .if3 .taken), refl)
 
   mul-with : lts.Need-mul-with (calls t) (find-at t) find.Post find-Inv-loop find-μ-loop
   mul-with c = let s = start (level c) in omega (arith, s .pre .1 .small (s .args .k))
@@ -88,10 +92,10 @@ module _ (t : ℕ) where
   add-either c = omega (arith, start (level c) .pre .1 .size, level c .if1 .left)
 
   hopeful-requires : lts.Need-hopeful-requires (calls t) (find-at t) find.Post find-Inv-loop find-μ-loop
-  hopeful-requires c κs = level-set (start (level (c .before .before)) .pre .1) _ _ (omega arith)
+  hopeful-requires c κs = let s = start (level (c .before .before)) in (s .pre .1, length-set (s .args .t7) _ _ ∙ sixteen s)
 
   find-requires : lts.Need-find-requires (calls t) (find-at t) find.Post find-Inv-loop find-μ-loop
-  find-requires c κs = let e = level (c .before .before .before .before) in (omega arith, level-set (start e .pre .1) _ _ (omega (arith, e .if1 .left)))
+  find-requires c κs = let e = level (c .before .before .before .before) in (omega arith, start e .pre .1)
 
   mul-tuple : lts.Need-mul-tuple (calls t) (find-at t) find.Post find-Inv-loop find-μ-loop
   mul-tuple c = let e = level (c .before .before .before .before .before .before .before) in omega (arith, start e .pre .1 .size, e .if1 .left)
@@ -106,15 +110,15 @@ module _ (t : ℕ) where
       let s = start e in
       let g = s .pre .1 in
       let r = c .before .before .find in (
-        find-hit _ _ _ _ _ _ _ _ _ (g .lent) (s .args .k) (s .args .tight) (e .if1 .left) _ (d .before .before .before .before .loop .inv) [] _ (d .before .next .ensures) (d .if3 .left)
-            (omega (arith, g .small (s .args .k), g .lent .variables)) _ refl _ (c .before .before .before .before .before .before .either2 .ensures) _
-            (c .before .before .before .before .hopeful .ensures) (c .before .before .before .if4 .taken) _ (r .ensures .0) (c .before .if5 .taken)
+        λ w. find-hit w _ (s .args .k) (s .args .tight) (e .if1 .left) _ (d .before .before .before .before .loop .inv w) [] _ (d .before .next .ensures w) (d .if3 .left)
+            (omega (arith, g .small (s .args .k), sixteen s)) _ refl _ (c .before .before .before .before .before .before .either2 .ensures) _
+            (c .before .before .before .before .hopeful .ensures w) (c .before .before .before .if4 .taken) _ (r .ensures .0 w) (c .before .if5 .taken)
             (omega (arith, r .ensures .1, g .size, e .if1 .left)),
         length-set (r .result .tuple) (s .args .k) (d .before .next .result) ∙ r .ensures .1,
       )
 
   loop-less : lts.Need-loop-less (calls t) (find-at t) find.Post find-Inv-loop find-μ-loop
-  loop-less c = let d = c .before .before .before .before in omega (arith, d .before .next .ensures .0, d .if3 .left, d .before .before .before .loop-test .taken)
+  loop-less c = let d = c .before .before .before .before in omega (arith, d .before .next .ensures (start (level d) .pre .1) .0, d .if3 .left, d .before .before .before .loop-test .taken)
 
   loop-again : lts.Need-loop-again (calls t) (find-at t) find.Post find-Inv-loop find-μ-loop
   loop-again c =
@@ -123,26 +127,27 @@ module _ (t : ℕ) where
       let s = start e in
       let g = s .pre .1 in
       ⊎-elim
-      (λ w. find-on _ _ _ _ _ _ _ _ _ (g .lent) (s .args .k) (s .args .tight) (e .if1 .left) _ (d .before .before .before .before .loop .inv) [] _ (d .before .next .ensures) (d .if3 .left)
-      (omega (arith, g .small (s .args .k), g .lent .variables)) _ refl _ (c .before .before .before .either2 .ensures) _ (c .before .hopeful .ensures)
-      (w .0 .taken) _ (w .1 .ensures .0) (w .2 .left))
-      (λ w. find-skip _ _ _ _ _ _ _ _ _ (g .lent) (s .args .k) (s .args .tight) (e .if1 .left) _ (d .before .before .before .before .loop .inv) [] _ (d .before .next .ensures) (d .if3 .left)
-      (omega (arith, g .small (s .args .k), g .lent .variables)) _ refl _ (c .before .before .before .either2 .ensures) _ (c .before .hopeful .ensures) (w .left))
+      (λ h w. find-on w _ (s .args .k) (s .args .tight) (e .if1 .left) _ (d .before .before .before .before .loop .inv w) [] _ (d .before .next .ensures w) (d .if3 .left)
+      (omega (arith, g .small (s .args .k), sixteen s)) _ refl _ (c .before .before .before .either2 .ensures) _ (c .before .hopeful .ensures w)
+      (h .0 .taken) _ (h .1 .ensures .0 w) (h .2 .left))
+      (λ h w. find-skip w _ (s .args .k) (s .args .tight) (e .if1 .left) _ (d .before .before .before .before .loop .inv w) [] _ (d .before .next .ensures w) (d .if3 .left)
+      (omega (arith, g .small (s .args .k), sixteen s)) _ refl _ (c .before .before .before .either2 .ensures) _ (c .before .hopeful .ensures w) (h .left))
       (c .if4 .came)
 
   returns-5 : lts.Need-returns-5 (calls t) (find-at t) find.Post find-Inv-loop find-μ-loop
   returns-5 c =
       let e = c .before .before .before .before .before in
       let s = start e in
-      (find-past _ _ _ _ _ _ _ _ _ (s .pre .1 .lent) (s .args .k) (s .args .tight) (e .if1 .left) _ (c .before .loop .inv) [] (c .loop-test .left), refl)
+      (λ w. find-past w _ (s .args .k) (s .args .tight) (e .if1 .left) _ (c .before .loop .inv w) [] (c .loop-test .left), refl)
 
   closed : {M : Type 1} → lts.Closed (calls t) (find-at t) find.Post M
   closed = lts.spec (calls t) (find-at t) find.Post find-Inv-loop find-μ-loop returns (λ c. omega arith) eval-query-requires returns-2
       (λ c. omega (arith, start (c .before) .pre .1 .size)) (λ c. omega (arith, start (c .before) .pre .1 .size)) (λ c. omega (arith, start (c .before .before) .pre .1 .size))
       (λ c. omega (arith, start (c .before .before) .pre .1 .size)) (λ c κs. tt) loop-holds
       (λ c. omega (arith, start (c .before .before .before .before .before .before) .pre .1 .size)) next-requires returns-3 mul-with array-write-with add-either (λ c κs. tt)
-      (λ c. search needs) hopeful-requires (λ c. omega (arith, start (level (c .before .before .before .before)) .pre .1 .size)) find-requires mul-tuple array-write-tuple returns-4
-      (λ c. omega (arith, start (level (c .before .before .before .before)) .pre .1 .size)) loop-less loop-again returns-5
+      (λ c. search (needs, sixteen (start (level (c .before .before))))) hopeful-requires (λ c. omega (arith, start (level (c .before .before .before .before)) .pre .1 .size))
+      find-requires mul-tuple array-write-tuple returns-4
+      (λ c. let d = c .before .before .before .before in omega (arith, few _ _ _ (start (level d) .pre .1 .lent .tabled), d .if3 .left)) loop-less loop-again returns-5
 
 pub +find-spec : {M : Type 1} → statement M
 +find-spec = close μ-find λ t. closed t

@@ -1,6 +1,6 @@
 -- `search::find::skip` meets its contract. The loop's invariant: from i on gives what the whole gives. Assumes nothing.
 use mathlib.Core.Path.{_≡_, refl}
-use Prim.Native.Nat.{_-_, _≤_}
+use Prim.Native.Nat.{_-_}
 use native.Mathlib.Omega.{arith}
 use Rattle.search.specs.Finding.{skipTypes}
 use Rattle.search.proofs.TypeLaws.{skip-ends, skip-here, skip-on}

@@ -47,14 +47,14 @@ module _ (t : ℕ) where
   start c = c .before .before .before .before .before
 
   here : (c : lts.After-shared-slice-known5 (calls t) (seek-at t) seek.Post)
-      → QueryAt t (start c .args .script .now) (start c .args .terms) (start c .args .left) (start c .args .at)
+      → QueryAt t (start c .args .script .now) (start c .args .context .loaded) (start c .args .left) (start c .args .at)
   here c = query-at _ _ _ _ _ (start c .pre .0) (start c .pre .1 .0)
 
   names-at-requires : lts.Need-names-at-requires (calls t) (seek-at t) seek.Post
   names-at-requires c κs = (here (c .before) .pattern (c .match .keys1) .all, start (c .before) .pre .1 .1 .0 .variables)
 
   scan-requires : lts.Need-scan-requires (calls t) (seek-at t) seek.Post
-  scan-requires c κs = start (c .before .before) .pre .1 .1 .1
+  scan-requires c κs = start (c .before .before) .pre .1 .1 .1 .room
 
   seek-requires : lts.Need-seek-requires (calls t) (seek-at t) seek.Post
   seek-requires c κs = let n = here (c .before) .both (c .match .keys2) in (n .falls, (n .first, start (c .before) .pre .1 .1))
@@ -76,23 +76,23 @@ module _ (t : ℕ) where
   returns : lts.Need-returns (calls t) (seek-at t) seek.Post
   returns c =
       walked-as (here (c .before .before .before) .pattern (c .before .before .match .keys1) .read)
-      (walked-more (c .before .names-at .ensures) (λ q h. pattern-seeks _ _ _ _ (start (c .before .before .before) .pre .1 .1 .0) _ _ q _ _ _ h (c .scan .ensures)))
+      (walked-more (c .before .names-at .ensures) (λ q h. pattern-seeks _ _ _ (start (c .before .before .before) .pre .1 .1 .0) _ _ q _ _ _ h (c .scan .ensures)))
 
   returns-2 : lts.Need-returns-2 (calls t) (seek-at t) seek.Post
   returns-2 c =
       here (c .before .before .before) .both (c .before .before .match .keys2) .node (c .before .seek .ensures) (c .seek2 .ensures)
-      (λ q r h k. both-seeks _ _ _ _ (start (c .before .before .before) .pre .1 .1 .0) _ _ q r _ _ _ h k)
+      (λ q r h k. both-seeks _ _ _ (start (c .before .before .before) .pre .1 .1 .0) _ _ q r _ _ _ h k)
 
   returns-3 : lts.Need-returns-3 (calls t) (seek-at t) seek.Post
   returns-3 c =
       here (c .before .before .before .before .before) .union (c .before .before .before .before .match .keys3) .node (c .before .before .before .seek3 .ensures) (c .before .seek4 .ensures)
-      (λ q r h k. union-seeks _ _ _ _ (start (c .before .before .before .before .before) .pre .1 .1 .0) _ _ q r _ _ _ _ _ (c .smaller .ensures) (c .before .before .second-from .ensures) h k)
+      (λ q r h k. union-seeks _ _ _ (start (c .before .before .before .before .before) .pre .1 .1 .0) _ _ q r _ _ _ _ _ (c .smaller .ensures) (c .before .before .second-from .ensures) h k)
 
   returns-4 : lts.Need-returns-4 (calls t) (seek-at t) seek.Post
   returns-4 c = here (c .before .before) .filter (c .before .match .keys4) .node (c .seek-filter .ensures) (λ d h. h _ _)
 
   returns-5 : lts.Need-returns-5 (calls t) (seek-at t) seek.Post
-  returns-5 c = leaf-walked (here (c .before) .empty (c .match .rest)) (empty-seeks _ _ _ _ (start (c .before) .pre .1 .1 .0) _ _ _)
+  returns-5 c = leaf-walked (here (c .before) .empty (c .match .rest)) (empty-seeks _ _ _ (start (c .before) .pre .1 .1 .0) _ _ _)
 
   closed : {M : Type 1} → lts.Closed (calls t) (seek-at t) seek.Post M
   closed = lts.spec (calls t) (seek-at t) seek.Post (λ c. here c .inside) (λ c. omega (arith, here c .inside)) (λ c. here c .pos) names-at-requires scan-requires seek-requires

@@ -10,19 +10,29 @@ known-cond-requires : tie.Need-known-cond-requires
 known-cond-requires c κs = search needs
 
 returns : tie.Need-returns
-returns c = walked-more (c .before .before .known-cond .ensures) (λ d h rows v. unknown-seeks _ _ _ _ (c .before .before .before .before .before .before .pre .1) rows v d _ h (not-true _ (c .if1 .taken)))
+returns c =
+    let c₁ = c .before .before in let c₂ = c₁ .before .before .before .before in
+    walked-more (c₁ .known-cond .ensures) (λ d h rows v. unknown-seeks _ _ _ (c₂ .pre .1) rows v d _ h (not-true _ (c .if1 .taken)))
 
 returns-2 : tie.Need-returns-2
-returns-2 c = walked-more (c .before .before .before .known-cond .ensures) (λ d h rows v. ended-seeks _ _ _ _ (c .before .before .before .before .before .before .before .pre .1) rows v d _ h (c .if2 .taken))
+returns-2 c =
+    let c₁ = c .before .before .before in let c₂ = c₁ .before .before .before .before in
+    walked-more (c₁ .known-cond .ensures) (λ d h rows v. ended-seeks _ _ _ (c₂ .pre .1) rows v d _ h (c .if2 .taken))
 
 eval-cond-requires : tie.Need-eval-cond-requires
 eval-cond-requires c κs = search needs
 
 returns-3 : tie.Need-returns-3
-returns-3 c = walked-more (both-walked (c .before .before .before .before .before .known-cond .ensures) (c .before .eval-cond .ensures)) (λ d h rows v. true-seeks _ _ _ _ (c .before .before .before .before .before .before .before .before .before .pre .1) rows v d _ (h .0) (not-false _ (c .before .before .before .if1 .left)) (h .1) (c .if3 .taken))
+returns-3 c =
+    let c₁ = c .before in let c₂ = c₁ .before .before in let c₃ = c₂ .before .before in let c₄ = c₃ .before .before .before .before in
+    walked-more (both-walked (c₃ .known-cond .ensures) (c₁ .eval-cond .ensures))
+    (λ d h rows v. true-seeks _ _ _ (c₄ .pre .1) rows v d _ (h .0) (not-false _ (c₂ .if1 .left)) (h .1) (c .if3 .taken))
 
 returns-4 : tie.Need-returns-4
-returns-4 c = walked-more (both-walked (c .before .before .before .before .before .known-cond .ensures) (c .before .eval-cond .ensures)) (λ d h rows v. false-seeks _ _ _ _ (c .before .before .before .before .before .before .before .before .before .pre .1) rows v d _ (h .0) (not-false _ (c .before .before .before .if1 .left)) (h .1) (c .if3 .left))
+returns-4 c =
+    let c₁ = c .before in let c₂ = c₁ .before .before in let c₃ = c₂ .before .before in let c₄ = c₃ .before .before .before .before in
+    walked-more (both-walked (c₃ .known-cond .ensures) (c₁ .eval-cond .ensures))
+    (λ d h rows v. false-seeks _ _ _ (c₄ .pre .1) rows v d _ (h .0) (not-false _ (c₂ .if1 .left)) (h .1) (c .if3 .left))
 
 pub seek-filter-spec : {M : Type 1} → statement M
 seek-filter-spec =

@@ -30,7 +30,10 @@ is-uri-requires : tie.Need-is-uri-requires Inv-loop μ-loop
 is-uri-requires c κs = search needs
 
 returns : tie.Need-returns Inv-loop μ-loop
-returns c = every-stop (uriNumber (c .before .before .before .before .before .before .before .args .leasts .now) (c .before .before .before .before .before .before .before .args .count)) (c .before .before .before .before .before .before .before .args .list .now) (c .before .before .before .before .loop .i) 0 (c .before .before .before .before .loop .inv) (omega arith) (sym (c .before .is-uri .ensures) ∙ not-true _ (c .if1 .taken))
+returns c =
+    let c₁ = c .before in let c₂ = c₁ .before .before .before in let c₃ = c₂ .before .before .before in
+    every-stop (uriNumber (c₃ .args .leasts .now) (c₃ .args .count)) (c₃ .args .list .now) (c₂ .loop .i) 0 (c₂ .loop .inv) (omega arith)
+    (sym (c₁ .is-uri .ensures) ∙ not-true _ (c .if1 .taken))
 
 add-i : tie.Need-add-i Inv-loop μ-loop
 add-i c = search needs
@@ -39,10 +42,15 @@ loop-less : tie.Need-loop-less Inv-loop μ-loop
 loop-less c = search needs
 
 loop-again : tie.Need-loop-again Inv-loop μ-loop
-loop-again c = every-next (uriNumber (c .before .before .before .before .before .before .before .args .leasts .now) (c .before .before .before .before .before .before .before .args .count)) (c .before .before .before .before .before .before .before .args .list .now) (c .before .before .before .before .loop .i) 0 (c .before .before .before .before .loop .inv) (omega arith) (sym (c .before .is-uri .ensures) ∙ not-false _ (c .if1 .left))
+loop-again c =
+    let c₁ = c .before in let c₂ = c₁ .before .before .before in let c₃ = c₂ .before .before .before in
+    every-next (uriNumber (c₃ .args .leasts .now) (c₃ .args .count)) (c₃ .args .list .now) (c₂ .loop .i) 0 (c₂ .loop .inv) (omega arith)
+    (sym (c₁ .is-uri .ensures) ∙ not-false _ (c .if1 .left))
 
 returns-2 : tie.Need-returns-2 Inv-loop μ-loop
-returns-2 c = every-none (uriNumber (c .before .before .before .before .args .leasts .now) (c .before .before .before .before .args .count)) (c .before .before .before .before .args .list .now) (c .before .loop .i) 0 (c .before .loop .inv) (omega arith)
+returns-2 c =
+    let c₁ = c .before in let c₂ = c₁ .before .before .before in
+    every-none (uriNumber (c₂ .args .leasts .now) (c₂ .args .count)) (c₂ .args .list .now) (c₁ .loop .i) 0 (c₁ .loop .inv) (omega arith)
 
 pub all-uris-spec : {M : Type 1} → statement M
 all-uris-spec =

@@ -44,13 +44,17 @@ is-in-requires : tie.Need-is-in-requires Inv-loop μ-loop
 is-in-requires c κs = search needs
 
 returns : tie.Need-returns Inv-loop μ-loop
-returns c = distinct-stop eqb (c .before .before .before .before .before .before .before .args .list .now) (c .before .before .before .before .before .loop .i) 0 (c .before .before .before .before .before .loop .inv) (omega arith) (c .before .is-in .ensures) (c .if1 .taken)
+returns c =
+    let c₁ = c .before in let c₂ = c₁ .before .before .before .before in let c₃ = c₂ .before .before in
+    distinct-stop eqb (c₃ .args .list .now) (c₂ .loop .i) 0 (c₂ .loop .inv) (omega arith) (c₁ .is-in .ensures) (c .if1 .taken)
 
 loop-less : tie.Need-loop-less Inv-loop μ-loop
 loop-less c = search needs
 
 loop-again : tie.Need-loop-again Inv-loop μ-loop
-loop-again c = distinct-next eqb (c .before .before .before .before .before .before .before .args .list .now) (c .before .before .before .before .before .loop .i) 0 (c .before .before .before .before .before .loop .inv) (omega arith) (c .before .is-in .ensures) (c .if1 .left)
+loop-again c =
+    let c₁ = c .before in let c₂ = c₁ .before .before .before .before in let c₃ = c₂ .before .before in
+    distinct-next eqb (c₃ .args .list .now) (c₂ .loop .i) 0 (c₂ .loop .inv) (omega arith) (c₁ .is-in .ensures) (c .if1 .left)
 
 returns-2 : tie.Need-returns-2 Inv-loop μ-loop
 returns-2 c = distinct-none eqb (c .before .before .before .args .list .now) (c .before .loop .i) 0 (c .before .loop .inv) (omega arith)

@@ -39,13 +39,17 @@ loop-less : tie.Need-loop-less Inv-loop μ-loop
 loop-less c = search needs
 
 loop-again : tie.Need-loop-again Inv-loop μ-loop
-loop-again c = (omega arith, simp length-set (c .before .before .loop .inv .1), words-next (c .before .before .before .before .before .args .table .now) (c .before .before .loop .rows) (c .before .before .loop .k) _ (omega arith) (c .before .before .loop .inv .2) (c .number-at .ensures))
+loop-again c =
+    let c₁ = c .before .before in let c₂ = c₁ .before .before .before in
+    (omega arith, simp length-set (c₁ .loop .inv .1), words-next (c₂ .args .table .now) (c₁ .loop .rows) (c₁ .loop .k) _ (omega arith) (c₁ .loop .inv .2) (c .number-at .ensures))
 
 same-length : tie.Need-same-length Inv-loop μ-loop
 same-length c = c .before .loop .inv .1
 
 returns : tie.Need-returns Inv-loop μ-loop
-returns c = words-all (c .before .before .before .before .args .table .now) (c .before .loop .rows) (c .before .before .before .before .args .n) (c .before .loop .k) (omega arith) (c .before .loop .inv .2)
+returns c =
+    let c₁ = c .before in let c₂ = c₁ .before .before .before in
+    words-all (c₂ .args .table .now) (c₁ .loop .rows) (c₂ .args .n) (c₁ .loop .k) (omega arith) (c₁ .loop .inv .2)
 
 pub decode-spec : {M : Type 1} → statement M
 decode-spec =

@@ -40,7 +40,9 @@ loop-less : tie.Need-loop-less Inv-loop μ-loop
 loop-less c = search needs
 
 loop-again : tie.Need-loop-again Inv-loop μ-loop
-loop-again c = (omega arith, simp length-set (c .before .before .loop .inv .1), one-hashed _ (c .before .before .loop .hashes) (c .before .before .loop .i) _ (omega arith) (c .before .before .loop .inv .2) (c .hash-at .ensures))
+loop-again c =
+    let c₁ = c .before .before in
+    (omega arith, simp length-set (c₁ .loop .inv .1), one-hashed _ (c₁ .loop .hashes) (c₁ .loop .i) _ (omega arith) (c₁ .loop .inv .2) (c .hash-at .ensures))
 
 returns : tie.Need-returns Inv-loop μ-loop
 returns c = all-hashed _ (c .before .loop .hashes) _ (c .before .loop .i) (omega arith) (c .before .loop .inv .2)

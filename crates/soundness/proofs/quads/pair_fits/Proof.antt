@@ -17,17 +17,17 @@ shared-slice-read-range c = search needs
 returns-3 : tie.Need-returns-3
 returns-3 c = no-range _ _ _ _ (omega arith) (omega arith) (c .if3 .taken)
 
-shared-slice-read-code-fits : tie.Need-shared-slice-read-code-fits
-shared-slice-read-code-fits c = search needs
+shared-slice-read-least : tie.Need-shared-slice-read-least
+shared-slice-read-least c = search needs
 
-sub-code-fits : tie.Need-sub-code-fits
-sub-code-fits c = search needs
+sub-datatype : tie.Need-sub-datatype
+sub-datatype c = search needs
 
-code-fits-requires : tie.Need-code-fits-requires
-code-fits-requires c κs = search needs
+has-type-requires : tie.Need-has-type-requires
+has-type-requires c κs = search needs
 
 returns-4 : tie.Need-returns-4
-returns-4 c = pair-is _ _ _ _ (omega arith) (omega arith) (omega arith) (c .code-fits .ensures)
+returns-4 c = pair-is _ _ _ _ (omega arith) (omega arith) (omega arith) (c .has-type .ensures)
 
 pub pair-fits-spec : {M : Type 1} → statement M
 pair-fits-spec =
@@ -37,7 +37,7 @@ pair-fits-spec =
     returns-2
     shared-slice-read-range
     returns-3
-    shared-slice-read-code-fits
-    sub-code-fits
-    code-fits-requires
+    shared-slice-read-least
+    sub-datatype
+    has-type-requires
     returns-4)

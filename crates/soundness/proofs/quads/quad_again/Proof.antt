@@ -42,7 +42,10 @@ is-in-requires : tie.Need-is-in-requires Inv-loop μ-loop
 is-in-requires c κs = search needs
 
 returns : tie.Need-returns Inv-loop μ-loop
-returns c = let a = c .before .before .before .before .before .before in hashed-once (a .args .rows .now) (a .args .hashes .now) (a .args .n) (a .pre .1 .0) (a .pre .1 .1 .0) (a .args .i) (a .pre .1 .1 .1) _ (c .before .is-in .ensures) (c .if1 .taken)
+returns c =
+    let c₁ = c .before in let c₂ = c₁ .before .before .before .before .before in
+    let a = c₂ in
+    hashed-once (a .args .rows .now) (a .args .hashes .now) (a .args .n) (a .pre .1 .0) (a .pre .1 .1 .0) (a .args .i) (a .pre .1 .1 .1) _ (c₁ .is-in .ensures) (c .if1 .taken)
 
 mul-from : tie.Need-mul-from Inv-loop μ-loop
 mul-from c = search needs
@@ -57,7 +60,11 @@ same-row-requires : tie.Need-same-row-requires Inv-loop μ-loop
 same-row-requires c κs = search needs
 
 returns-2 : tie.Need-returns-2 Inv-loop μ-loop
-returns-2 c = let a = c .before .before .before .before .before .before .before .before .before .before in row-found (a .args .rows .now) (a .args .n) (sameQuad (rowAt (a .args .rows .now) (4 * a .args .i))) (c .before .before .before .loop .j) (c .before .before .before .loop .inv .1) (omega arith) (sym (c .before .same-row .ensures) ∙ c .if2 .taken)
+returns-2 c =
+    let c₁ = c .before in let c₂ = c₁ .before .before in let c₃ = c₂ .before .before .before .before .before .before .before in
+    let a = c₃ in
+    row-found (a .args .rows .now) (a .args .n) (sameQuad (rowAt (a .args .rows .now) (4 * a .args .i))) (c₂ .loop .j) (c₂ .loop .inv .1) (omega arith)
+    (sym (c₁ .same-row .ensures) ∙ c .if2 .taken)
 
 add-j-2 : tie.Need-add-j-2 Inv-loop μ-loop
 add-j-2 c = search needs
@@ -66,10 +73,19 @@ loop-less : tie.Need-loop-less Inv-loop μ-loop
 loop-less c = search needs
 
 loop-again : tie.Need-loop-again Inv-loop μ-loop
-loop-again c = let a = c .before .before .before .before .before .before .before .before .before .before in (omega arith, row-other (a .args .rows .now) (a .args .n) (sameQuad (rowAt (a .args .rows .now) (4 * a .args .i))) (c .before .before .before .loop .j) (c .before .before .before .loop .inv .1) (omega arith) (sym (c .before .same-row .ensures) ∙ c .if2 .left))
+loop-again c =
+    let c₁ = c .before in let c₂ = c₁ .before .before in let c₃ = c₂ .before .before .before .before .before .before .before in
+    let a = c₃ in (
+      omega arith,
+      row-other (a .args .rows .now) (a .args .n) (sameQuad (rowAt (a .args .rows .now) (4 * a .args .i))) (c₂ .loop .j) (c₂ .loop .inv .1) (omega arith)
+          (sym (c₁ .same-row .ensures) ∙ c .if2 .left),
+    )
 
 returns-3 : tie.Need-returns-3 Inv-loop μ-loop
-returns-3 c = let a = c .before .before .before .before .before .before .before .before in row-nowhere (a .args .rows .now) (a .args .n) (sameQuad (rowAt (a .args .rows .now) (4 * a .args .i))) (c .before .loop .j) (c .before .loop .inv .1) (omega arith)
+returns-3 c =
+    let c₁ = c .before in let c₂ = c₁ .before .before .before .before .before .before .before in
+    let a = c₂ in
+    row-nowhere (a .args .rows .now) (a .args .n) (sameQuad (rowAt (a .args .rows .now) (4 * a .args .i))) (c₁ .loop .j) (c₁ .loop .inv .1) (omega arith)
 
 pub quad-again-spec : {M : Type 1} → statement M
 quad-again-spec =

@@ -47,7 +47,9 @@ is-uri-requires-2 : tie.Need-is-uri-requires-2
 is-uri-requires-2 c κs = search needs
 
 returns-3 : tie.Need-returns-3
-returns-3 c = no-subject _ _ _ _ (c .before .before .before .before .before .before .before .is-in .ensures) (c .before .before .before .before .before .before .if1 .left) (c .before .before .before .before .is-uri .ensures) (c .before .before .before .if2 .left) (c .before .is-uri2 .ensures) (c .if3 .taken)
+returns-3 c =
+    let c₁ = c .before in let c₂ = c₁ .before .before in let c₃ = c₂ .before in let c₄ = c₃ .before .before in let c₅ = c₄ .before in
+    no-subject _ _ _ _ (c₅ .is-in .ensures) (c₄ .if1 .left) (c₃ .is-uri .ensures) (c₂ .if2 .left) (c₁ .is-uri2 .ensures) (c .if3 .taken)
 
 mul-pair-fits : tie.Need-mul-pair-fits
 mul-pair-fits c = search needs
@@ -65,7 +67,9 @@ pair-fits-requires : tie.Need-pair-fits-requires
 pair-fits-requires c κs = search needs
 
 returns-4 : tie.Need-returns-4
-returns-4 c = quad-is _ _ _ _ (c .before .before .before .before .before .before .before .before .before .before .is-in .ensures) (c .before .before .before .before .before .before .before .before .before .if1 .left) (c .before .before .before .before .before .before .before .is-uri .ensures) (c .before .before .before .before .before .before .if2 .left) (c .before .before .before .before .is-uri2 .ensures) (c .before .before .before .if3 .left) (c .pair-fits .ensures)
+returns-4 c =
+    let c₁ = c .before .before .before in let c₂ = c₁ .before in let c₃ = c₂ .before .before in let c₄ = c₃ .before in let c₅ = c₄ .before .before in let c₆ = c₅ .before in
+    quad-is _ _ _ _ (c₆ .is-in .ensures) (c₅ .if1 .left) (c₄ .is-uri .ensures) (c₃ .if2 .left) (c₂ .is-uri2 .ensures) (c₁ .if3 .left) (c .pair-fits .ensures)
 
 pub quad-sound-spec : {M : Type 1} → statement M
 quad-sound-spec =

@@ -29,7 +29,9 @@ quad-again-requires : tie.Need-quad-again-requires Inv-loop μ-loop
 quad-again-requires c κs = let a = c .before .before .before .before .before in (a .pre .0, (search needs, (c .before .before .before .hash-quads .ensures, search needs)))
 
 returns : tie.Need-returns Inv-loop μ-loop
-returns c = row-again (c .before .before .before .before .before .before .before .args .rows .now) (c .before .before .before .before .before .before .before .args .n) (c .before .before .before .before .loop .i) (c .before .before .before .before .loop .inv) (omega arith) (c .before .quad-again .ensures) (c .if1 .taken)
+returns c =
+    let c₁ = c .before in let c₂ = c₁ .before .before .before in let c₃ = c₂ .before .before .before in
+    row-again (c₃ .args .rows .now) (c₃ .args .n) (c₂ .loop .i) (c₂ .loop .inv) (omega arith) (c₁ .quad-again .ensures) (c .if1 .taken)
 
 add-i : tie.Need-add-i Inv-loop μ-loop
 add-i c = search needs
@@ -38,7 +40,9 @@ loop-less : tie.Need-loop-less Inv-loop μ-loop
 loop-less c = search needs
 
 loop-again : tie.Need-loop-again Inv-loop μ-loop
-loop-again c = row-once (c .before .before .before .before .before .before .before .args .rows .now) (c .before .before .before .before .before .before .before .args .n) (c .before .before .before .before .loop .i) (c .before .before .before .before .loop .inv) (omega arith) (c .before .quad-again .ensures) (c .if1 .left)
+loop-again c =
+    let c₁ = c .before in let c₂ = c₁ .before .before .before in let c₃ = c₂ .before .before .before in
+    row-once (c₃ .args .rows .now) (c₃ .args .n) (c₂ .loop .i) (c₂ .loop .inv) (omega arith) (c₁ .quad-again .ensures) (c .if1 .left)
 
 returns-2 : tie.Need-returns-2 Inv-loop μ-loop
 returns-2 c = rows-differ (c .before .before .before .before .args .rows .now) (c .before .before .before .before .args .n) (c .before .loop .i) (c .before .loop .inv) (omega arith)

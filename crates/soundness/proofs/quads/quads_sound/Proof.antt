@@ -18,7 +18,9 @@ abbrev μ-loop : tie.MeasureT-loop
 μ-loop leasts count fetched rows n i₀ i = n - i
 
 loop-holds : tie.Need-loop-holds Inv-loop μ-loop
-loop-holds c = ap (every (quadNumbers (c .before .before .before .args .leasts .now) (c .before .before .before .args .count) (c .before .before .before .args .fetched .now))) (rows-all (c .before .before .before .args .rows .now) (c .before .before .before .args .n))
+loop-holds c =
+    let c₁ = c .before .before .before in
+    ap (every (quadNumbers (c₁ .args .leasts .now) (c₁ .args .count) (c₁ .args .fetched .now))) (rows-all (c₁ .args .rows .now) (c₁ .args .n))
 
 mul-at : tie.Need-mul-at Inv-loop μ-loop
 mul-at c = search needs
@@ -27,7 +29,10 @@ quad-sound-requires : tie.Need-quad-sound-requires Inv-loop μ-loop
 quad-sound-requires c κs = search needs
 
 returns : tie.Need-returns Inv-loop μ-loop
-returns c = row-fails (c .before .before .before .before .before .before .before .args .rows .now) (c .before .before .before .before .before .before .before .args .n) (quadNumbers (c .before .before .before .before .before .before .before .args .leasts .now) (c .before .before .before .before .before .before .before .args .count) (c .before .before .before .before .before .before .before .args .fetched .now)) (c .before .before .before .loop .i) (c .before .before .before .loop .inv) (omega arith) (sym (c .before .quad-sound .ensures) ∙ not-true _ (c .if1 .taken))
+returns c =
+    let c₁ = c .before in let c₂ = c₁ .before .before in let c₃ = c₂ .before .before .before .before in
+    row-fails (c₃ .args .rows .now) (c₃ .args .n) (quadNumbers (c₃ .args .leasts .now) (c₃ .args .count) (c₃ .args .fetched .now)) (c₂ .loop .i) (c₂ .loop .inv) (omega arith)
+    (sym (c₁ .quad-sound .ensures) ∙ not-true _ (c .if1 .taken))
 
 add-i : tie.Need-add-i Inv-loop μ-loop
 add-i c = search needs
@@ -36,10 +41,15 @@ loop-less : tie.Need-loop-less Inv-loop μ-loop
 loop-less c = search needs
 
 loop-again : tie.Need-loop-again Inv-loop μ-loop
-loop-again c = row-passes (c .before .before .before .before .before .before .before .args .rows .now) (c .before .before .before .before .before .before .before .args .n) (quadNumbers (c .before .before .before .before .before .before .before .args .leasts .now) (c .before .before .before .before .before .before .before .args .count) (c .before .before .before .before .before .before .before .args .fetched .now)) (c .before .before .before .loop .i) (c .before .before .before .loop .inv) (omega arith) (sym (c .before .quad-sound .ensures) ∙ not-false _ (c .if1 .left))
+loop-again c =
+    let c₁ = c .before in let c₂ = c₁ .before .before in let c₃ = c₂ .before .before .before .before in
+    row-passes (c₃ .args .rows .now) (c₃ .args .n) (quadNumbers (c₃ .args .leasts .now) (c₃ .args .count) (c₃ .args .fetched .now)) (c₂ .loop .i) (c₂ .loop .inv) (omega arith)
+    (sym (c₁ .quad-sound .ensures) ∙ not-false _ (c .if1 .left))
 
 returns-2 : tie.Need-returns-2 Inv-loop μ-loop
-returns-2 c = rows-pass (c .before .before .before .before .before .args .rows .now) (c .before .before .before .before .before .args .n) (quadNumbers (c .before .before .before .before .before .args .leasts .now) (c .before .before .before .before .before .args .count) (c .before .before .before .before .before .args .fetched .now)) (c .before .loop .i) (c .before .loop .inv) (omega arith)
+returns-2 c =
+    let c₁ = c .before in let c₂ = c₁ .before .before .before .before in
+    rows-pass (c₂ .args .rows .now) (c₂ .args .n) (quadNumbers (c₂ .args .leasts .now) (c₂ .args .count) (c₂ .args .fetched .now)) (c₁ .loop .i) (c₁ .loop .inv) (omega arith)
 
 pub quads-sound-spec : {M : Type 1} → statement M
 quads-sound-spec =

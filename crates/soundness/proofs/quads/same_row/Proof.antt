@@ -37,7 +37,9 @@ shared-slice-read-if1-2 : tie.Need-shared-slice-read-if1-2
 shared-slice-read-if1-2 c = search needs
 
 returns : tie.Need-returns
-returns c = objects-differ (rowAt (c .before .before .before .args .rows .now) (c .before .before .before .args .a)) (rowAt (c .before .before .before .args .rows .now) (c .before .before .before .args .b)) (c .if1 .taken)
+returns c =
+    let c₁ = c .before .before .before in
+    objects-differ (rowAt (c₁ .args .rows .now) (c₁ .args .a)) (rowAt (c₁ .args .rows .now) (c₁ .args .b)) (c .if1 .taken)
 
 mul-result : tie.Need-mul-result
 mul-result c = search needs
@@ -76,7 +78,9 @@ shared-slice-read-result-6 : tie.Need-shared-slice-read-result-6
 shared-slice-read-result-6 c = search needs
 
 returns-2 : tie.Need-returns-2
-returns-2 c = objects-same (rowAt (c .before .before .before .before .before .before .before .before .before .args .rows .now) (c .before .before .before .before .before .before .before .before .before .args .a)) (rowAt (c .before .before .before .before .before .before .before .before .before .args .rows .now) (c .before .before .before .before .before .before .before .before .before .args .b)) (eq-eqb _ _ (c .before .before .before .before .before .before .if1 .left))
+returns-2 c =
+    let c₁ = c .before .before .before .before .before .before in let c₂ = c₁ .before .before .before in
+    objects-same (rowAt (c₂ .args .rows .now) (c₂ .args .a)) (rowAt (c₂ .args .rows .now) (c₂ .args .b)) (eq-eqb _ _ (c₁ .if1 .left))
 
 pub same-row-spec : {M : Type 1} → statement M
 same-row-spec =

@@ -19,25 +19,45 @@ returns-2 : tie.Need-returns-2
 returns-2 c = (bad-graphs _ _ _ _ _ (c .before .before .before .quads-held .ensures) (c .before .before .if1 .left) (c .before .graphs-sound .ensures) (c .if2 .taken), λ e. absurd (never e))
 
 decode-requires : tie.Need-decode-requires
-decode-requires c κs = (c .before .before .before .before .before .before .before .before .before .pre .0, (held-few _ _ (c .before .before .before .before .quads-held .ensures) (c .before .before .before .if1 .left), omega (arith, held-few _ _ (c .before .before .before .before .quads-held .ensures) (c .before .before .before .if1 .left), c .before .before .before .before .before .before .before .before .before .pre .1 .1)))
+decode-requires c κs =
+    let c₁ = c .before .before .before in let c₂ = c₁ .before in let c₃ = c₂ .before .before .before .before .before in
+    (c₃ .pre .0, (held-few _ _ (c₂ .quads-held .ensures) (c₁ .if1 .left), omega (arith, held-few _ _ (c₂ .quads-held .ensures) (c₁ .if1 .left), c₃ .pre .1 .1)))
 
 quads-distinct-requires : tie.Need-quads-distinct-requires
-quads-distinct-requires c κs = let few = held-few _ _ (c .before .before .before .before .before .before .before .before .quads-held .ensures) (c .before .before .before .before .before .before .before .if1 .left) in (omega (arith, few, c .before .before .before .before .before .before .before .before .before .before .before .before .before .pre .1 .1, c .before .before .rows .given), few)
+quads-distinct-requires c κs =
+    let c₁ = c .before .before in let c₂ = c₁ .before .before .before .before .before in let c₃ = c₂ .before in let c₄ = c₃ .before .before .before .before .before in
+    let few = held-few _ _ (c₃ .quads-held .ensures) (c₂ .if1 .left) in
+    (omega (arith, few, c₄ .pre .1 .1, c₁ .rows .given), few)
 
 same-length : tie.Need-same-length
 same-length c = search needs
 
 returns-3 : tie.Need-returns-3
-returns-3 c = (quads-twice _ _ _ _ _ (c .before .before .before .before .before .before .before .before .before .before .quads-held .ensures) (c .before .before .before .before .before .before .before .before .before .if1 .left) (c .before .before .before .before .before .before .before .before .graphs-sound .ensures) (c .before .before .before .before .before .before .before .if2 .left) _ (c .before .before .before .before .before .decode .ensures) (c .before .quads-distinct .ensures) (c .if3 .taken), λ e. absurd (never e))
+returns-3 c =
+    let c₁ = c .before in let c₂ = c₁ .before .before .before .before in let c₃ = c₂ .before .before in let c₄ = c₃ .before in let c₅ = c₄ .before in
+    let c₆ = c₅ .before in (
+      quads-twice _ _ _ _ _ (c₆ .quads-held .ensures) (c₅ .if1 .left) (c₄ .graphs-sound .ensures) (c₃ .if2 .left) _ (c₂ .decode .ensures) (c₁ .quads-distinct .ensures)
+          (c .if3 .taken),
+      λ e. absurd (never e),
+    )
 
 quads-sound-requires : tie.Need-quads-sound-requires
-quads-sound-requires c κs = (c .before .before .before .before .before .before .before .before .before .before .before .before .before .before .before .before .pre .1 .0, omega (arith, held-few _ _ (c .before .before .before .before .before .before .before .before .before .before .before .quads-held .ensures) (c .before .before .before .before .before .before .before .before .before .before .if1 .left), c .before .before .before .before .before .before .before .before .before .before .before .before .before .before .before .before .pre .1 .1, c .before .before .before .before .before .rows .given))
+quads-sound-requires c κs =
+    let c₁ = c .before .before .before .before .before in let c₂ = c₁ .before .before .before .before .before in let c₃ = c₂ .before in
+    let c₄ = c₃ .before .before .before .before .before in
+    (c₄ .pre .1 .0, omega (arith, held-few _ _ (c₃ .quads-held .ensures) (c₂ .if1 .left), c₄ .pre .1 .1, c₁ .rows .given))
 
 same-length-2 : tie.Need-same-length-2
 same-length-2 c = search needs
 
 returns-4 : tie.Need-returns-4
-returns-4 c = (quads-all _ _ _ _ _ (c .before .before .before .before .before .before .before .before .before .before .before .before .quads-held .ensures) (c .before .before .before .before .before .before .before .before .before .before .before .if1 .left) (c .before .before .before .before .before .before .before .before .before .before .graphs-sound .ensures) (c .before .before .before .before .before .before .before .before .before .if2 .left) _ (c .before .before .before .before .before .before .before .decode .ensures) (c .before .before .before .quads-distinct .ensures) (c .before .before .if3 .left) (c .quads-sound .ensures), λ e. c .before .before .before .before .before .before .before .decode .ensures)
+returns-4 c =
+    let c₁ = c .before .before in let c₂ = c₁ .before in let c₃ = c₂ .before .before .before .before in let c₄ = c₃ .before .before in let c₅ = c₄ .before in let c₆ = c₅ .before in
+    let c₇ = c₆ .before in (
+      quads-all _ _ _ _ _ (c₇ .quads-held .ensures) (c₆ .if1 .left) (c₅ .graphs-sound .ensures) (c₄ .if2 .left) _ (c₃ .decode .ensures) (c₂ .quads-distinct .ensures) (c₁ .if3 .left)
+          (c .quads-sound .ensures),
+      λ e. c₃ .decode .ensures,
+    )
 
 pub quads-and-graphs-spec : {M : Type 1} → statement M
 quads-and-graphs-spec =

@@ -18,16 +18,23 @@ mul-end : tie.Need-mul-end
 mul-end c = omega (arith, holds-few _ _ (c .before .before .before .pre .0))
 
 slice-aggregate-same-bytes : tie.Need-slice-aggregate-same-bytes
-slice-aggregate-same-bytes c = sym (length-take-le (c .before .before .before .before .args .known * slotWidth) (c .before .before .before .before .args .loading .now) (omega (arith, holds-few _ _ (c .before .before .before .before .pre .0), c .before .before .before .before .pre .0 .width)))
+slice-aggregate-same-bytes c =
+    let c₁ = c .before .before .before .before in
+    sym (length-take-le (c₁ .args .loaded * slotWidth) (c₁ .args .loading .now) (omega (arith, holds-few _ _ (c₁ .pre .0), c₁ .pre .0 .width)))
 
 slice-aggregate-same-bytes-2 : tie.Need-slice-aggregate-same-bytes-2
-slice-aggregate-same-bytes-2 c = sym (length-take-le (c .before .before .before .before .before .args .known * slotWidth) (c .before .before .before .before .before .args .table .now) (omega (arith, holds-few _ _ (c .before .before .before .before .before .pre .1), c .before .before .before .before .before .pre .1 .width, c .before .before .if1 .left)))
+slice-aggregate-same-bytes-2 c =
+    let c₁ = c .before .before in let c₂ = c₁ .before .before .before in
+    sym (length-take-le (c₂ .args .loaded * slotWidth) (c₂ .args .table .now) (omega (arith, holds-few _ _ (c₂ .pre .1), c₂ .pre .1 .width, c₁ .if1 .left)))
 
 same-bytes-requires : tie.Need-same-bytes-requires
 same-bytes-requires c κs = search needs
 
 returns-2 : tie.Need-returns-2
-returns-2 c = begins _ _ _ _ (c .before .before .before .before .before .before .pre .0) (c .before .before .before .before .before .before .pre .1) (λ k. omega (arith, c .before .before .before .before .before .shared-slice-known .given k)) (λ k. omega (arith, c .before .before .before .before .shared-slice-known2 .given k)) (omega arith) (compared _ _ _ (c .same-bytes .ensures))
+returns-2 c =
+    let c₁ = c .before .before .before .before in let c₂ = c₁ .before in let c₃ = c₂ .before in
+    begins _ _ _ _ (c₃ .pre .0) (c₃ .pre .1) (λ k. omega (arith, c₂ .shared-slice-known .given k)) (λ k. omega (arith, c₁ .shared-slice-known2 .given k)) (omega arith)
+    (compared _ _ _ (c .same-bytes .ensures))
 
 pub begins-with-spec : {M : Type 1} → statement M
 begins-with-spec =

@@ -2,15 +2,11 @@ use Prim.Native.Nat.{_≤_, _-_}
 use native.Mathlib.Omega.{arith}
 use borrow.Author.Needs.{needs}
 use mathlib.Core.Path.{_≡_, refl}
-use lib.ListN.{length}
 use Rattle.definitions.specs.Scope.{variables}
 use Rattle.store.specs.Canonical.{cleanBindings, numberOf}
 use Rattle.store.proofs.FillLaws.{madeTo, made-variable, made-variables}
 use Rattle.store.proofs.canonical.clean_bindings.Statement.{statement}
 use Rattle.store.proofs.canonical.clean_bindings.Tie as tie
-use Rattle.store.proofs.canonical.clean_bindings.Reads as reads
-use Rattle.store.proofs.canonical.clean_bindings.Lts as lts
-use Rattle.store.proofs.canonical.number_if.Reads as number-if-reads
 
 abbrev Inv-loop : tie.InvT-loop
 Inv-loop bound bindings clean₀ v₀ clean v = (v ≤ 16) × (clean ≡ madeTo (numberOf bound bindings) 0 variables 16 v)

@@ -6,8 +6,6 @@ use lib.ListN.{length}
 use Rattle.store.proofs.FillLaws.{copiedTo, copied-next, copied-all}
 use Rattle.store.proofs.canonical.clean_fetched.Statement.{statement}
 use Rattle.store.proofs.canonical.clean_fetched.Tie as tie
-use Rattle.store.proofs.canonical.clean_fetched.Reads as reads
-use Rattle.store.proofs.canonical.clean_fetched.Lts as lts
 
 abbrev Inv-loop : tie.InvT-loop
 Inv-loop graphs fetched n clean₀ i₀ clean i = (i ≤ n) × (clean ≡ copiedTo 0 fetched 64 i)

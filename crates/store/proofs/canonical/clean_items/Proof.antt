@@ -1,7 +1,7 @@
 use Prim.Native.Nat.{_≤_, _-_}
 use native.Mathlib.Omega.{arith}
 use borrow.Author.Needs.{needs}
-use mathlib.Core.Path.{_≡_, refl, ap}
+use mathlib.Core.Path.{_≡_, ap}
 use lib.ListN.{length, replicate}
 use Rattle.definitions.specs.Bytes.{filled}
 use Rattle.definitions.specs.Saved.{zeroItem, noItem}
@@ -10,10 +10,6 @@ use Rattle.store.specs.Canonical.{cleanItem, cleanItems}
 use Rattle.store.proofs.FillLaws.{madeTo, made-next, made-all}
 use Rattle.store.proofs.canonical.clean_items.Statement.{statement}
 use Rattle.store.proofs.canonical.clean_items.Tie as tie
-use Rattle.store.proofs.canonical.clean_items.Reads as reads
-use Rattle.store.proofs.canonical.clean_items.Lts as lts
-use Rattle.store.proofs.canonical.clean_item.Reads as clean-item-reads
-use Rattle.store.proofs.stack.fresh_item.Reads as fresh-item-reads
 
 abbrev Inv-loop : tie.InvT-loop
 Inv-loop height script items n clean₀ i₀ clean i = (i ≤ n) × (clean ≡ madeTo (cleanItem script) zeroItem items 24 i)
@@ -50,11 +46,19 @@ loop-less : tie.Need-loop-less Inv-loop μ-loop
 loop-less c = search needs
 
 loop-again : tie.Need-loop-again Inv-loop μ-loop
-loop-again c = let l : length (c .before .before .before .before .before .before .args .t2) ≡ 24 = search needs in (omega arith, made-next (cleanItem (c .before .before .before .before .before .before .args .script .now)) zeroItem (c .before .before .before .before .before .before .args .t2) 24 (c .before .before .before .loop .i) noItem (omega arith) (omega arith) _ (c .before .before .before .loop .inv .1) _ (c .clean-item .ensures))
+loop-again c =
+    let c₁ = c .before .before .before in let c₂ = c₁ .before .before .before in
+    let l : length (c₂ .args .t2) ≡ 24 = search needs in (
+      omega arith,
+      made-next (cleanItem (c₂ .args .script .now)) zeroItem (c₂ .args .t2) 24 (c₁ .loop .i) noItem (omega arith) (omega arith) _ (c₁ .loop .inv .1) _
+          (c .clean-item .ensures),
+    )
 
 returns : tie.Need-returns Inv-loop μ-loop
 unfolding cleanItems
-returns c = made-all (cleanItem (c .before .before .before .before .args .script .now)) zeroItem (c .before .before .before .before .args .t2) 24 (c .before .loop .i) (c .before .before .before .before .args .height) _ (c .before .loop .inv .1) (omega arith)
+returns c =
+    let c₁ = c .before in let c₂ = c₁ .before .before .before in
+    made-all (cleanItem (c₂ .args .script .now)) zeroItem (c₂ .args .t2) 24 (c₁ .loop .i) (c₂ .args .height) _ (c₁ .loop .inv .1) (omega arith)
 
 pub clean-items-spec : {M : Type 1} → statement M
 clean-items-spec =

@@ -6,8 +6,6 @@ use lib.ListN.{length}
 use Rattle.store.proofs.FillLaws.{copiedTo, copied-next, copied-all, copied-whole}
 use Rattle.store.proofs.canonical.first_numbers.Statement.{statement}
 use Rattle.store.proofs.canonical.first_numbers.Tie as tie
-use Rattle.store.proofs.canonical.first_numbers.Reads as reads
-use Rattle.store.proofs.canonical.first_numbers.Lts as lts
 
 abbrev Inv-loop : tie.InvT-loop
 Inv-loop count numbers n kept₀ k₀ kept k = (k ≤ n) × (k ≤ 4) × (kept ≡ copiedTo 0 numbers 4 k)
@@ -21,7 +19,8 @@ loop-holds c = (omega arith, omega arith, refl)
 returns : tie.Need-returns Inv-loop μ-loop
 returns c =
     let l : length (c .before .before .before .args .t2) ≡ 4 = search needs in
-    copied-whole (c .before .before .before .args .t2) 4 (c .before .before .loop .k) (c .before .before .before .args .count) _ (c .before .before .loop .inv .2) (omega arith) (c .if1 .taken) (omega arith)
+    copied-whole (c .before .before .before .args .t2) 4 (c .before .before .loop .k) (c .before .before .before .args .count) _ (c .before .before .loop .inv .2) (omega arith)
+    (c .if1 .taken) (omega arith)
 
 mul-kept : tie.Need-mul-kept Inv-loop μ-loop
 mul-kept c = search needs
@@ -42,7 +41,10 @@ loop-less : tie.Need-loop-less Inv-loop μ-loop
 loop-less c = search needs
 
 loop-again : tie.Need-loop-again Inv-loop μ-loop
-loop-again c = let l : length (c .before .before .before .args .t2) ≡ 4 = search needs in (omega arith, omega arith, copied-next 0 _ 4 _ 0 (omega arith) (omega arith) _ (c .before .before .loop .inv .2))
+loop-again c =
+    let c₁ = c .before .before in let c₂ = c₁ .before in
+    let l : length (c₂ .args .t2) ≡ 4 = search needs in
+    (omega arith, omega arith, copied-next 0 _ 4 _ 0 (omega arith) (omega arith) _ (c₁ .loop .inv .2))
 
 returns-2 : tie.Need-returns-2 Inv-loop μ-loop
 returns-2 c =

@@ -9,12 +9,10 @@ use Rattle.store.specs.Quads.{quad}
 use Rattle.store.proofs.QuadLaws.{quads-all, quad-there, quad-other, quad-nowhere}
 use Rattle.store.proofs.quads.has_quad.Statement.{statement}
 use Rattle.store.proofs.quads.has_quad.Tie as tie
-use Rattle.store.proofs.quads.has_quad.Reads as reads
-use Rattle.store.proofs.quads.has_quad.Lts as lts
-use Rattle.store.proofs.quads.is_quad_at.Reads as is-quad-at-reads
 
 abbrev Inv-loop : tie.InvT-loop
-Inv-loop table count graph subject property object i₀ i = (i ≤ count) × (stored (quad graph subject property object) (quadsFrom count table 0) ≡ stored (quad graph subject property object) (quadsFrom (count - i) table (i * quadWidth)))
+Inv-loop table count graph subject property object i₀ i = (i ≤ count)
+    × (stored (quad graph subject property object) (quadsFrom count table 0) ≡ stored (quad graph subject property object) (quadsFrom (count - i) table (i * quadWidth)))
 
 abbrev μ-loop : tie.MeasureT-loop
 μ-loop table count graph subject property object i₀ i = count - i

@@ -16,7 +16,10 @@ number-at-requires : tie.Need-number-at-requires
 number-at-requires c κs = search needs
 
 returns : tie.Need-returns
-returns c = objects-differ (quad (c .before .before .before .args .graph) (c .before .before .before .args .subject) (c .before .before .before .args .property) (c .before .before .before .args .object)) (quadAt (c .before .before .before .args .table .now) (c .before .before .before .args .at)) (λ e. c .if1 .taken (e ∙ sym (c .before .number-at .ensures)))
+returns c =
+    let c₁ = c .before in let c₂ = c₁ .before .before in
+    objects-differ (quad (c₂ .args .graph) (c₂ .args .subject) (c₂ .args .property) (c₂ .args .object)) (quadAt (c₂ .args .table .now) (c₂ .args .at))
+    (λ e. c .if1 .taken (e ∙ sym (c₁ .number-at .ensures)))
 
 number-at-requires-2 : tie.Need-number-at-requires-2
 number-at-requires-2 c κs = search needs
@@ -34,7 +37,11 @@ number-at-requires-4 : tie.Need-number-at-requires-4
 number-at-requires-4 c κs = search needs
 
 returns-2 : tie.Need-returns-2
-returns-2 c = (λ t. eqb (c .before .before .before .before .before .before .args .graph) (c .before .before .number-at2 .ensures t) && (eqb (c .before .before .before .before .before .before .args .subject) (c .before .number-at3 .ensures t) && eqb (c .before .before .before .before .before .before .args .property) (c .number-at4 .ensures t))) ∙ objects-same (quad (c .before .before .before .before .before .before .args .graph) (c .before .before .before .before .before .before .args .subject) (c .before .before .before .before .before .before .args .property) (c .before .before .before .before .before .before .args .object)) (quadAt (c .before .before .before .before .before .before .args .table .now) (c .before .before .before .before .before .before .args .at)) (c .before .before .before .if1 .left ∙ c .before .before .before .before .number-at .ensures)
+returns-2 c =
+    let c₁ = c .before in let c₂ = c₁ .before in let c₃ = c₂ .before in let c₄ = c₃ .before in let c₅ = c₄ .before .before in
+    (λ t. eqb (c₅ .args .graph) (c₂ .number-at2 .ensures t) && (eqb (c₅ .args .subject) (c₁ .number-at3 .ensures t) && eqb (c₅ .args .property) (c .number-at4 .ensures t)))
+    ∙ objects-same (quad (c₅ .args .graph) (c₅ .args .subject) (c₅ .args .property) (c₅ .args .object)) (quadAt (c₅ .args .table .now) (c₅ .args .at))
+    (c₃ .if1 .left ∙ c₄ .number-at .ensures)
 
 pub is-quad-at-spec : {M : Type 1} → statement M
 is-quad-at-spec =

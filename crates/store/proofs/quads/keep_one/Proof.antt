@@ -1,6 +1,5 @@
 use Prim.Native.Nat.{_*_}
 use mathlib.Core.Path.{sym, _∙_}
-use borrow.Author.Tests.{eq-eqb, ne-eqb}
 use Rattle.definitions.specs.Limits.{quadWidth}
 use Rattle.definitions.specs.Saved.{quadAt}
 use Rattle.store.specs.Quads.{quad}
@@ -8,10 +7,6 @@ use Rattle.store.proofs.QuadLaws.{kept-same, kept-other}
 use borrow.Author.Needs.{needs}
 use Rattle.store.proofs.quads.keep_one.Statement.{statement}
 use Rattle.store.proofs.quads.keep_one.Tie as tie
-use Rattle.store.proofs.quads.keep_one.Reads as reads
-use Rattle.store.proofs.quads.keep_one.Lts as lts
-use Rattle.fields.proofs.numbers.number_at.Reads as number-at-reads
-use Rattle.store.proofs.quads.put_quad.Reads as put-quad-reads
 
 mul-at : tie.Need-mul-at
 mul-at c = search needs
@@ -20,7 +15,9 @@ number-at-requires : tie.Need-number-at-requires
 number-at-requires c κs = search needs
 
 returns : tie.Need-returns
-returns c = kept-same (c .before .before .before .before .args .graph) (quadAt (c .before .before .before .before .args .quads .now) (c .before .before .before .before .args .i * quadWidth)) (c .before .before .before .before .args .work .now) (c .before .before .before .before .args .kept) (sym (c .before .number-at .ensures) ∙ c .if1 .taken)
+returns c =
+    let c₁ = c .before in let c₂ = c₁ .before .before .before in
+    kept-same (c₂ .args .graph) (quadAt (c₂ .args .quads .now) (c₂ .args .i * quadWidth)) (c₂ .args .work .now) (c₂ .args .kept) (sym (c₁ .number-at .ensures) ∙ c .if1 .taken)
 
 add-number-at : tie.Need-add-number-at
 add-number-at c = search needs
@@ -52,8 +49,11 @@ same-length c = search needs
 returns-2 : tie.Need-returns-2
 returns-2 c =
     let a = c .before .before .before .before .before .before .before .before .before .before .before .args in
-    kept-other (a .graph) (quadAt (a .quads .now) (a .i * quadWidth)) (a .work .now) (a .kept) (λ e. c .before .before .before .before .before .before .before .if1 .left (c .before .before .before .before .before .before .before .before .number-at .ensures ∙ e))
-    _ (λ t. quad (c .before .before .before .before .before .before .before .before .number-at .ensures t) (c .before .before .before .before .before .before .number-at2 .ensures t) (c .before .before .before .before .before .number-at3 .ensures t) (c .before .before .before .before .number-at4 .ensures t))
+    kept-other (a .graph) (quadAt (a .quads .now) (a .i * quadWidth)) (a .work .now) (a .kept)
+    (λ e. c .before .before .before .before .before .before .before .if1 .left (c .before .before .before .before .before .before .before .before .number-at .ensures ∙ e))
+    _ (λ t. quad (c .before .before .before .before .before .before .before .before .number-at .ensures t)
+    (c .before .before .before .before .before .before .number-at2 .ensures t) (c .before .before .before .before .before .number-at3 .ensures t)
+    (c .before .before .before .before .number-at4 .ensures t))
     _ (c .before .before .put-quad .ensures)
 
 pub keep-one-spec : {M : Type 1} → statement M

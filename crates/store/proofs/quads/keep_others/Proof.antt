@@ -1,6 +1,6 @@
 use Prim.Native.Nat.{ℕ, _≤_, _-_}
 use native.Mathlib.Omega.{arith}
-use mathlib.Core.Path.{_≡_, refl, ap, _∙_, sym}
+use mathlib.Core.Path.{_≡_, refl, ap, _∙_}
 use borrow.Author.Needs.{needs}
 use mathlib.Core.List.{[]}
 use lib.ListN.{length}
@@ -10,9 +10,6 @@ use Rattle.definitions.specs.Saved.{quadTable, quadsFrom}
 use Rattle.store.proofs.QuadLaws.{others, keep-next}
 use Rattle.store.proofs.quads.keep_others.Statement.{statement}
 use Rattle.store.proofs.quads.keep_others.Tie as tie
-use Rattle.store.proofs.quads.keep_others.Reads as reads
-use Rattle.store.proofs.quads.keep_others.Lts as lts
-use Rattle.store.proofs.quads.keep_one.Reads as keep-one-reads
 
 abbrev Inv-loop : tie.InvT-loop
 Inv-loop quads count graph work₀ kept₀ i₀ work kept i = (i ≤ count) × (kept ≤ i) × (kept ≡ length (others graph quads i)) × (work ≡ quadTable (others graph quads i)) × (length work ≡ quadTableWidth)
@@ -40,7 +37,8 @@ loop-again c =
     let n = c .before .before .before .before .before in
     let a = n .before .before .before .args in
     let i = n .loop .inv in
-    let r = keep-next (a .graph) (a .quads .now) (n .loop .i) (n .loop .kept) (n .loop .work) (i .2) (i .3) (i .1) (omega arith) _ _ (c .before .before .keep-one .ensures .0) (c .before .before .keep-one .ensures .1) in
+    let r = keep-next (a .graph) (a .quads .now) (n .loop .i) (n .loop .kept) (n .loop .work) (i .2) (i .3) (i .1) (omega arith) _ _ (c .before .before .keep-one .ensures .0)
+    (c .before .before .keep-one .ensures .1) in
     (omega arith, r .0, r .1, r .2, r .3)
 
 same-length : tie.Need-same-length Inv-loop μ-loop

@@ -1,12 +1,7 @@
-use mathlib.Core.Path.{refl}
 use Rattle.store.proofs.QuadLaws.{quad-stored}
 use borrow.Author.Needs.{needs}
 use Rattle.store.proofs.quads.put_quad.Statement.{statement}
 use Rattle.store.proofs.quads.put_quad.Tie as tie
-use Rattle.store.proofs.quads.put_quad.Reads as reads
-use Rattle.store.proofs.quads.put_quad.Lts as lts
-use Rattle.bytes.proofs.copy.Reads as copy-reads
-use Rattle.store.proofs.quads.quad_bytes.Reads as quad-bytes-reads
 
 mul-at : tie.Need-mul-at
 mul-at c = search needs
@@ -36,7 +31,9 @@ same-length : tie.Need-same-length
 same-length c = search needs
 
 returns : tie.Need-returns
-returns c = quad-stored (c .before .before .before .before .before .before .before .args .table .now) (c .before .before .before .before .before .quad-bytes .result) (c .before .before .copy .last .1 .0) _ (c .before .before .before .before .before .before .before .args .n) (c .before .before .before .before .before .quad-bytes .ensures) (c .before .before .before .before .before .before .before .pre .1) (c .before .before .before .before .before .before .before .pre .0) (c .before .before .copy .ensures .1)
+returns c =
+    let c₁ = c .before .before in let c₂ = c₁ .before .before .before in let c₃ = c₂ .before .before in
+    quad-stored (c₃ .args .table .now) (c₂ .quad-bytes .result) (c₁ .copy .last .1 .0) _ (c₃ .args .n) (c₂ .quad-bytes .ensures) (c₃ .pre .1) (c₃ .pre .0) (c₁ .copy .ensures .1)
 
 pub put-quad-spec : {M : Type 1} → statement M
 put-quad-spec =

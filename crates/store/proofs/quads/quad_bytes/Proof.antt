@@ -4,10 +4,6 @@ use Rattle.definitions.specs.Saved.{quadBytes}
 use borrow.Author.Needs.{needs}
 use Rattle.store.proofs.quads.quad_bytes.Statement.{statement}
 use Rattle.store.proofs.quads.quad_bytes.Tie as tie
-use Rattle.store.proofs.quads.quad_bytes.Reads as reads
-use Rattle.store.proofs.quads.quad_bytes.Lts as lts
-use Rattle.store.proofs.quads.high.Reads as high-reads
-use Rattle.store.proofs.quads.low.Reads as low-reads
 
 low-requires : tie.Need-low-requires
 low-requires c κs = search needs
@@ -35,7 +31,10 @@ high-requires-4 c κs = search needs
 
 returns : tie.Need-returns
 unfolding quadBytes littleBytes
-returns c = λ t. c .before .before .before .before .before .before .before .low .ensures t ∷ c .before .before .before .before .before .before .high .ensures t ∷ c .before .before .before .before .before .low2 .ensures t ∷ c .before .before .before .before .high2 .ensures t ∷ c .before .before .before .low3 .ensures t ∷ c .before .before .high3 .ensures t ∷ c .before .low4 .ensures t ∷ c .high4 .ensures t ∷ []
+returns c =
+    let c₁ = c .before in let c₂ = c₁ .before in let c₃ = c₂ .before in let c₄ = c₃ .before in let c₅ = c₄ .before in let c₆ = c₅ .before in let c₇ = c₆ .before in
+    λ t. c₇ .low .ensures t ∷ c₆ .high .ensures t ∷ c₅ .low2 .ensures t ∷ c₄ .high2 .ensures t ∷ c₃ .low3 .ensures t ∷ c₂ .high3 .ensures t ∷ c₁ .low4 .ensures t
+    ∷ c .high4 .ensures t ∷ []
 
 pub quad-bytes-spec : {M : Type 1} → statement M
 quad-bytes-spec =

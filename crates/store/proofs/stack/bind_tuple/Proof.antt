@@ -8,10 +8,6 @@ use Rattle.store.specs.Stack.{boundAll}
 use Rattle.store.proofs.BindLaws.{bind-next, bind-none, bind-all}
 use Rattle.store.proofs.stack.bind_tuple.Statement.{statement}
 use Rattle.store.proofs.stack.bind_tuple.Tie as tie
-use Rattle.store.proofs.stack.bind_tuple.Reads as reads
-use Rattle.store.proofs.stack.bind_tuple.Lts as lts
-use Rattle.store.proofs.stack.bind.Reads as bind-reads
-use Rattle.store.proofs.stack.index.Reads as index-reads
 
 abbrev Inv-loop : tie.InvT-loop
 Inv-loop script at count tuple next₀ k₀ next k =
@@ -56,8 +52,12 @@ loop-again : tie.Need-loop-again Inv-loop μ-loop
 loop-again c =
     let n = c .before .before .before .before in
     let a = n .before .before .args in
-    let l : length (a .t5) ≡ 4 = search needs in
-    (omega arith, c .bind .ensures ∙ bind-next (a .run) (n .loop .next) (a .script .now) (a .t5) (a .at) (a .count) (n .loop .k) (n .loop .k - 1) _ _ (omega arith) (omega arith) (omega arith) (c .before .index .ensures) refl (n .loop .inv .1))
+    let l : length (a .t5) ≡ 4 = search needs in (
+      omega arith,
+      c .bind .ensures
+          ∙ bind-next (a .control) (n .loop .next) (a .script .now) (a .t5) (a .at) (a .count) (n .loop .k) (n .loop .k - 1) _ _ (omega arith) (omega arith) (omega arith)
+          (c .before .index .ensures) refl (n .loop .inv .1),
+    )
 
 returns : tie.Need-returns Inv-loop μ-loop
 returns c = bind-all _ _ _ _ _ _ _ (omega arith) (c .before .loop .inv .1)

@@ -25,7 +25,9 @@ shared-slice-read-if1 : tie.Need-shared-slice-read-if1 Inv-loop μ-loop
 shared-slice-read-if1 c = search needs
 
 returns : tie.Need-returns Inv-loop μ-loop
-returns c = place-here (c .before .before .before .before .args .list .now) (c .before .before .before .before .args .x) (c .before .before .before .loop .i) (c .before .before .before .loop .inv) (c .before .before .loop-test .taken) (c .if1 .taken)
+returns c =
+    let c₁ = c .before .before in let c₂ = c₁ .before in let c₃ = c₂ .before in
+    place-here (c₃ .args .list .now) (c₃ .args .x) (c₂ .loop .i) (c₂ .loop .inv) (c₁ .loop-test .taken) (c .if1 .taken)
 
 add-i : tie.Need-add-i Inv-loop μ-loop
 add-i c = search needs
@@ -34,7 +36,9 @@ loop-less : tie.Need-loop-less Inv-loop μ-loop
 loop-less c = search needs
 
 loop-again : tie.Need-loop-again Inv-loop μ-loop
-loop-again c = place-next (c .before .before .before .before .args .list .now) (c .before .before .before .before .args .x) (c .before .before .before .loop .i) (c .before .before .before .loop .inv) (c .before .before .loop-test .taken) (c .if1 .left)
+loop-again c =
+    let c₁ = c .before .before in let c₂ = c₁ .before in let c₃ = c₂ .before in
+    place-next (c₃ .args .list .now) (c₃ .args .x) (c₂ .loop .i) (c₂ .loop .inv) (c₁ .loop-test .taken) (c .if1 .left)
 
 returns-2 : tie.Need-returns-2 Inv-loop μ-loop
 returns-2 c = place-end (c .before .before .args .list .now) (c .before .before .args .x) (c .before .loop .i) (c .before .loop .inv) (c .loop-test .left)

@@ -26,7 +26,9 @@ mul-sum : tie.Need-mul-sum Inv-loop μ-loop
 mul-sum c = omega (arith, times-low (c .word-at .result) (c .before .before .loop .at) (c .word-at .ensures .1) (c .before .loop-test .taken))
 
 add-sum-2 : tie.Need-add-sum-2 Inv-loop μ-loop
-add-sum-2 c = omega (arith, times-low (c .word-at .result) (c .before .before .loop .at) (c .word-at .ensures .1) (c .before .loop-test .taken), c .before .before .loop .inv .low, c .before .loop-test .taken)
+add-sum-2 c =
+    let c₁ = c .before in let c₂ = c₁ .before in
+    omega (arith, times-low (c .word-at .result) (c₂ .loop .at) (c .word-at .ensures .1) (c₁ .loop-test .taken), c₂ .loop .inv .low, c₁ .loop-test .taken)
 
 add-at : tie.Need-add-at Inv-loop μ-loop
 add-at c = search needs

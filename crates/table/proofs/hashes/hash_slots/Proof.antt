@@ -50,7 +50,9 @@ loop-less : tie.Need-loop-less Inv-loop μ-loop
 loop-less c = search needs
 
 loop-again : tie.Need-loop-again Inv-loop μ-loop
-loop-again c = (omega arith, simp length-set (c .before .before .before .loop .inv .1), one-slot (c .before .before .before .before .before .args .table .now) (c .before .before .before .loop .hashes) (c .before .before .before .loop .i) _ (omega arith) (c .before .before .before .loop .inv .2) (c .hash-of .ensures))
+loop-again c =
+    let c₁ = c .before .before .before in let c₂ = c₁ .before .before in
+    (omega arith, simp length-set (c₁ .loop .inv .1), one-slot (c₂ .args .table .now) (c₁ .loop .hashes) (c₁ .loop .i) _ (omega arith) (c₁ .loop .inv .2) (c .hash-of .ensures))
 
 returns : tie.Need-returns Inv-loop μ-loop
 returns c = all-hashed _ (c .before .loop .hashes) _ (c .before .loop .i) (omega arith) (c .before .loop .inv .2)

@@ -31,7 +31,9 @@ loop-less : tie.Need-loop-less Inv-loop μ-loop
 loop-less c = search needs
 
 loop-again : tie.Need-loop-again Inv-loop μ-loop
-loop-again c = seen-next (c .before .before .before .args .list .now) (c .before .before .before .args .x) (c .before .before .loop .i) (c .before .before .loop .seen) (c .before .before .loop .inv) (c .before .loop-test .taken)
+loop-again c =
+    let c₁ = c .before in let c₂ = c₁ .before in let c₃ = c₂ .before in
+    seen-next (c₃ .args .list .now) (c₃ .args .x) (c₂ .loop .i) (c₂ .loop .seen) (c₂ .loop .inv) (c₁ .loop-test .taken)
 
 returns : tie.Need-returns Inv-loop μ-loop
 returns c = seen-end (c .before .before .args .list .now) (c .before .before .args .x) (c .before .loop .i) (c .before .loop .seen) (c .before .loop .inv) (c .loop-test .left)

@@ -58,16 +58,30 @@ first-in-requires : tie.Need-first-in-requires Inv-loop μ-loop
 first-in-requires c κs = search needs
 
 add-result : tie.Need-add-result Inv-loop μ-loop
-add-result c = omega (arith, block-here (c .before .before .before .before .before .before .before .before .before .args .list .now) (c .before .before .before .before .before .before .before .before .before .args .x) (c .before .before .before .before .before .before .before .loop .i) (c .before .before .before .before .before .before .before .loop .inv .1) (c .before .before .before .before .before .block .result) (c .before .before .before .is-in .ensures) (c .before .before .if1 .taken) (c .first-in .ensures), place-most (c .before .before .before .before .before .before .before .before .before .args .x) (c .before .before .before .before .before .before .before .before .before .args .list .now))
+add-result c =
+    let c₁ = c .before .before in let c₂ = c₁ .before in let c₃ = c₂ .before .before in let c₄ = c₃ .before .before in let c₅ = c₄ .before .before in
+    omega (
+      arith,
+      block-here (c₅ .args .list .now) (c₅ .args .x) (c₄ .loop .i) (c₄ .loop .inv .1) (c₃ .block .result) (c₂ .is-in .ensures) (c₁ .if1 .taken) (c .first-in .ensures),
+      place-most (c₅ .args .x) (c₅ .args .list .now),
+    )
 
 returns : tie.Need-returns Inv-loop μ-loop
-returns c = block-here (c .before .before .before .before .before .before .before .before .before .args .list .now) (c .before .before .before .before .before .before .before .before .before .args .x) (c .before .before .before .before .before .before .before .loop .i) (c .before .before .before .before .before .before .before .loop .inv .1) (c .before .before .before .before .before .block .result) (c .before .before .before .is-in .ensures) (c .before .before .if1 .taken) (c .first-in .ensures)
+returns c =
+    let c₁ = c .before .before in let c₂ = c₁ .before in let c₃ = c₂ .before .before in let c₄ = c₃ .before .before in let c₅ = c₄ .before .before in
+    block-here (c₅ .args .list .now) (c₅ .args .x) (c₄ .loop .i) (c₄ .loop .inv .1) (c₃ .block .result) (c₂ .is-in .ensures) (c₁ .if1 .taken) (c .first-in .ensures)
 
 loop-less : tie.Need-loop-less Inv-loop μ-loop
 loop-less c = omega (arith, c .before .before .before .block .ensures)
 
 loop-again : tie.Need-loop-again Inv-loop μ-loop
-loop-again c = (omega (arith, c .before .before .before .block .ensures), block-next (c .before .before .before .before .before .before .before .args .list .now) (c .before .before .before .before .before .before .before .args .x) (c .before .before .before .before .before .loop .i) (c .before .before .before .before .before .loop .inv .1) (c .before .before .before .block .result) (c .before .is-in .ensures) (omega (arith, c .before .before .before .block .ensures)) (c .if1 .left))
+loop-again c =
+    let c₁ = c .before in let c₂ = c₁ .before .before in let c₃ = c₂ .before .before in
+    let c₄ = c₃ .before .before in (
+      omega (arith, c₂ .block .ensures),
+      block-next (c₄ .args .list .now) (c₄ .args .x) (c₃ .loop .i) (c₃ .loop .inv .1) (c₂ .block .result) (c₁ .is-in .ensures)
+          (omega (arith, c₂ .block .ensures)) (c .if1 .left),
+    )
 
 returns-2 : tie.Need-returns-2 Inv-loop μ-loop
 returns-2 c = place-end (c .before .before .before .args .list .now) (c .before .before .before .args .x) (c .before .loop .i) (c .before .loop .inv .1) (c .loop-test .left)

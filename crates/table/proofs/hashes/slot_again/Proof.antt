@@ -31,7 +31,20 @@ shared-slice-read-find-slot : tie.Need-shared-slice-read-find-slot
 shared-slice-read-find-slot c = omega (arith, c .before .before .before .before .pre .1 .0, holds-few _ _ (c .before .before .before .before .pre .0), c .before .before .before .before .pre .1 .1 .1)
 
 find-slot-requires : tie.Need-find-slot-requires
-find-slot-requires c κs = (c .before .before .before .before .pre .0, (c .before .before .before .before .pre .1 .0, (c .before .before .before .before .pre .1 .1 .0, (slot-good _ _ (c .before .before .before .before .pre .0) _ (c .before .before .before .before .pre .1 .1 .1), (slot-hash _ (c .before .before .before .before .args .hashes .now) _ _ (c .before .before .before .before .pre .1 .1 .0) (c .before .before .before .before .pre .1 .1 .1), omega (arith, c .before .before .before .before .pre .1 .1 .1))))))
+find-slot-requires c κs =
+    let c₁ = c .before .before .before .before in (
+      c₁ .pre .0,
+      (
+        c₁ .pre .1 .0,
+        (
+          c₁ .pre .1 .1 .0,
+          (
+            slot-good _ _ (c₁ .pre .0) _ (c₁ .pre .1 .1 .1),
+            (slot-hash _ (c₁ .args .hashes .now) _ _ (c₁ .pre .1 .1 .0) (c₁ .pre .1 .1 .1), omega (arith, c₁ .pre .1 .1 .1)),
+          ),
+        ),
+      ),
+    )
 
 returns : tie.Need-returns
 returns c = slot-after (c .before .before .before .before .before .args .table .now) (c .before .before .before .before .before .args .i) (c .find-slot .ensures)

@@ -10,7 +10,9 @@ hash-of-requires : tie.Need-hash-of-requires
 hash-of-requires c κs = search needs
 
 find-slot-requires : tie.Need-find-slot-requires
-find-slot-requires c κs = (c .before .before .before .before .pre .0, (c .before .before .before .before .pre .1 .0, (c .before .before .before .before .pre .1 .1 .0, (c .before .before .before .before .pre .1 .1 .1, (c .hash-of .ensures, omega arith)))))
+find-slot-requires c κs =
+    let c₁ = c .before .before .before .before in
+    (c₁ .pre .0, (c₁ .pre .1 .0, (c₁ .pre .1 .1 .0, (c₁ .pre .1 .1 .1, (c .hash-of .ensures, omega arith)))))
 
 returns : tie.Need-returns
 returns c = c .find-slot .ensures ∙ number-start _ _ _ (c .before .before .before .before .before .pre .0) (c .before .before .before .before .before .pre .1 .1 .1)

@@ -26,7 +26,9 @@ same-length : tie.Need-same-length
 same-length c = search needs
 
 returns : tie.Need-returns
-returns c = slot-stored (c .before .before .before .before .before .before .args .table .now) (c .before .before .before .before .before .before .args .slot .now) (c .before .before .copy .last .1 .0) (c .before .before .before .before .before .before .args .n) (c .before .before .before .before .before .before .pre .1 .0) (c .before .before .before .before .before .before .pre .0) (c .before .before .before .before .before .before .pre .1 .1) (c .before .before .copy .ensures .1)
+returns c =
+    let c₁ = c .before .before in let c₂ = c₁ .before .before .before .before in
+    slot-stored (c₂ .args .table .now) (c₂ .args .slot .now) (c₁ .copy .last .1 .0) (c₂ .args .n) (c₂ .pre .1 .0) (c₂ .pre .0) (c₂ .pre .1 .1) (c₁ .copy .ensures .1)
 
 pub put-slot-spec : {M : Type 1} → statement M
 put-slot-spec =

@@ -23,7 +23,13 @@ same-length-2 : tie.Need-same-length-2
 same-length-2 c = search needs
 
 returns : tie.Need-returns
-returns c = (c .before .before .before .put-slot .ensures, put-hashed _ _ _ (c .before .before .before .before .before .before .before .before .pre .1 .0) (c .before .before .before .before .before .before .before .before .pre .0) (c .before .before .before .before .before .before .before .before .pre .1 .1 .1 .1) (c .before .before .before .before .before .before .before .before .args .hashes .now) (c .before .before .before .before .before .before .before .before .pre .1 .1 .0) (c .before .before .before .before .before .before .before .before .pre .1 .1 .1 .0) (c .before .before .before .put-slot .ensures) (c .hash-of .ensures))
+returns c =
+    let c₁ = c .before .before .before in
+    let c₂ = c₁ .before .before .before .before .before in (
+      c₁ .put-slot .ensures,
+      put-hashed _ _ _ (c₂ .pre .1 .0) (c₂ .pre .0) (c₂ .pre .1 .1 .1 .1) (c₂ .args .hashes .now) (c₂ .pre .1 .1 .0) (c₂ .pre .1 .1 .1 .0)
+          (c₁ .put-slot .ensures) (c .hash-of .ensures),
+    )
 
 pub put-term-spec : {M : Type 1} → statement M
 put-term-spec =

@@ -5,7 +5,7 @@ use borrow.Author.Needs.{needs}
 use Rattle.definitions.specs.Terms.{sameTerm}
 use Rattle.definitions.specs.Saved.{termsIn}
 use Rattle.fields.specs.Answers.{distinctIn}
-use Rattle.table.proofs.TableLaws.{holds-few, distinctFrom, distinct-zero, slots-end, slots-again, slots-next}
+use Rattle.table.proofs.TableLaws.{distinctFrom, distinct-zero, slots-end, slots-again, slots-next}
 use Rattle.table.proofs.slots.slots_distinct.Statement.{statement}
 use Rattle.table.proofs.slots.slots_distinct.Tie as tie
 
@@ -15,20 +15,16 @@ Inv-loop table n hashes i₀ i = distinctIn sameTerm (termsIn table) ≡ distinc
 abbrev μ-loop : tie.MeasureT-loop
 μ-loop table n hashes i₀ i = n - i
 
-hash-slots-requires : tie.Need-hash-slots-requires Inv-loop μ-loop
-hash-slots-requires c κs = (c .before .pre .width, holds-few _ _ (c .before .pre))
-
 loop-holds : tie.Need-loop-holds Inv-loop μ-loop
 loop-holds c = distinct-zero _
 
-slice-aggregate-slot-again : tie.Need-slice-aggregate-slot-again Inv-loop μ-loop
-slice-aggregate-slot-again c = search needs
-
 slot-again-requires : tie.Need-slot-again-requires Inv-loop μ-loop
-slot-again-requires c κs = (c .before .before .before .before .before .pre, (search needs, (c .before .before .before .hash-slots .ensures, c .before .loop-test .taken)))
+slot-again-requires c κs = (c .before .before .before .before .pre .0, (c .before .before .before .before .pre .1 .0, (c .before .before .before .before .pre .1 .1, c .loop-test .taken)))
 
 returns : tie.Need-returns Inv-loop μ-loop
-returns c = sym (c .before .before .before .before .loop .inv ∙ slots-again (c .before .before .before .before .before .before .before .args .table .now) (c .before .before .before .before .before .before .before .args .n) (c .before .before .before .before .before .before .before .pre) (c .before .before .before .before .loop .i) (c .before .before .before .loop-test .taken) (c .before .slot-again .ensures) (c .if1 .taken))
+returns c =
+    let c₁ = c .before in let c₂ = c₁ .before in let c₃ = c₂ .before in let c₄ = c₃ .before .before .before in
+    sym (c₃ .loop .inv ∙ slots-again _ _ (c₄ .pre .0) (c₃ .loop .i) (c₂ .loop-test .taken) (c₁ .slot-again .ensures) (c .if1 .taken))
 
 add-i : tie.Need-add-i Inv-loop μ-loop
 add-i c = search needs
@@ -37,10 +33,12 @@ loop-less : tie.Need-loop-less Inv-loop μ-loop
 loop-less c = search needs
 
 loop-again : tie.Need-loop-again Inv-loop μ-loop
-loop-again c = c .before .before .before .before .loop .inv ∙ slots-next (c .before .before .before .before .before .before .before .args .table .now) (c .before .before .before .before .before .before .before .args .n) (c .before .before .before .before .before .before .before .pre) (c .before .before .before .before .loop .i) (c .before .before .before .loop-test .taken) (c .before .slot-again .ensures) (c .if1 .left)
+loop-again c =
+    let c₁ = c .before in let c₂ = c₁ .before in let c₃ = c₂ .before in let c₄ = c₃ .before .before .before in
+    c₃ .loop .inv ∙ slots-next _ _ (c₄ .pre .0) (c₃ .loop .i) (c₂ .loop-test .taken) (c₁ .slot-again .ensures) (c .if1 .left)
 
 returns-2 : tie.Need-returns-2 Inv-loop μ-loop
-returns-2 c = sym (c .before .loop .inv ∙ slots-end _ _ (c .before .before .before .before .pre) _ (c .loop-test .left))
+returns-2 c = sym (c .before .loop .inv ∙ slots-end _ _ (c .before .before .before .before .pre .0) _ (c .loop-test .left))
 
 pub slots-distinct-spec : {M : Type 1} → statement M
 slots-distinct-spec =
@@ -48,9 +46,7 @@ slots-distinct-spec =
     (tie.spec
     Inv-loop
     μ-loop
-    hash-slots-requires
     loop-holds
-    slice-aggregate-slot-again
     slot-again-requires
     returns
     add-i

@@ -37,10 +37,14 @@ is-zero-requires : tie.Need-is-zero-requires Inv-loop μ-loop
 is-zero-requires c κs = search needs
 
 returns : tie.Need-returns Inv-loop μ-loop
-returns c = sym (c .before .before .before .before .before .before .loop .inv .2 ∙ from-zeros _ _ _ (c .before .before .before .before .before .loop-test .taken) (c .before .before .before .if1 .taken) (c .before .is-zero .ensures) (c .if2 .taken))
+returns c =
+    let c₁ = c .before in let c₂ = c₁ .before .before in let c₃ = c₂ .before .before in let c₄ = c₃ .before in
+    sym (c₄ .loop .inv .2 ∙ from-zeros _ _ _ (c₃ .loop-test .taken) (c₂ .if1 .taken) (c₁ .is-zero .ensures) (c .if2 .taken))
 
 returns-2 : tie.Need-returns-2 Inv-loop μ-loop
-returns-2 c = sym (c .before .before .before .before .before .before .loop .inv .2 ∙ from-rubbish _ _ _ (c .before .before .before .before .before .loop-test .taken) (c .before .before .before .if1 .taken) (c .before .is-zero .ensures) (c .if2 .left))
+returns-2 c =
+    let c₁ = c .before in let c₂ = c₁ .before .before in let c₃ = c₂ .before .before in let c₄ = c₃ .before in
+    sym (c₄ .loop .inv .2 ∙ from-rubbish _ _ _ (c₃ .loop-test .taken) (c₂ .if1 .taken) (c₁ .is-zero .ensures) (c .if2 .left))
 
 add-end : tie.Need-add-end Inv-loop μ-loop
 add-end c = search needs
@@ -58,7 +62,9 @@ slot-ok-requires : tie.Need-slot-ok-requires Inv-loop μ-loop
 slot-ok-requires c κs = search needs
 
 returns-3 : tie.Need-returns-3 Inv-loop μ-loop
-returns-3 c = sym (c .before .before .before .before .before .before .loop .inv .2 ∙ from-bad _ _ _ (c .before .before .before .before .before .loop-test .taken) (c .before .before .before .if1 .left) (c .before .slot-ok .ensures) (c .if3 .taken))
+returns-3 c =
+    let c₁ = c .before in let c₂ = c₁ .before .before in let c₃ = c₂ .before .before in let c₄ = c₃ .before in
+    sym (c₄ .loop .inv .2 ∙ from-bad _ _ _ (c₃ .loop-test .taken) (c₂ .if1 .left) (c₁ .slot-ok .ensures) (c .if3 .taken))
 
 add-n : tie.Need-add-n Inv-loop μ-loop
 add-n c = search needs
@@ -67,7 +73,9 @@ loop-less : tie.Need-loop-less Inv-loop μ-loop
 loop-less c = search needs
 
 loop-again : tie.Need-loop-again Inv-loop μ-loop
-loop-again c = (omega arith, omega arith, c .before .before .before .before .before .before .loop .inv .2 ∙ from-next _ _ _ (c .before .before .before .before .before .loop-test .taken) (c .before .before .before .if1 .left) (c .before .slot-ok .ensures) (c .if3 .left))
+loop-again c =
+    let c₁ = c .before in let c₂ = c₁ .before .before in let c₃ = c₂ .before .before in let c₄ = c₃ .before in
+    (omega arith, omega arith, c₄ .loop .inv .2 ∙ from-next _ _ _ (c₃ .loop-test .taken) (c₂ .if1 .left) (c₁ .slot-ok .ensures) (c .if3 .left))
 
 returns-4 : tie.Need-returns-4 Inv-loop μ-loop
 returns-4 c = sym (c .before .loop .inv .2 ∙ from-end _ _ _ (c .loop-test .left))

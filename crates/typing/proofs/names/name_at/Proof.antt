@@ -19,7 +19,9 @@ cast-x : tie.Need-cast-x
 cast-x c = omega (arith, variable-of _ _ _ _ (c .before .before .before .before .before .before .pre .0) (c .before .if1 .taken))
 
 variable-place-requires : tie.Need-variable-place-requires
-variable-place-requires c κs = (c .before .before .before .before .before .before .pre .1, omega (arith, variable-of _ _ _ _ (c .before .before .before .before .before .before .pre .0) (c .before .if1 .taken)))
+variable-place-requires c κs =
+    let c₁ = c .before in let c₂ = c₁ .before .before .before .before .before in
+    (c₂ .pre .1, omega (arith, variable-of _ _ _ _ (c₂ .pre .0) (c₁ .if1 .taken)))
 
 add-next : tie.Need-add-next
 add-next c = omega (arith, variable-of _ _ _ _ (c .before .before .before .before .before .before .before .pre .0) (c .before .before .if1 .taken))
@@ -33,13 +35,20 @@ word-at-requires c κs =
     omega (arith, constant-of _ _ _ _ l (name-last _ _ _ _ l (tt, c .if1 .left)))
 
 shared-slice-read-code : tie.Need-shared-slice-read-code
-shared-slice-read-code c = omega (arith, constant-of _ _ _ _ (c .before .before .before .before .before .before .before .pre .0) (name-last _ _ _ _ (c .before .before .before .before .before .before .before .pre .0) (tt, c .before .before .if1 .left)))
+shared-slice-read-code c =
+    let c₁ = c .before .before in let c₂ = c₁ .before .before .before .before .before in
+    omega (arith, constant-of _ _ _ _ (c₂ .pre .0) (name-last _ _ _ _ (c₂ .pre .0) (tt, c₁ .if1 .left)))
 
 add-next-2 : tie.Need-add-next-2
-add-next-2 c = omega (arith, constant-of _ _ _ _ (c .before .before .before .before .before .before .before .pre .0) (name-last _ _ _ _ (c .before .before .before .before .before .before .before .pre .0) (tt, c .before .before .if1 .left)))
+add-next-2 c =
+    let c₁ = c .before .before in let c₂ = c₁ .before .before .before .before .before in
+    omega (arith, constant-of _ _ _ _ (c₂ .pre .0) (name-last _ _ _ _ (c₂ .pre .0) (tt, c₁ .if1 .left)))
 
 returns-2 : tie.Need-returns-2
-returns-2 c = let k = constant-of _ _ _ _ (c .before .before .before .before .before .before .before .pre .0) (name-last _ _ _ _ (c .before .before .before .before .before .before .before .pre .0) (tt, c .before .before .if1 .left)) in leaf-walked (k .2) (constant-placed _ _ _ _ (c .before .word-at .ensures .0) (k .1))
+returns-2 c =
+    let c₁ = c .before in let c₂ = c₁ .before in let c₃ = c₂ .before .before .before .before .before in
+    let k = constant-of _ _ _ _ (c₃ .pre .0) (name-last _ _ _ _ (c₃ .pre .0) (tt, c₂ .if1 .left)) in
+    leaf-walked (k .2) (constant-placed _ _ _ _ (c₁ .word-at .ensures .0) (k .1))
 
 pub name-at-spec : {M : Type 1} → statement M
 name-at-spec =

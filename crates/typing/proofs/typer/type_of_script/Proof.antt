@@ -15,7 +15,9 @@ read-off-requires : tie.Need-read-off-requires
 read-off-requires c κs = search needs
 
 returns : tie.Need-returns
-returns c = typed _ _ (c .before .before .before .before .before .before .before .pre .0) _ (c .before .before .before .before .before .before .before .pre .1) (c .before .before .before .fresh .ensures) (c .before .before .type-script .ensures) (c .read-off .ensures)
+returns c =
+    let c₁ = c .before .before in let c₂ = c₁ .before in let c₃ = c₂ .before .before .before .before in
+    typed _ _ (c₃ .pre .0) _ (c₃ .pre .1) (c₂ .fresh .ensures) (c₁ .type-script .ensures) (c .read-off .ensures)
 
 pub type-of-script-spec : {M : Type 1} → statement M
 type-of-script-spec =

@@ -26,10 +26,19 @@ merged-requires : tie.Need-merged-requires
 merged-requires c κs = (c .before .before .before .before .before .before .before .before .before .pre .1 .1, c .before .node-of .ensures .1, omega arith)
 
 merged-requires-2 : tie.Need-merged-requires-2
-merged-requires-2 c κs = (merged-joined _ _ _ (c .before .before .before .before .before .before .before .before .before .before .pre .1 .1) (c .before .before .node-of .ensures .1) (omega arith) (c .merged .ensures), c .before .node-of2 .ensures .1, omega arith)
+merged-requires-2 c κs =
+    let c₁ = c .before in let c₂ = c₁ .before in let c₃ = c₂ .before .before .before .before .before .before .before .before in
+    (merged-joined _ _ _ (c₃ .pre .1 .1) (c₂ .node-of .ensures .1) (omega arith) (c .merged .ensures), c₁ .node-of2 .ensures .1, omega arith)
 
 related-requires : tie.Need-related-requires
-related-requires c κs = (merged-joined _ _ _ (merged-joined _ _ _ (c .before .before .before .before .before .before .before .before .before .before .before .pre .1 .1) (c .before .before .before .node-of .ensures .1) (omega arith) (c .before .merged .ensures)) (c .before .before .node-of2 .ensures .1) (omega arith) (c .merged2 .ensures), placed-in _ _ (c .before .before .before .before .before .name-at3 .ensures), placed-in _ _ (c .before .before .before .before .name-at4 .ensures))
+related-requires c κs =
+    let c₁ = c .before in let c₂ = c₁ .before in let c₃ = c₂ .before in let c₄ = c₃ .before in let c₅ = c₄ .before in
+    let c₆ = c₅ .before .before .before .before .before .before in (
+      merged-joined _ _ _ (merged-joined _ _ _ (c₆ .pre .1 .1) (c₃ .node-of .ensures .1) (omega arith) (c₁ .merged .ensures)) (c₂ .node-of2 .ensures .1) (omega arith)
+          (c .merged2 .ensures),
+      placed-in _ _ (c₅ .name-at3 .ensures),
+      placed-in _ _ (c₄ .name-at4 .ensures),
+    )
 
 returns : tie.Need-returns
 returns c =

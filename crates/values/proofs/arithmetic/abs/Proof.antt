@@ -14,7 +14,10 @@ numeric-requires : tie.Need-numeric-requires
 numeric-requires c κs = search needs
 
 returns : tie.Need-returns
-returns c = abs-result (c .before .before .before .before .args .a) (c .before .before .before .before .pre) (c .before .before .before .common-kind .result) (c .before .before .before .common-kind .ensures) _ (c .before .distance .result) (record { sfits = c .before .distance .ok }) (c .before .distance .ensures) (c .numeric .ensures)
+returns c =
+    let c₁ = c .before in let c₂ = c₁ .before .before in let c₃ = c₂ .before in
+    abs-result (c₃ .args .a) (c₃ .pre) (c₂ .common-kind .result) (c₂ .common-kind .ensures) _ (c₁ .distance .result) (record { sfits = c₁ .distance .ok }) (c₁ .distance .ensures)
+    (c .numeric .ensures)
 
 pub abs-spec : {M : Type 1} → statement M
 abs-spec = tie.close (tie.spec common-kind-requires distance-requires numeric-requires returns)

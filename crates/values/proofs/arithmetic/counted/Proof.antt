@@ -4,13 +4,19 @@ use Rattle.values.proofs.arithmetic.counted.Statement.{statement}
 use Rattle.values.proofs.arithmetic.counted.Tie as tie
 
 scaled-requires : tie.Need-scaled-requires
-scaled-requires c κs = rw (plain (c .before .before .before .before .args .v .number) (c .before .before .before .before .pre .number)) (c .before .before .before .before .pre .integer (c .before .if1 .taken))
+scaled-requires c κs =
+    let c₁ = c .before in let c₂ = c₁ .before .before .before in
+    rw (plain (c₂ .args .v .number) (c₂ .pre .number)) (c₂ .pre .integer (c₁ .if1 .taken))
 
 returns : tie.Need-returns
-returns c = counted-scaled (c .before .before .before .before .before .args .v) (c .before .before .before .before .before .args .kind) (c .before .before .before .before .before .pre) (c .scaled .result) (record { sfits = c .scaled .ok }) (c .before .before .if1 .taken) (c .before .if2 .taken) (c .scaled .ensures)
+returns c =
+    let c₁ = c .before in let c₂ = c₁ .before in let c₃ = c₂ .before .before .before in
+    counted-scaled (c₃ .args .v) (c₃ .args .kind) (c₃ .pre) (c .scaled .result) (record { sfits = c .scaled .ok }) (c₂ .if1 .taken) (c₁ .if2 .taken) (c .scaled .ensures)
 
 returns-2 : tie.Need-returns-2
-returns-2 c = counted-integer (c .before .before .before .before .args .v) (c .before .before .before .before .args .kind) (c .before .before .before .before .pre) (c .before .if1 .taken) (c .if2 .left)
+returns-2 c =
+    let c₁ = c .before in let c₂ = c₁ .before .before .before in
+    counted-integer (c₂ .args .v) (c₂ .args .kind) (c₂ .pre) (c₁ .if1 .taken) (c .if2 .left)
 
 returns-3 : tie.Need-returns-3
 returns-3 c = counted-other (c .before .before .before .args .v) (c .before .before .before .args .kind) (c .before .before .before .pre) (c .if1 .left)

@@ -13,7 +13,9 @@ numeric-requires c κs = search needs
 
 returns : tie.Need-returns
 unfolding withinLimits
-returns c = limited-integer (c .before .before .before .args .kind) (c .before .before .before .args .n) (c .before .within .result) (c .before .before .before .fits .n) (c .numeric .result) (c .numeric .ensures) (c .before .before .if1 .taken) (c .before .within .ensures)
+returns c =
+    let c₁ = c .before in let c₂ = c₁ .before in let c₃ = c₂ .before in
+    limited-integer (c₃ .args .kind) (c₃ .args .n) (c₁ .within .result) (c₃ .fits .n) (c .numeric .result) (c .numeric .ensures) (c₂ .if1 .taken) (c₁ .within .ensures)
 
 within-requires-2 : tie.Need-within-requires-2
 within-requires-2 c κs = search needs
@@ -23,7 +25,9 @@ numeric-requires-2 c κs = search needs
 
 returns-2 : tie.Need-returns-2
 unfolding withinLimits
-returns-2 c = limited-decimal (c .before .before .before .args .kind) (c .before .before .before .args .n) (c .before .within2 .result) (c .before .before .before .fits .n) (c .numeric2 .result) (c .numeric2 .ensures) (c .before .before .if1 .left) (c .before .within2 .ensures)
+returns-2 c =
+    let c₁ = c .before in let c₂ = c₁ .before in let c₃ = c₂ .before in
+    limited-decimal (c₃ .args .kind) (c₃ .args .n) (c₁ .within2 .result) (c₃ .fits .n) (c .numeric2 .result) (c .numeric2 .ensures) (c₂ .if1 .left) (c₁ .within2 .ensures)
 
 pub limited-spec : {M : Type 1} → statement M
 limited-spec =

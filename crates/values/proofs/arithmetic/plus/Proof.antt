@@ -15,7 +15,9 @@ numeric-requires c κs = search needs
 
 returns : tie.Need-returns
 unfolding sum
-returns c = no-result _+ℤ_ (c .before .before .before .before .before .args .a) (c .before .before .before .before .before .args .b) (c .before .before .before .before .common-kind .result) (c .before .before .before .before .common-kind .ensures) _ (pos 0) (not-true _ (c .before .if1 .taken)) (c .numeric .ensures)
+returns c =
+    let c₁ = c .before in let c₂ = c₁ .before .before .before in let c₃ = c₂ .before in
+    no-result _+ℤ_ (c₃ .args .a) (c₃ .args .b) (c₂ .common-kind .result) (c₂ .common-kind .ensures) _ (pos 0) (not-true _ (c₁ .if1 .taken)) (c .numeric .ensures)
 
 counted-requires : tie.Need-counted-requires
 counted-requires c κs = search needs
@@ -31,7 +33,10 @@ limited-requires c κs = search needs
 
 returns-2 : tie.Need-returns-2
 unfolding sum
-returns-2 c = made _+ℤ_ (c .before .before .before .before .before .before .before .before .args .a) (c .before .before .before .before .before .before .before .before .args .b) (c .before .before .before .before .before .before .before .common-kind .result) (c .before .before .before .before .before .before .before .common-kind .ensures) _ _ _ (c .before .sum .result) (not-false _ (c .before .before .before .before .if1 .left)) (c .before .before .before .counted .ensures) (c .before .before .counted2 .ensures) (record { sfits = c .before .sum .ok }) (c .before .sum .ensures) (c .limited .ensures)
+returns-2 c =
+    let c₁ = c .before in let c₂ = c₁ .before in let c₃ = c₂ .before in let c₄ = c₃ .before in let c₅ = c₄ .before .before .before in let c₆ = c₅ .before in
+    made _+ℤ_ (c₆ .args .a) (c₆ .args .b) (c₅ .common-kind .result) (c₅ .common-kind .ensures) _ _ _ (c₁ .sum .result) (not-false _ (c₄ .if1 .left)) (c₃ .counted .ensures)
+    (c₂ .counted2 .ensures) (record { sfits = c₁ .sum .ok }) (c₁ .sum .ensures) (c .limited .ensures)
 
 pub plus-spec : {M : Type 1} → statement M
 plus-spec =

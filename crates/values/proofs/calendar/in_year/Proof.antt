@@ -9,7 +9,8 @@ use Rattle.values.proofs.calendar.in_year.Statement.{statement}
 use Rattle.values.proofs.calendar.in_year.Tie as tie
 
 abbrev Inv-loop : tie.InvT-loop
-Inv-loop year day second lengths passed₀ left₀ passed left = (monthFrom year 1 (monthLengths year) day ≡ monthFrom year (suc passed) (drop passed lengths) left) × (passed ≤ 12) × (left ≤ day) × (length lengths ≡ 12)
+Inv-loop year day second lengths passed₀ left₀ passed left = (monthFrom year 1 (monthLengths year) day ≡ monthFrom year (suc passed) (drop passed lengths) left) × (passed ≤ 12)
+    × (left ≤ day) × (length lengths ≡ 12)
 
 abbrev μ-loop : tie.MeasureT-loop
 μ-loop year day second lengths passed₀ left₀ passed left = 12 - passed
@@ -18,7 +19,9 @@ february-requires : tie.Need-february-requires Inv-loop μ-loop
 february-requires c κs = tt
 
 loop-holds : tie.Need-loop-holds Inv-loop μ-loop
-loop-holds c = (ap (λ ms. monthFrom (c .before .args .year) 1 ms (c .before .args .day)) (sym (lengths-are (c .before .args .year) (c .february .result) (c .february .ensures))), omega arith, omega arith, refl)
+loop-holds c =
+    let c₁ = c .before in
+    (ap (λ ms. monthFrom (c₁ .args .year) 1 ms (c₁ .args .day)) (sym (lengths-are (c₁ .args .year) (c .february .result) (c .february .ensures))), omega arith, omega arith, refl)
 
 mul-length : tie.Need-mul-length Inv-loop μ-loop
 mul-length c = omega arith
@@ -33,7 +36,9 @@ add-t15 : tie.Need-add-t15 Inv-loop μ-loop
 add-t15 c = omega (arith, c .before .before .loop .inv, c .before .before .before .before .pre)
 
 returns : tie.Need-returns Inv-loop μ-loop
-returns c = date-found (c .before .before .before .before .args .year) (c .before .before .before .before .args .day) (monthsWith (c .before .before .before .february .result)) (c .before .before .loop .passed) (c .before .before .loop .left) (c .before .before .loop .inv .0) (omega arith) (c .if1 .taken)
+returns c =
+    let c₁ = c .before .before in let c₂ = c₁ .before in let c₃ = c₂ .before in
+    date-found (c₃ .args .year) (c₃ .args .day) (monthsWith (c₂ .february .result)) (c₁ .loop .passed) (c₁ .loop .left) (c₁ .loop .inv .0) (omega arith) (c .if1 .taken)
 
 add-passed : tie.Need-add-passed Inv-loop μ-loop
 add-passed c = omega arith
@@ -42,13 +47,23 @@ loop-less : tie.Need-loop-less Inv-loop μ-loop
 loop-less c = omega arith
 
 loop-again : tie.Need-loop-again Inv-loop μ-loop
-loop-again c = (month-passed (c .before .before .before .before .args .year) (c .before .before .before .before .args .day) (monthsWith (c .before .before .before .february .result)) (c .before .before .loop .passed) (c .before .before .loop .left) (c .before .before .loop .inv .0) (omega arith) (c .if1 .left), omega arith, omega (arith, c .before .before .loop .inv), refl)
+loop-again c =
+    let c₁ = c .before .before in let c₂ = c₁ .before in
+    let c₃ = c₂ .before in (
+      month-passed (c₃ .args .year) (c₃ .args .day) (monthsWith (c₂ .february .result)) (c₁ .loop .passed) (c₁ .loop .left) (c₁ .loop .inv .0) (omega arith) (c .if1 .left),
+      omega
+          arith,
+      omega (arith, c₁ .loop .inv),
+      refl,
+    )
 
 add-t16 : tie.Need-add-t16 Inv-loop μ-loop
 add-t16 c = omega (arith, c .before .loop .inv, c .before .before .before .pre)
 
 returns-2 : tie.Need-returns-2 Inv-loop μ-loop
-returns-2 c = date-after (c .before .before .before .args .year) (c .before .before .before .args .day) (monthsWith (c .before .before .february .result)) (c .before .loop .passed) (c .before .loop .left) (c .before .loop .inv .0) (omega arith) refl
+returns-2 c =
+    let c₁ = c .before in let c₂ = c₁ .before in let c₃ = c₂ .before in
+    date-after (c₃ .args .year) (c₃ .args .day) (monthsWith (c₂ .february .result)) (c₁ .loop .passed) (c₁ .loop .left) (c₁ .loop .inv .0) (omega arith) refl
 
 pub in-year-spec : {M : Type 1} → statement M
 in-year-spec =

@@ -37,7 +37,9 @@ add-year-3 : tie.Need-add-year-3
 add-year-3 c = omega (arith, year-small (c .before .before .args .day) (c .before .at-most .result) 0 (c .before .before .pre) (c .before .at-most .ensures) (omega arith))
 
 add-year-4 : tie.Need-add-year-4
-add-year-4 c = omega (arith, year-small (c .before .before .args .day) (c .before .at-most .result) (c .at-most2 .result) (c .before .before .pre) (c .before .at-most .ensures) (omega (arith, c .at-most2 .ensures)))
+add-year-4 c =
+    let c₁ = c .before in let c₂ = c₁ .before in
+    omega (arith, year-small (c₂ .args .day) (c₁ .at-most .result) (c .at-most2 .result) (c₂ .pre) (c₁ .at-most .ensures) (omega (arith, c .at-most2 .ensures)))
 
 mul-rest : tie.Need-mul-rest
 mul-rest c = search needs
@@ -46,7 +48,9 @@ sub-rest : tie.Need-sub-rest
 sub-rest c = search needs
 
 returns : tie.Need-returns
-returns c = by-cycles (c .before .before .args .day) _ _ (c .before .at-most .result) _ _ _ (c .at-most2 .result) _ (c .before .before .pre) refl refl (c .before .at-most .ensures) refl refl refl (c .at-most2 .ensures) refl
+returns c =
+    let c₁ = c .before in let c₂ = c₁ .before in
+    by-cycles (c₂ .args .day) _ _ (c₁ .at-most .result) _ _ _ (c .at-most2 .result) _ (c₂ .pre) refl refl (c₁ .at-most .ensures) refl refl refl (c .at-most2 .ensures) refl
 
 pub year-day-spec : {M : Type 1} → statement M
 year-day-spec =

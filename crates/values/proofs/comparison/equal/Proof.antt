@@ -27,13 +27,20 @@ returns : tie.Need-returns
 returns c = equal-strings (c .before .before .before .before .args .a) (c .before .before .before .before .args .b) _ (c .before .match .keys1) (c .same-strings .ensures)
 
 returns-2 : tie.Need-returns-2
-returns-2 c = equal-numbers (c .before .before .before .before .before .before .args .a) (c .before .before .before .before .before .before .args .b) _ (c .before .before .before .match .keys2) _ _ (c .before .before .counted .ensures) (c .before .counted2 .ensures) (c .is-same .ensures)
+returns-2 c =
+    let c₁ = c .before in let c₂ = c₁ .before in let c₃ = c₂ .before in let c₄ = c₃ .before .before .before in
+    equal-numbers (c₄ .args .a) (c₄ .args .b) _ (c₃ .match .keys2) _ _ (c₂ .counted .ensures) (c₁ .counted2 .ensures) (c .is-same .ensures)
 
 returns-3 : tie.Need-returns-3
-returns-3 c = equal-dateTimes (c .before .before .before .before .before .before .args .a) (c .before .before .before .before .before .before .args .b) _ (c .before .before .before .before .before .before .pre .0) (c .before .before .before .before .before .before .pre .1) (c .before .before .before .match .keys3) (c .is-same2 .ensures)
+returns-3 c =
+    let c₁ = c .before .before .before in let c₂ = c₁ .before .before .before in
+    equal-dateTimes (c₂ .args .a) (c₂ .args .b) _ (c₂ .pre .0) (c₂ .pre .1) (c₁ .match .keys3) (c .is-same2 .ensures)
 
 returns-4 : tie.Need-returns-4
-returns-4 c = equal-uris (c .before .before .before .before .args .a) (c .before .before .before .before .args .b) _ (λ k. c .before .match .rest .0 .1 (inr k)) (λ k. c .before .match .rest .0 .1 (inl k)) (c .before .match .rest .1) (c .before .match .rest .0 .0 .1) (c .same-texts .ensures)
+returns-4 c =
+    let c₁ = c .before in let c₂ = c₁ .before .before .before in
+    equal-uris (c₂ .args .a) (c₂ .args .b) _ (λ k. c₁ .match .rest .0 .1 (inr k)) (λ k. c₁ .match .rest .0 .1 (inl k)) (c₁ .match .rest .1) (c₁ .match .rest .0 .0 .1)
+    (c .same-texts .ensures)
 
 pub equal-spec : {M : Type 1} → statement M
 equal-spec =

@@ -3,10 +3,11 @@ use Rattle.values.proofs.ComparisonLaws.{less-strings, less-numbers, le
 use mathlib.Core.Logic.{inl, inr}
 use mathlib.Core.Path.{_∙_}
 use Rattle.definitions.specs.Values.{ranks}
-use Rattle.values.proofs.OrderLaws.{by-bytes, upFrom}
+use Rattle.values.proofs.OrderLaws.{by-bytes}
 use borrow.Author.Needs.{needs}
 use Rattle.values.proofs.comparison.less.Statement.{statement}
 use Rattle.values.proofs.comparison.less.Tie as tie
+use Rattle.laws.specs.Lists.{upFrom}
 
 string-before-requires : tie.Need-string-before-requires
 string-before-requires c κs = search needs
@@ -31,14 +32,21 @@ unfolding ranks
 returns c = less-strings (c .before .before .before .before .args .a) (c .before .before .before .before .args .b) _ (c .before .match .keys1) (c .string-before .ensures)
 
 returns-2 : tie.Need-returns-2
-returns-2 c = less-numbers (c .before .before .before .before .before .before .args .a) (c .before .before .before .before .before .before .args .b) _ (c .before .before .before .match .keys2) _ _ (c .before .before .counted .ensures) (c .before .counted2 .ensures) (c .is-less .ensures)
+returns-2 c =
+    let c₁ = c .before in let c₂ = c₁ .before in let c₃ = c₂ .before in let c₄ = c₃ .before .before .before in
+    less-numbers (c₄ .args .a) (c₄ .args .b) _ (c₃ .match .keys2) _ _ (c₂ .counted .ensures) (c₁ .counted2 .ensures) (c .is-less .ensures)
 
 returns-3 : tie.Need-returns-3
-returns-3 c = less-dateTimes (c .before .before .before .before .before .before .args .a) (c .before .before .before .before .before .before .args .b) _ (c .before .before .before .before .before .before .pre .0) (c .before .before .before .before .before .before .pre .1) (c .before .before .before .match .keys3) (c .is-less2 .ensures)
+returns-3 c =
+    let c₁ = c .before .before .before in let c₂ = c₁ .before .before .before in
+    less-dateTimes (c₂ .args .a) (c₂ .args .b) _ (c₂ .pre .0) (c₂ .pre .1) (c₁ .match .keys3) (c .is-less2 .ensures)
 
 returns-4 : tie.Need-returns-4
 unfolding upFrom
-returns-4 c = less-uris (c .before .before .before .before .args .a) (c .before .before .before .before .args .b) _ (λ k. c .before .match .rest .0 .1 (inr k)) (λ k. c .before .match .rest .0 .1 (inl k)) (c .before .match .rest .1) (c .before .match .rest .0 .0 .1) (c .text-before .ensures ∙ by-bytes _ _ (c .before .before .before .before .pre .0 .text .bytes) (c .before .before .before .before .pre .1 .text .bytes))
+returns-4 c =
+    let c₁ = c .before in let c₂ = c₁ .before .before .before in
+    less-uris (c₂ .args .a) (c₂ .args .b) _ (λ k. c₁ .match .rest .0 .1 (inr k)) (λ k. c₁ .match .rest .0 .1 (inl k)) (c₁ .match .rest .1) (c₁ .match .rest .0 .0 .1)
+    (c .text-before .ensures ∙ by-bytes _ _ (c₂ .pre .0 .text .bytes) (c₂ .pre .1 .text .bytes))
 
 pub less-spec : {M : Type 1} → statement M
 less-spec =

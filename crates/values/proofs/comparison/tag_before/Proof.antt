@@ -12,7 +12,9 @@ slice-aggregate-before-2 : tie.Need-slice-aggregate-before-2
 slice-aggregate-before-2 c = search needs
 
 before-requires : tie.Need-before-requires
-before-requires c κs = (c .before .before .before .before .before .pre .0 .tag .size ∙ sym (c .before .before .before .before .before .pre .1 .tag .size), (tag-texts (c .before .before .before .before .before .pre .0 .tag), tag-texts (c .before .before .before .before .before .pre .1 .tag)))
+before-requires c κs =
+    let c₁ = c .before .before .before .before .before in
+    (c₁ .pre .0 .tag .size ∙ sym (c₁ .pre .1 .tag .size), (tag-texts (c₁ .pre .0 .tag), tag-texts (c₁ .pre .1 .tag)))
 
 returns : tie.Need-returns
 returns c = search needs

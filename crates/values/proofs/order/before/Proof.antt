@@ -32,13 +32,19 @@ returns-2 : tie.Need-returns-2 Inv-loop μ-loop
 returns-2 c = order-first _ _ _ _ (c .before .before .before .before .before .loop .inv) (omega arith) (omega arith) (c .before .if1 .left) (c .if2 .taken)
 
 rank-requires : tie.Need-rank-requires Inv-loop μ-loop
-rank-requires c κs = byte-passes (c .before .before .before .before .before .before .before .before .args .a .now) (c .before .before .before .before .before .loop .i) textByte (omega arith) (c .if2 .left) (c .before .before .before .before .before .loop .inv .left)
+rank-requires c κs =
+    let c₁ = c .before .before .before .before .before in let c₂ = c₁ .before .before .before in
+    byte-passes (c₂ .args .a .now) (c₁ .loop .i) textByte (omega arith) (c .if2 .left) (c₁ .loop .inv .left)
 
 rank-requires-2 : tie.Need-rank-requires-2 Inv-loop μ-loop
-rank-requires-2 c κs = byte-passes (c .before .before .before .before .before .before .before .before .before .args .b .now) (c .before .before .before .before .before .before .loop .i) textByte (omega arith) (c .before .before .if1 .left) (c .before .before .before .before .before .before .loop .inv .right)
+rank-requires-2 c κs =
+    let c₁ = c .before .before in let c₂ = c₁ .before .before .before .before in let c₃ = c₂ .before .before .before in
+    byte-passes (c₃ .args .b .now) (c₂ .loop .i) textByte (omega arith) (c₁ .if1 .left) (c₂ .loop .inv .right)
 
 returns-3 : tie.Need-returns-3 Inv-loop μ-loop
-returns-3 c = order-other _ _ _ _ (c .before .before .before .before .before .before .before .before .loop .inv) (omega arith) (omega arith) (c .before .before .before .before .if1 .left) (c .before .before .before .if2 .left) _ _ (c .before .before .rank .ensures) (c .before .rank2 .ensures) (c .if3 .taken)
+returns-3 c =
+    let c₁ = c .before in let c₂ = c₁ .before in let c₃ = c₂ .before in let c₄ = c₃ .before in let c₅ = c₄ .before .before .before .before in
+    order-other _ _ _ _ (c₅ .loop .inv) (omega arith) (omega arith) (c₄ .if1 .left) (c₃ .if2 .left) _ _ (c₂ .rank .ensures) (c₁ .rank2 .ensures) (c .if3 .taken)
 
 add-i : tie.Need-add-i Inv-loop μ-loop
 add-i c = omega arith
@@ -47,7 +53,9 @@ loop-less : tie.Need-loop-less Inv-loop μ-loop
 loop-less c = omega arith
 
 loop-again : tie.Need-loop-again Inv-loop μ-loop
-loop-again c = order-more _ _ _ _ (c .before .before .before .before .before .before .before .before .loop .inv) (omega arith) (omega arith) (c .before .before .before .before .if1 .left) (c .before .before .before .if2 .left) _ _ (c .before .before .rank .ensures) (c .before .rank2 .ensures) (c .if3 .left)
+loop-again c =
+    let c₁ = c .before in let c₂ = c₁ .before in let c₃ = c₂ .before in let c₄ = c₃ .before in let c₅ = c₄ .before .before .before .before in
+    order-more _ _ _ _ (c₅ .loop .inv) (omega arith) (omega arith) (c₄ .if1 .left) (c₃ .if2 .left) _ _ (c₂ .rank .ensures) (c₁ .rank2 .ensures) (c .if3 .left)
 
 returns-4 : tie.Need-returns-4 Inv-loop μ-loop
 returns-4 c = order-out _ _ _ _ (c .before .loop .inv) (omega arith) (omega arith)

@@ -29,16 +29,25 @@ returns : tie.Need-returns
 returns c = uri-holds (c .before .before .before .before .args .slot .now) (c .before .before .before .before .pre) (c .before .match .keys1) (c .text-at .result) (c .text-at .ensures)
 
 returns-2 : tie.Need-returns-2
-returns-2 c = string-holds (c .before .before .before .before .before .args .slot .now) (c .before .before .before .before .before .pre) (c .before .before .match .keys2) (c .before .tag-at .result) (c .text-at2 .result) (c .before .tag-at .ensures) (c .text-at2 .ensures)
+returns-2 c =
+    let c₁ = c .before in let c₂ = c₁ .before in let c₃ = c₂ .before .before .before in
+    string-holds (c₃ .args .slot .now) (c₃ .pre) (c₂ .match .keys2) (c₁ .tag-at .result) (c .text-at2 .result) (c₁ .tag-at .ensures) (c .text-at2 .ensures)
 
 returns-3 : tie.Need-returns-3
-returns-3 c = λ t e. integer-holds (c .before .before .before .before .args .slot .now) (c .before .before .before .before .pre) (c .number-of .result) t e (c .before .match .keys3) (c .number-of .ensures)
+returns-3 c =
+    let c₁ = c .before in let c₂ = c₁ .before .before .before in
+    λ t e. integer-holds (c₂ .args .slot .now) (c₂ .pre) (c .number-of .result) t e (c₁ .match .keys3) (c .number-of .ensures)
 
 returns-4 : tie.Need-returns-4
-returns-4 c = λ t e. decimal-holds (c .before .before .before .before .args .slot .now) (c .before .before .before .before .pre) (c .number-of2 .result) t e (c .before .match .keys4) (c .number-of2 .ensures)
+returns-4 c =
+    let c₁ = c .before in let c₂ = c₁ .before .before .before in
+    λ t e. decimal-holds (c₂ .args .slot .now) (c₂ .pre) (c .number-of2 .result) t e (c₁ .match .keys4) (c .number-of2 .ensures)
 
 returns-5 : tie.Need-returns-5
-returns-5 c = λ t e. dateTime-holds (c .before .before .before .before .args .slot .now) (c .before .before .before .before .pre) (c .number-of3 .result) t e (c .before .match .rest .0 .0 .0 .1) (c .before .match .rest .0 .0 .1) (c .before .match .rest .0 .1) (c .before .match .rest .1) (c .number-of3 .ensures)
+returns-5 c =
+    let c₁ = c .before in let c₂ = c₁ .before .before .before in
+    λ t e. dateTime-holds (c₂ .args .slot .now) (c₂ .pre) (c .number-of3 .result) t e (c₁ .match .rest .0 .0 .0 .1) (c₁ .match .rest .0 .0 .1) (c₁ .match .rest .0 .1)
+    (c₁ .match .rest .1) (c .number-of3 .ensures)
 
 pub in-slot-spec : {M : Type 1} → statement M
 in-slot-spec =

@@ -14,7 +14,10 @@ numeric-requires : tie.Need-numeric-requires
 numeric-requires c κs = search needs
 
 returns : tie.Need-returns
-returns c = number-held (c .before .before .before .before .args .kind) (c .numeric .result) (c .before .to-signed .result) (c .before .before .long-at .result) _ (record { sfits = c .before .to-signed .ok }) (c .before .to-signed .ensures) (c .before .before .long-at .ensures) (c .numeric .ensures)
+returns c =
+    let c₁ = c .before in let c₂ = c₁ .before in let c₃ = c₂ .before .before in
+    number-held (c₃ .args .kind) (c .numeric .result) (c₁ .to-signed .result) (c₂ .long-at .result) _ (record { sfits = c₁ .to-signed .ok }) (c₁ .to-signed .ensures)
+    (c₂ .long-at .ensures) (c .numeric .ensures)
 
 pub number-of-spec : {M : Type 1} → statement M
 number-of-spec = tie.close (tie.spec long-at-requires to-signed-requires numeric-requires returns)

@@ -26,7 +26,9 @@ copy-requires : tie.Need-copy-requires
 copy-requires c κs = search needs
 
 returns : tie.Need-returns
-returns c = copied (c .before .before .before .before .before .args .slot .now) (replicate textWidth 0) (c .before .before .before .before .before .args .at) textWidth (c .before .before .before .before .before .pre) refl (c .before .copy .last .1 .0) (c .before .copy .ensures .1)
+returns c =
+    let c₁ = c .before in let c₂ = c₁ .before .before .before .before in
+    copied (c₂ .args .slot .now) (replicate textWidth 0) (c₂ .args .at) textWidth (c₂ .pre) refl (c₁ .copy .last .1 .0) (c₁ .copy .ensures .1)
 
 pub text-at-spec : {M : Type 1} → statement M
 text-at-spec =

@@ -27,7 +27,10 @@ accepts-requires : tie.Need-accepts-requires
 accepts-requires c κs = (part-long _ (c .before .before .before .before .args .at) languageRangeWidth (c .before .before .before .before .pre .1), c .before .before .before .before .pre .0 .tag .size)
 
 returns : tie.Need-returns
-returns c = λ q e. tells-text (λ s. matches q (s .tag)) (c .before .before .before .before .before .args .v) (c .accepts .result) (c .accepts .ensures q (ap languageRangeOf (some-part (c .before .before .before .before .before .args .script .now) (c .before .before .before .before .before .args .at) languageRangeWidth) ∙ e))
+returns c =
+    let c₁ = c .before .before .before .before .before in
+    λ q e. tells-text (λ s. matches q (s .tag)) (c₁ .args .v) (c .accepts .result)
+    (c .accepts .ensures q (ap languageRangeOf (some-part (c₁ .args .script .now) (c₁ .args .at) languageRangeWidth) ∙ e))
 
 pub lang-matches-spec : {M : Type 1} → statement M
 lang-matches-spec =

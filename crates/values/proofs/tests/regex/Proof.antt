@@ -27,7 +27,10 @@ accepts-requires : tie.Need-accepts-requires
 accepts-requires c κs = part-long _ (c .before .before .before .before .args .at) patternWidth (c .before .before .before .before .pre .1)
 
 returns : tie.Need-returns
-returns c = λ q e. tells-text (λ s. accepts q (s .text)) (c .before .before .before .before .before .args .v) (c .accepts .result) (c .accepts .ensures q (ap patternOf (some-part (c .before .before .before .before .before .args .script .now) (c .before .before .before .before .before .args .at) patternWidth) ∙ e))
+returns c =
+    let c₁ = c .before .before .before .before .before in
+    λ q e. tells-text (λ s. accepts q (s .text)) (c₁ .args .v) (c .accepts .result)
+    (c .accepts .ensures q (ap patternOf (some-part (c₁ .args .script .now) (c₁ .args .at) patternWidth) ∙ e))
 
 pub regex-spec : {M : Type 1} → statement M
 regex-spec =

@@ -25,11 +25,24 @@ put-time-requires : tie.Need-put-time-requires
 put-time-requires c κs = omega (arith, c .before .put-date .ensures .size, date-length (meantDate (c .before .before .date-of .result)), c .push .ensures .size)
 
 push-requires-2 : tie.Need-push-requires-2
-push-requires-2 c κs = omega (arith, c .before .before .put-date .ensures .size, date-length (meantDate (c .before .before .before .date-of .result)), c .before .push .ensures .size, c .put-time .ensures .size, time-length (c .before .before .before .before .since-start .result % 86400))
+push-requires-2 c κs =
+    let c₁ = c .before in let c₂ = c₁ .before in let c₃ = c₂ .before in let c₄ = c₃ .before in
+    omega (
+      arith,
+      c₂ .put-date .ensures .size,
+      date-length (meantDate (c₃ .date-of .result)),
+      c₁ .push .ensures .size,
+      c .put-time .ensures .size,
+      time-length
+          (c₄ .since-start .result % 86400),
+    )
 
 returns : tie.Need-returns
 unfolding filled
-returns c = dateTime-written (c .before .before .before .before .before .before .args .n) (c .before .before .before .before .before .before .pre) (c .before .before .before .before .before .since-start .result) (meantDate (c .before .before .before .before .date-of .result)) (c .before .before .before .before .before .since-start .ensures .0) (date-is (c .before .before .before .before .date-of .ensures)) (c .before .before .before .put-date .ensures) (c .before .before .push .ensures) (c .before .put-time .ensures) (c .push2 .ensures)
+returns c =
+    let c₁ = c .before in let c₂ = c₁ .before in let c₃ = c₂ .before in let c₄ = c₃ .before in let c₅ = c₄ .before in let c₆ = c₅ .before in
+    dateTime-written (c₆ .args .n) (c₆ .pre) (c₅ .since-start .result) (meantDate (c₄ .date-of .result)) (c₅ .since-start .ensures .0) (date-is (c₄ .date-of .ensures))
+    (c₃ .put-date .ensures) (c₂ .push .ensures) (c₁ .put-time .ensures) (c .push2 .ensures)
 
 pub date-time-spec : {M : Type 1} → statement M
 date-time-spec =

@@ -20,10 +20,15 @@ push-requires : tie.Need-push-requires
 push-requires c κs = omega (arith, c .before .sign .ensures .1, c .natural .ensures .size, short-length 20 (c .before .before .amount .result / 1000000))
 
 fraction-requires : tie.Need-fraction-requires
-fraction-requires c κs = omega (arith, c .before .before .sign .ensures .1, c .before .natural .ensures .size, short-length 20 (c .before .before .before .amount .result / 1000000), c .push .ensures .size)
+fraction-requires c κs =
+    let c₁ = c .before in let c₂ = c₁ .before in let c₃ = c₂ .before in
+    omega (arith, c₂ .sign .ensures .1, c₁ .natural .ensures .size, short-length 20 (c₃ .amount .result / 1000000), c .push .ensures .size)
 
 returns : tie.Need-returns
-returns c = decimal-written (c .before .before .before .before .before .args .n) (c .before .before .before .before .before .pre) (c .before .before .before .sign .result) (c .before .before .before .sign .ensures .0) (c .before .before .before .before .amount .result) (c .before .before .before .before .amount .ensures) (c .before .before .natural .result) (c .before .push .result) (c .fraction .result) (c .before .before .natural .ensures) (c .before .push .ensures) (c .fraction .ensures)
+returns c =
+    let c₁ = c .before in let c₂ = c₁ .before in let c₃ = c₂ .before in let c₄ = c₃ .before in let c₅ = c₄ .before in
+    decimal-written (c₅ .args .n) (c₅ .pre) (c₃ .sign .result) (c₃ .sign .ensures .0) (c₄ .amount .result) (c₄ .amount .ensures) (c₂ .natural .result) (c₁ .push .result)
+    (c .fraction .result) (c₂ .natural .ensures) (c₁ .push .ensures) (c .fraction .ensures)
 
 pub decimal-spec : {M : Type 1} → statement M
 decimal-spec =

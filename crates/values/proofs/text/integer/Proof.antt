@@ -14,7 +14,9 @@ natural-requires : tie.Need-natural-requires
 natural-requires c κs = search needs
 
 returns : tie.Need-returns
-returns c = integer-written (c .before .before .before .args .n) (c .before .before .before .pre) (c .before .sign .result) (c .before .sign .ensures .0) (c .before .before .amount .result) (c .before .before .amount .ensures) (c .natural .result) (c .natural .ensures)
+returns c =
+    let c₁ = c .before in let c₂ = c₁ .before in let c₃ = c₂ .before in
+    integer-written (c₃ .args .n) (c₃ .pre) (c₁ .sign .result) (c₁ .sign .ensures .0) (c₂ .amount .result) (c₂ .amount .ensures) (c .natural .result) (c .natural .ensures)
 
 pub integer-spec : {M : Type 1} → statement M
 integer-spec = tie.close (tie.spec amount-requires sign-requires natural-requires returns)

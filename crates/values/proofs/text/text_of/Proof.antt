@@ -33,16 +33,25 @@ returns : tie.Need-returns
 returns c = str-string (c .before .before .before .before .args .v) (c .before .before .before .before .pre) (c .untagged .result) (c .before .match .keys1) (c .untagged .ensures)
 
 returns-2 : tie.Need-returns-2
-returns-2 c = str-decimal (c .before .before .before .before .before .before .args .v) (c .before .before .before .before .before .before .pre) (c .untagged2 .result) (c .before .before .decimal .result) (c .before .before .before .match .keys2) (c .before .before .decimal .ensures) (c .untagged2 .ensures)
+returns-2 c =
+    let c₁ = c .before .before in let c₂ = c₁ .before in let c₃ = c₂ .before .before .before in
+    str-decimal (c₃ .args .v) (c₃ .pre) (c .untagged2 .result) (c₁ .decimal .result) (c₂ .match .keys2) (c₁ .decimal .ensures) (c .untagged2 .ensures)
 
 returns-3 : tie.Need-returns-3
-returns-3 c = str-dateTime (c .before .before .before .before .before .before .args .v) (c .before .before .before .before .before .before .pre) (c .untagged3 .result) (c .before .before .date-time .result) (c .before .before .before .match .keys3) (c .before .before .date-time .ensures) (c .untagged3 .ensures)
+returns-3 c =
+    let c₁ = c .before .before in let c₂ = c₁ .before in let c₃ = c₂ .before .before .before in
+    str-dateTime (c₃ .args .v) (c₃ .pre) (c .untagged3 .result) (c₁ .date-time .result) (c₂ .match .keys3) (c₁ .date-time .ensures) (c .untagged3 .ensures)
 
 returns-4 : tie.Need-returns-4
-returns-4 c = str-integer (c .before .before .before .before .before .before .args .v) (c .before .before .before .before .before .before .pre) (c .untagged4 .result) (c .before .before .integer .result) (c .before .before .before .match .keys4) (c .before .before .integer .ensures) (c .untagged4 .ensures)
+returns-4 c =
+    let c₁ = c .before .before in let c₂ = c₁ .before in let c₃ = c₂ .before .before .before in
+    str-integer (c₃ .args .v) (c₃ .pre) (c .untagged4 .result) (c₁ .integer .result) (c₂ .match .keys4) (c₁ .integer .ensures) (c .untagged4 .ensures)
 
 returns-5 : tie.Need-returns-5
-returns-5 c = str-uri (c .before .before .before .before .args .v) (c .before .before .before .before .pre) (c .untagged5 .result) (c .before .match .rest .1) (c .before .match .rest .0 .0 .1) (c .before .match .rest .0 .1) (c .before .match .rest .0 .0 .0 .1) (c .untagged5 .ensures)
+returns-5 c =
+    let c₁ = c .before in let c₂ = c₁ .before .before .before in
+    str-uri (c₂ .args .v) (c₂ .pre) (c .untagged5 .result) (c₁ .match .rest .1) (c₁ .match .rest .0 .0 .1) (c₁ .match .rest .0 .1) (c₁ .match .rest .0 .0 .0 .1)
+    (c .untagged5 .ensures)
 
 pub text-of-spec : {M : Type 1} → statement M
 text-of-spec =

@@ -12,7 +12,9 @@ enum-known-object : tie.Need-enum-known-object
 enum-known-object c = search needs
 
 edge-requires : tie.Need-edge-requires
-edge-requires c κs = (c .before .before .before .before .before .before .pre .0, variable-in (c .before .before .before .before .property .given .1) (c .before .before .before .before .before .before .pre .1), variable-in (c .before .object .given .1) (c .before .before .before .before .before .before .pre .2))
+edge-requires c κs =
+    let c₁ = c .before in let c₂ = c₁ .before .before .before in let c₃ = c₂ .before .before in
+    (c₃ .pre .0, variable-in (c₂ .property .given .1) (c₃ .pre .1), variable-in (c₁ .object .given .1) (c₃ .pre .2))
 
 enum-known-object-2 : tie.Need-enum-known-object-2
 enum-known-object-2 c = search needs
@@ -21,7 +23,9 @@ own-requires : tie.Need-own-requires
 own-requires c κs = search needs
 
 at-least-requires : tie.Need-at-least-requires
-at-least-requires c κs = (c .before .before .before .before .before .before .before .pre .0, variable-in (c .before .before .before .before .before .property .given .1) (c .before .before .before .before .before .before .before .pre .1))
+at-least-requires c κs =
+    let c₁ = c .before .before .before .before .before in let c₂ = c₁ .before .before in
+    (c₂ .pre .0, variable-in (c₁ .property .given .1) (c₂ .pre .1))
 
 enum-known-property-2 : tie.Need-enum-known-property-2
 enum-known-property-2 c = search needs
@@ -36,7 +40,9 @@ enum-known-object-3 : tie.Need-enum-known-object-3
 enum-known-object-3 c = search needs
 
 at-most-requires : tie.Need-at-most-requires
-at-most-requires c κs = (c .before .before .before .before .before .before .before .pre .0, variable-in (c .before .object3 .given .1) (c .before .before .before .before .before .before .before .pre .2))
+at-most-requires c κs =
+    let c₁ = c .before in let c₂ = c₁ .before .before .before .before .before .before in
+    (c₂ .pre .0, variable-in (c₁ .object3 .given .1) (c₂ .pre .2))
 
 enum-known-object-4 : tie.Need-enum-known-object-4
 enum-known-object-4 c = search needs
@@ -48,7 +54,9 @@ below-requires : tie.Need-below-requires
 below-requires c κs = search needs
 
 returns-2 : tie.Need-returns-2
-returns-2 c = relates-fit _ _ _ (c .before .before .before .before .before .before .before .before .property2 .given .1) _ (c .before .before .before .before .before .before .if1 .left) (c .before .before .before .before .object4 .given .1) (c .before .before .own2 .ensures) (c .before .below .ensures) (c .if2 .taken) refl
+returns-2 c =
+    let c₁ = c .before in let c₂ = c₁ .before in let c₃ = c₂ .before .before in let c₄ = c₃ .before .before in let c₅ = c₄ .before .before in
+    relates-fit _ _ _ (c₅ .property2 .given .1) _ (c₄ .if1 .left) (c₃ .object4 .given .1) (c₂ .own2 .ensures) (c₁ .below .ensures) (c .if2 .taken) refl
 
 impossible-requires-2 : tie.Need-impossible-requires-2
 impossible-requires-2 c κs = search needs
@@ -57,13 +65,19 @@ returns-3 : tie.Need-returns-3
 returns-3 c = relates-open _ _ _ (c .before .before .before .before .before .property .given .1) (c .before .before .object .given .1) (c .edge .ensures)
 
 returns-4 : tie.Need-returns-4
-returns-4 c = relates-object _ _ _ _ (c .before .before .before .before .before .before .property .given .1) (c .before .before .before .object2 .given .1) (c .before .own .ensures) (c .at-least .ensures)
+returns-4 c =
+    let c₁ = c .before in let c₂ = c₁ .before .before in let c₃ = c₂ .before .before .before in
+    relates-object _ _ _ _ (c₃ .property .given .1) (c₂ .object2 .given .1) (c₁ .own .ensures) (c .at-least .ensures)
 
 returns-5 : tie.Need-returns-5
-returns-5 c = relates-range _ _ _ (c .before .before .before .before .before .before .property2 .given .1) (c .before .before .before .before .if1 .left) (c .before .before .object3 .given .1) (c .at-most .ensures)
+returns-5 c =
+    let c₁ = c .before .before in let c₂ = c₁ .before .before in let c₃ = c₂ .before .before in
+    relates-range _ _ _ (c₃ .property2 .given .1) (c₂ .if1 .left) (c₁ .object3 .given .1) (c .at-most .ensures)
 
 returns-6 : tie.Need-returns-6
-returns-6 c = relates-unfit _ _ _ (c .before .before .before .before .before .before .before .before .before .property2 .given .1) _ (c .before .before .before .before .before .before .before .if1 .left) (c .before .before .before .before .before .object4 .given .1) (c .before .before .before .own2 .ensures) (c .before .before .below .ensures) (c .before .if2 .left) (c .impossible2 .ensures)
+returns-6 c =
+    let c₁ = c .before in let c₂ = c₁ .before in let c₃ = c₂ .before in let c₄ = c₃ .before .before in let c₅ = c₄ .before .before in let c₆ = c₅ .before .before in
+    relates-unfit _ _ _ (c₆ .property2 .given .1) _ (c₅ .if1 .left) (c₄ .object4 .given .1) (c₃ .own2 .ensures) (c₂ .below .ensures) (c₁ .if2 .left) (c .impossible2 .ensures)
 
 pub related-spec : {M : Type 1} → statement M
 related-spec =

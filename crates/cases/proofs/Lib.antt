@@ -1,0 +1,2 @@
+-- MadeLaws says what values of plain data mean.
+pub mod MadeLaws

@@ -1,0 +1,4 @@
+pub mod TypeLaws
+pub mod BindingLaws
+pub mod StackLaws
+pub mod ControlLaws
