@@ -8,13 +8,17 @@ LIBDIR ?= $(abspath $(PREFIX))/lib
 ARCHIVE = target/staticlib/libexports.a
 VERSION = $(shell sed -n 's/^version = "\(.*\)"/\1/p' host/Cargo.toml)
 
-.PHONY: test demo compare install uninstall
+.PHONY: test demo owner compare install uninstall
 
 test:
 	bash tools/test.sh
 
 demo:
 	bash tools/demo.sh
+
+# the owner's tools alone: what they need from Debian where it is missing, then their checks and tests
+owner: $(ARCHIVE)
+	bash tools/owner.sh
 
 # the long comparison of both engines: make compare CASES=1000000 SEED=7
 compare: $(ARCHIVE)

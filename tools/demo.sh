@@ -1,6 +1,6 @@
 #!/usr/bin/env bash
-# The type printer on document 01's example, then a season on one screen, both by the proved code. What is missing is proved and
-# built first; each crate is told as it is proved, with its time.
+# The type printer on document 01's example, a season on one screen, then one by willet from text, Turtle and HTTP, all by the proved code.
+# What is missing is proved and built first; each crate is told as it is proved, with its time.
 set -euo pipefail
 cd "$(dirname "$0")/.."
 export PATH="$HOME/.cargo/bin:$PATH"
@@ -28,3 +28,5 @@ target/bin/print_types < crates/print_types/stdin
 echo
 echo "a season:"
 cargo run --offline --quiet --release --manifest-path host/Cargo.toml -p panel
+echo
+bash tools/season.sh

@@ -44,6 +44,7 @@ check 'cargo fmt' host cargo fmt --check
 check 'cargo clippy' host cargo clippy --offline --quiet --all-targets -- -D warnings
 part 'cargo test, with the doc examples' host cargo test --offline --quiet
 check 'cargo doc' host env RUSTDOCFLAGS=-Dwarnings cargo doc --offline --quiet --no-deps
+part "the owner's tools" bash tools/owner.sh
 check 'the C example' bash tools/c_example.sh gcc -std=c99
 if command -v g++ >/dev/null; then
   check 'the C example as C++' bash tools/c_example.sh g++ -std=c++11 -x c++
