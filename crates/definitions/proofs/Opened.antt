@@ -54,7 +54,8 @@ unfolding Typing.nameHas Typing.exprHas Typing.condTyped Typing.propertyTyped Ty
 openTyping = tt
 
 unfoldable pub openCalendar : Unit {0}
-unfolding Calendar.isLeap Calendar.yearLength Calendar.monthLengths Calendar.monthFrom Calendar.yearFrom Calendar.dateOf Calendar.digits Calendar.dateText Calendar.timeText Calendar.dateTimeText
+unfolding Calendar.isLeap Calendar.yearLength Calendar.monthLengths Calendar.monthFrom Calendar.yearFrom Calendar.dateOf Calendar.digits Calendar.dateText Calendar.timeText
+    Calendar.dateTimeText
 openCalendar = tt
 
 unfoldable pub openOutcome : Unit {0}
