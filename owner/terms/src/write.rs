@@ -21,18 +21,6 @@ pub fn iri(text: &str, prefixes: &Prefixes) -> String {
     format!("<{}>", prefixes.full(text).chars().map(escape).collect::<String>())
 }
 
-fn decimal(millionths: i64) -> String {
-    let sign = if millionths < 0 { "-" } else { "" };
-    let amount = millionths.unsigned_abs();
-    let digits = format!("{sign}{}.{:06}", amount / 1_000_000, amount % 1_000_000);
-    let short = digits.trim_end_matches('0');
-    if short.ends_with('.') {
-        format!("{short}0")
-    } else {
-        short.to_owned()
-    }
-}
-
 /// A term as a script has it: `club:yard`, `"Mallard"@en`, `60`, `126.4`, `2026-03-01T12:00:00Z`.
 pub fn literal(term: &Term, prefixes: &Prefixes) -> String {
     match term.value() {
@@ -46,13 +34,13 @@ pub fn literal(term: &Term, prefixes: &Prefixes) -> String {
     }
 }
 
-/// A term by its text alone, as `str` gives it: a URI or a string without quotes and tag.
+/// A term by its text alone, as `str` gives it: a URI or a string without quotes and tag, a decimal with its point.
 pub fn plain(term: &Term) -> String {
+    let text = term.to_string();
     match term.value() {
-        Value::Uri(text) | Value::String { text, .. } => text.to_owned(),
-        Value::Integer(number) => number.to_string(),
-        Value::Decimal(millionths) => decimal(millionths),
+        Value::Decimal(_) if !text.contains('.') => text + ".0",
         Value::DateTime(seconds) => time::written(seconds),
+        _ => text,
     }
 }
 
