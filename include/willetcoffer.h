@@ -7,6 +7,7 @@
  *     willetcoffer_load(..)      once for a card
  *     willetcoffer_run(..)       until the report says wanted, waiting or ended
  *     willetcoffer_page(..)      for a wanted graph, and whenever a page has changed
+ *     willetcoffer_total(..)     whenever a display wants to know how long the script takes
  *
  * For C99 and C++. Link with -lwilletcoffer (pkg-config --cflags --libs willetcoffer). A test compares the numbers and the
  * declarations of this file with the definitions that the engine is proved to meet.
@@ -46,6 +47,8 @@ extern "C" {
 #define WILLETCOFFER_RUN_REPORT_WIDTH 8
 /* The report of a page call; see willetcoffer_page. */
 #define WILLETCOFFER_PAGE_REPORT_WIDTH 4
+/* The report of a total call; see willetcoffer_total. */
+#define WILLETCOFFER_TOTAL_REPORT_WIDTH 4
 
 /* ---- widths of fields, in bytes ------------------------------------------------------------------------------------------ */
 
@@ -223,6 +226,23 @@ uint32_t willetcoffer_page(
     uint8_t *saved, size_t saved_length,
     uint64_t graph,
     const uint8_t *page, size_t page_length,
+    uint8_t *report, size_t report_length);
+
+/*
+ * Tells how many steps a script takes in all, so that a display can show a bar. The steps that run calls report, counted from the
+ * load, are never more, and the script has ended exactly when they are as many; pages, waits and the cutting into calls don't
+ * alter the total. A script with an each block has no such total.
+ *
+ *   terms, schema, script       the card
+ *   report      written:
+ *                 at 0, 4 bytes  the script's records of kinds 71 to 74; 0 where it has an each block
+ *
+ * Refusals: 1 to 7, in this order. Types are not asked, so it answers for a card that a load refuses with 8 or 9 too.
+ */
+uint32_t willetcoffer_total(
+    const uint8_t *terms, size_t terms_length,
+    const uint8_t *schema, size_t schema_length,
+    const uint8_t *script, size_t script_length,
     uint8_t *report, size_t report_length);
 
 #ifdef __cplusplus

@@ -1,13 +1,13 @@
 -- The definitions at work, by computation: the calls on bytes.
 use Prim.Native.Nat.{ℕ}
 use mathlib.Core.Path.{_≡_, refl}
-use mathlib.Core.List.{List, [], _∷_}
+use mathlib.Core.List.{List, [], _∷_, _++_}
 use lib.IntN.{pos}
 use lib.ListN.{replicate, set, take}
 use Rattle.definitions.specs.Outcome.{ok}
 use Rattle.definitions.specs.Calls.{Lent}
-use Rattle.definitions.specs.Exports.{LoadExport, loadExport, runExport}
-use Rattle.definitions.specs.Limits.{savedWidth, runReportWidth}
+use Rattle.definitions.specs.Exports.{LoadExport, loadExport, runExport, totalExport}
+use Rattle.definitions.specs.Limits.{savedWidth, runReportWidth, totalReportWidth}
 use Rattle.definitions.proofs.Opened.{opened}
 use Rattle.definitions.proofs.Season.{card, withTables}
 
@@ -41,3 +41,33 @@ run-reports :
 unfolding lent first loadedCard report opened Rattle.definitions.proofs.Season.card Rattle.definitions.proofs.Season.uri
     Rattle.definitions.proofs.Season.number Rattle.definitions.proofs.Season.withTables
 run-reports = refl
+
+-- ── total ───────────────────────────────────────────────────────────────────────────────────
+
+-- a sequence of a block, once or each, and success
+twoScripts : (mode : ℕ) → List ℕ
+twoScripts mode = 0x74 ∷ 0x73 ∷ mode ∷ replicate 9 0 ++ (0x65 ∷ 0x71 ∷ 0x71 ∷ [])
+
+-- a once block with an open variable, which load refuses with 9
+openVariable : List ℕ
+openVariable = 0x73 ∷ 0 ∷ 1 ∷ replicate 8 0 ++ (0x65 ∷ 0x71 ∷ [])
+
+totalLent : List ℕ
+totalLent = replicate totalReportWidth 9
+
+-- four records; an each block below the root; types are not asked; an empty script; a report a byte short
+totals :
+    totalExport [] [] (twoScripts 0) totalLent
+    ∷ totalExport [] [] (twoScripts 1) totalLent
+    ∷ totalExport [] [] openVariable totalLent
+    ∷ totalExport [] [] [] totalLent
+    ∷ totalExport [] [] (twoScripts 0) (take 3 totalLent)
+    ∷ []
+    ≡ record { number = 0; report = 4 ∷ 0 ∷ 0 ∷ 0 ∷ [] }
+    ∷ record { number = 0; report = 0 ∷ 0 ∷ 0 ∷ 0 ∷ [] }
+    ∷ record { number = 0; report = 2 ∷ 0 ∷ 0 ∷ 0 ∷ [] }
+    ∷ record { number = 6; report = totalLent }
+    ∷ record { number = 1; report = 9 ∷ 9 ∷ 9 ∷ [] }
+    ∷ []
+unfolding twoScripts openVariable totalLent opened
+totals = refl

@@ -6,6 +6,7 @@ use Rattle.definitions.specs.Terms as Terms
 use Rattle.definitions.specs.Text as Text
 use Rattle.definitions.specs.Reading as Reading
 use Rattle.definitions.specs.Scope as Scope
+use Rattle.definitions.specs.Total as Total
 use Rattle.definitions.specs.Typing as Typing
 use Rattle.definitions.specs.Calendar as Calendar
 use Rattle.definitions.specs.Outcome as Outcome
@@ -47,6 +48,10 @@ openReading = tt
 unfoldable pub openScope : Unit {0}
 unfolding Scope.inName Scope.inExpr Scope.inCond Scope.inQuery Scope.isFree Scope.bindersOf Scope.inScope
 openScope = tt
+
+unfoldable pub openTotal : Unit {0}
+unfolding Total.scriptRecords Total.hasEach Total.totalOf
+openTotal = tt
 
 unfoldable pub openTyping : Unit {0}
 unfolding Typing.nameHas Typing.exprHas Typing.condTyped Typing.propertyTyped Typing.queryTyped Typing.scriptTyped Typing.writtenIn Typing.writtenTypes Typing.eachWith
@@ -97,7 +102,7 @@ openResult = tt
 unfoldable pub openCalls : Unit {0}
 unfolding Calls.recordTests Calls.sizesFit Calls.scriptTests Calls.readTests Calls.constantsOf Calls.typesOf Calls.typeTests Calls.check Calls.reportedTypes Calls.tablesFit
     Calls.loadTests Calls.loadResult Calls.load Calls.checkedOf Calls.soundIn Calls.entryTests Calls.runIn Calls.runTests Calls.ranOf Calls.runResult Calls.runCall Calls.pageIn
-    Calls.takeIn Calls.pageTests Calls.pageResult Calls.pageCall
+    Calls.takeIn Calls.pageTests Calls.pageResult Calls.pageCall Calls.totalResult Calls.total
 openCalls = tt
 
 unfoldable pub openCallList : Unit {0}
@@ -106,7 +111,7 @@ openCallList = tt
 
 unfoldable pub openExports : Unit {0}
 unfolding Exports.words Exports.itemsBytes Exports.savedBytes Exports.wordsFrom Exports.itemsFrom Exports.itemsGood Exports.savedFrom Exports.runReport Exports.pageReport
-    Exports.loadExport Exports.runExport Exports.pageExport
+    Exports.totalReport Exports.loadExport Exports.runExport Exports.pageExport Exports.totalExport
 openExports = tt
 
 unfoldable pub openPrinter : Unit {0}
@@ -115,6 +120,6 @@ unfolding Printer.entryBody Printer.endFrom Printer.termsEnd Printer.schemaEnd P
 openPrinter = tt
 
 unfoldable pub opened : Unit {0}
-unfolding openBytes openAscii openTerms openText openReading openScope openTyping openCalendar openOutcome openValues openEvaluate openSearch openMachine openSaved openSound
-    openResult openCalls openCallList openExports openPrinter
+unfolding openBytes openAscii openTerms openText openReading openScope openTotal openTyping openCalendar openOutcome openValues openEvaluate openSearch openMachine openSaved
+    openSound openResult openCalls openCallList openExports openPrinter
 opened = tt

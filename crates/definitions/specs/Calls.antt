@@ -1,4 +1,4 @@
--- Document 01, "Refusals": the three calls, their refusals in order, and every result outright.
+-- Document 01, "Refusals": load, run and page, their refusals in order, and every result outright; then the calls of document 02.
 use Prim.Native.Nat.{ℕ}
 use mathlib.Core.List.{List, [], _∷_, map}
 use mathlib.Core.Bool.{Bool, false, _&&_}
@@ -14,6 +14,7 @@ use Rattle.definitions.specs.Terms.{Term, Schema, Triple, Sort, sortOf, 
 use Rattle.definitions.specs.Tree.{Script}
 use Rattle.definitions.specs.Reading.{parsed}
 use Rattle.definitions.specs.Scope.{inScope}
+use Rattle.definitions.specs.Total.{totalOf}
 use Rattle.definitions.specs.Typing.{Written, unbound, undecided, fixed, writtenTypes, typeAt, Verdict, noTyping, noGreatest, greatest, verdict}
 use Rattle.definitions.specs.Outcome as Outcomes
 use Rattle.definitions.specs.Outcome.{Outcome, ok}
@@ -26,9 +27,11 @@ use Rattle.definitions.specs.declared.SavedRun.{SavedRun}
 use Rattle.definitions.specs.declared.Loaded.{Loaded}
 use Rattle.definitions.specs.declared.Ran.{Ran}
 use Rattle.definitions.specs.declared.Paged.{Paged}
+use Rattle.definitions.specs.declared.TotalAnswer.{TotalAnswer}
 use Rattle.definitions.specs.declared.LoadAnswer.the-variants as LoadAnswers
 use Rattle.definitions.specs.declared.RunAnswer.the-variants as RunAnswers
 use Rattle.definitions.specs.declared.PageAnswer.the-variants as PageAnswers
+use Rattle.definitions.specs.declared.TotalAnswer.the-variants as TotalAnswers
 
 -- ── terms, schema and script: 2 to 9 ────────────────────────────────────────────────────────
 
@@ -272,3 +275,13 @@ pageResult l saved (passed x) =
 
 unfoldable pub pageCall : Lent → SavedRun → (graph : ℕ) → (page : List ℕ) → PageResult
 pageCall l saved g page = pageResult l saved (pageTests l saved g page)
+
+-- ── total: 2 to 7, and at the C interface 1 for its report ──────────────────────────────────
+
+unfoldable pub totalResult : Result Parsed → TotalAnswer
+totalResult (refused n) = TotalAnswers.Refused n
+totalResult (passed x) = TotalAnswers.Total (totalOf (x .root))
+
+-- types are not asked
+unfoldable pub total : (terms schema script : List ℕ) → TotalAnswer
+total terms schema script = totalResult (readTests terms schema script)

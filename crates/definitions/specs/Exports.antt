@@ -7,20 +7,22 @@ use lib.Dec.{eqb, leb}
 use lib.IntN.{ℤ}
 use lib.ListN.{length}
 use Rattle.definitions.specs.Limits.{variableLimit, graphLimit, depthLimit, pairLimit}
-use Rattle.definitions.specs.Limits.{typesOffset, boundOffset, bindingsOffset, fetchedOffset, itemsOffset, itemWidth, savedWidth, runReportWidth, pageReportWidth}
+use Rattle.definitions.specs.Limits.{typesOffset, boundOffset, bindingsOffset, fetchedOffset, itemsOffset, itemWidth, savedWidth, runReportWidth, pageReportWidth, totalReportWidth}
 use Rattle.definitions.specs.Lists.{every}
 use Rattle.definitions.specs.Bytes.{byte, word, littleBytes, part, provided}
 use Rattle.definitions.specs.Outcome.{Outcome, ok, _>>=_}
 use Rattle.definitions.specs.Saved.{zeroItem}
-use Rattle.definitions.specs.Calls.{Lent, lengthsFit, load, runCall, PageResult, pageCall}
-use Rattle.definitions.specs.Numbers.{loadNumber, runNumber, pageNumber, stateNumber, wantedGraph}
+use Rattle.definitions.specs.Calls.{Lent, lengthsFit, load, runCall, PageResult, pageCall, total}
+use Rattle.definitions.specs.Numbers.{loadNumber, runNumber, pageNumber, totalNumber, stateNumber, wantedGraph}
 use Rattle.definitions.specs.declared.SavedItem.{SavedItem}
 use Rattle.definitions.specs.declared.SavedRun.{SavedRun}
 use Rattle.definitions.specs.declared.Ran.{Ran}
 use Rattle.definitions.specs.declared.RunAnswer.{RunAnswer}
 use Rattle.definitions.specs.declared.PageAnswer.{PageAnswer}
+use Rattle.definitions.specs.declared.TotalAnswer.{TotalAnswer}
 use Rattle.definitions.specs.declared.RunAnswer.the-variants as RunAnswers
 use Rattle.definitions.specs.declared.PageAnswer.the-variants as PageAnswers
+use Rattle.definitions.specs.declared.TotalAnswer.the-variants as TotalAnswers
 
 -- ── the saved run as bytes ────────────────────────────────────────────────────────────────
 
@@ -96,7 +98,12 @@ unfoldable pub pageReport : List ℕ → PageAnswer → List ℕ
 pageReport report (PageAnswers.Taken skipped) = littleBytes 4 skipped
 pageReport report (PageAnswers.Refused n) = report
 
--- ── the three calls: the number returned, and every lent buffer at the end ──────────────────
+-- the total
+unfoldable pub totalReport : List ℕ → TotalAnswer → List ℕ
+totalReport report (TotalAnswers.Total n) = littleBytes 4 n
+totalReport report (TotalAnswers.Refused n) = report
+
+-- ── the calls: the number returned, and every lent buffer at the end ────────────────────────
 
 pub record LoadExport : Type 0 where
   pub number : ℕ
@@ -114,6 +121,10 @@ pub record PageExport : Type 0 where
   pub termTable : List ℕ
   pub quadTable : List ℕ
   pub saved : List ℕ
+  pub report : List ℕ
+
+pub record TotalExport : Type 0 where
+  pub number : ℕ
   pub report : List ℕ
 
 -- the saved run's bytes where nothing was refused, else those that were lent
@@ -173,4 +184,12 @@ pageExport l saved g page report =
     elim (lengthsFit l && (eqb (length saved) savedWidth && eqb (length report) pageReportWidth)) [
       | true ↦ pageOn l g page saved report (savedFrom saved)
       | false ↦ refusedPage 1 l saved report
+    ]
+
+unfoldable pub totalExport : (terms schema script report : List ℕ) → TotalExport
+totalExport terms schema script report =
+    let answer = total terms schema script in
+    elim (eqb (length report) totalReportWidth) [
+      | true ↦ record { number = totalNumber answer; report = totalReport report answer }
+      | false ↦ record { number = 1; report = report }
     ]

@@ -8,6 +8,7 @@ pub mod Text
 pub mod Tree
 pub mod Reading
 pub mod Scope
+pub mod Total
 pub mod Typing
 pub mod Calendar
 pub mod Outcome

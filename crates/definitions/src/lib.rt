@@ -1,4 +1,4 @@
-// The data that all crates share: limits and widths, the saved run, and the answers of the three calls.
+// The data that all crates share: limits and widths, the saved run, and the answers of the calls.
 
 // Widths of fields and records, in bytes. `Limits` in specs/ has the same names and numbers.
 pub const TEXT_WIDTH: usize = 40;
@@ -105,6 +105,8 @@ pub const RUN_REPORT_WIDTH: usize = 8;
 
 pub const PAGE_REPORT_WIDTH: usize = 4;
 
+pub const TOTAL_REPORT_WIDTH: usize = 4;
+
 // The refusals, by document 01's numbers.
 pub const WRONG_LENGTH: u8 = 1;
 
@@ -177,7 +179,8 @@ pub enum RunState {
     Spent,
 }
 
-// The answers of the three calls: a refusal's number, or the result: steps and state of a run, the skipped count of a page.
+// The answers of the calls: a refusal's number, or the result: steps and state of a run, the skipped count of a page, the total of
+// a script.
 pub enum LoadAnswer {
     Accepted,
     Refused(u8),
@@ -190,6 +193,11 @@ pub enum RunAnswer {
 
 pub enum PageAnswer {
     Taken(u32),
+    Refused(u8),
+}
+
+pub enum TotalAnswer {
+    Total(u32),
     Refused(u8),
 }
 

@@ -5,3 +5,4 @@ pub mod PassedLaws
 pub mod PageLaws
 pub mod TakeLaws
 pub mod RunLaws
+pub mod TotalLaws

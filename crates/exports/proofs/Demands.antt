@@ -1,5 +1,5 @@
--- The three demands, held together with the code. The definitions of the calls say what each call gives: answer, saved run and both tables, on refusals too,
--- and at the C interface the number returned and every lent buffer. The first six fields say that the code gives exactly that: they are the contracts of the
+-- The demands and requests, held together with the code. The definitions of the calls say what each call gives: answer, saved run and both tables, on refusals too,
+-- and at the C interface the number returned and every lent buffer. The first eight fields say that the code gives exactly that: they are the contracts of the
 -- calls and of the exports, met. The others say what follows from the definitions.
 use mathlib.Core.Path.{_≡_}
 use mathlib.Core.List.{List}
@@ -14,33 +14,41 @@ use Rattle.engine.proofs.run.run.Statement as run-call
 use Rattle.engine.proofs.run.run.Met as run-met
 use Rattle.engine.proofs.page.page.Statement as page-call
 use Rattle.engine.proofs.page.page.Met as page-met
+use Rattle.engine.proofs.total.total.Statement as total-call
+use Rattle.engine.proofs.total.total.Met as total-met
 use Rattle.exports.proofs.willetcoffer_load.Statement as load-export
 use Rattle.exports.proofs.willetcoffer_load.Met as load-export-met
 use Rattle.exports.proofs.willetcoffer_run.Statement as run-export
 use Rattle.exports.proofs.willetcoffer_run.Met as run-export-met
 use Rattle.exports.proofs.willetcoffer_page.Statement as page-export
 use Rattle.exports.proofs.willetcoffer_page.Met as page-export-met
+use Rattle.exports.proofs.willetcoffer_total.Statement as total-export
+use Rattle.exports.proofs.willetcoffer_total.Met as total-export-met
 use Rattle.theorems.specs.Hosts.{HostCall}
 use Rattle.theorems.specs.Demand1.{Demand1}
 use Rattle.theorems.specs.Demand2.{Demand2}
 use Rattle.theorems.specs.Demand3.{Demand3}
 use Rattle.theorems.specs.ExportRefusals.{ExportRefusals}
 use Rattle.theorems.specs.OnBytes.{ExportCall, OnBytes}
+use Rattle.theorems.specs.ExactSteps.{OnceLoad, ExactSteps}
 use Rattle.theorems.proofs.Demand1.{demand-1}
 use Rattle.theorems.proofs.Demand2.{demand-2}
 use Rattle.theorems.proofs.Demand3.{demand-3}
 use Rattle.theorems.proofs.ExportRefusals.{export-refusals}
 use Rattle.theorems.proofs.OnBytes.{on-bytes}
+use Rattle.theorems.proofs.ExactSteps.{exact-steps}
 
 pub record Demands (M : Type 1) : Type 2 where
   -- the code of each call does what the call's definition says
   pub loads : load-call.statement M
   pub runs : run-call.statement M
   pub pages : page-call.statement M
+  pub totals : total-call.statement M
   -- and that of each export what the definition on bytes says
   pub loadExports : load-export.statement M
   pub runExports : run-export.statement M
   pub pageExports : page-export.statement M
+  pub totalExports : total-export.statement M
   -- refusals, of the calls and at the C interface
   pub first : Demand1
   pub firstOnBytes : ExportRefusals
@@ -50,6 +58,8 @@ pub record Demands (M : Type 1) : Type 2 where
   pub third : (l : Lent) → load l .returned .answer ≡ LoadAnswers.Accepted → (calls : List HostCall) → Demand3 l calls
   pub thirdOnBytes : (l : Lent) → load l .returned .answer ≡ LoadAnswers.Accepted → (saved : List ℕ) → length saved ≡ savedWidth
       → (calls : List ExportCall) → OnBytes l saved calls
+  -- Ask 12: how long a script with no each block takes, of the calls and on bytes
+  pub exact : (l : Lent) (o : OnceLoad l) → ExactSteps l (o .read .root)
 
 pub demands : {M : Type 1} → Demands M
 demands =
@@ -57,12 +67,15 @@ demands =
       loads = load-met.met;
       runs = run-met.met;
       pages = page-met.met;
+      totals = total-met.met;
       loadExports = load-export-met.met;
       runExports = run-export-met.met;
       pageExports = page-export-met.met;
+      totalExports = total-export-met.met;
       first = demand-1;
       firstOnBytes = export-refusals;
       second = demand-2;
       third = demand-3;
       thirdOnBytes = on-bytes;
+      exact = exact-steps;
     }

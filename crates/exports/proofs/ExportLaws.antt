@@ -1,4 +1,4 @@
--- The three calls by their cases: another length, bytes that no saved run has, and the engine's answer.
+-- The calls by their cases: another length, bytes that no saved run has, and the engine's answer.
 use Prim.Native.Nat.{ℕ}
 use native.Mathlib.Omega.{arith}
 use mathlib.Core.Path.{_≡_, refl, ap, sym, _∙_}
@@ -9,15 +9,16 @@ use lib.IntN.{ℤ}
 use lib.ListN.{length}
 use borrow.Author.Tests.{eq-eqb, ne-eqb, not-true, not-false}
 use Rattle.definitions.specs.Outcome.{ok, _>>=_}
-use Rattle.definitions.specs.Calls.{Lent, load, runCall, pageCall}
-use Rattle.definitions.specs.Numbers.{loadNumber, runNumber, pageNumber}
-use Rattle.definitions.specs.Limits.{savedWidth, runReportWidth, pageReportWidth}
-use Rattle.definitions.specs.Exports.{savedFrom, savedAfter, runReport, pageReport}
-use Rattle.definitions.specs.Exports.{loadExport, runExport, pageExport}
+use Rattle.definitions.specs.Calls.{Lent, load, runCall, pageCall, total}
+use Rattle.definitions.specs.Numbers.{loadNumber, runNumber, pageNumber, totalNumber}
+use Rattle.definitions.specs.Limits.{savedWidth, runReportWidth, pageReportWidth, totalReportWidth}
+use Rattle.definitions.specs.Exports.{savedFrom, savedAfter, runReport, pageReport, totalReport}
+use Rattle.definitions.specs.Exports.{loadExport, runExport, pageExport, totalExport}
 use Rattle.definitions.specs.declared.SavedRun.{SavedRun}
 use Rattle.definitions.specs.declared.Loaded.{Loaded}
 use Rattle.definitions.specs.declared.Ran.{Ran}
 use Rattle.definitions.specs.declared.Paged.{Paged}
+use Rattle.definitions.specs.declared.TotalAnswer.{TotalAnswer}
 use Rattle.layout.specs.declared.SavedRead.{SavedRead}
 use Rattle.layout.specs.ReadSaved.{readOf}
 use Rattle.exports.specs.Buffers.{buffersFit}
@@ -107,3 +108,18 @@ module _ (l : Lent) (saved : List ℕ) (g : ℕ) (page report : List ℕ) where
       let k = after ∙ ap (λ (m : ℕ). savedAfter m (x .saved) saved) number in
       rw (pageExport, sym e ∙ not-false b f, u, call)
       (λ i. record { number = sym number i; termTable = t; quadTable = q; saved = sym k i; report = sym reported i })
+
+-- ── total ───────────────────────────────────────────────────────────────────────────────────
+
+module _ (terms schema script report : List ℕ) where
+  pub total-length : (length report ≡ totalReportWidth → ⊥) → totalExport terms schema script report ≡ record { number = 1; report = report }
+  unfolding totalExport
+  total-length h = rw (totalExport, ne-eqb (length report) totalReportWidth h)
+
+  pub total-done : {answer : TotalAnswer} {p : List ℕ} {n : ℕ} → length report ≡ totalReportWidth → answer ≡ total terms schema script
+      → p ≡ totalReport report answer → n ≡ totalNumber answer → totalExport terms schema script report ≡ record { number = n; report = p }
+  unfolding totalExport
+  total-done h e written number =
+      let m = number ∙ ap totalNumber e in
+      let k = written ∙ ap (totalReport report) e in
+      rw (totalExport, eq-eqb (length report) totalReportWidth h) (λ i. record { number = sym m i; report = sym k i })

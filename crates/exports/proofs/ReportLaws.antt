@@ -4,12 +4,14 @@ use mathlib.Core.Path.{_≡_, ap, sym, _∙_}
 use mathlib.Core.List.{List, _∷_, _++_}
 use Rattle.definitions.specs.Bytes.{littleBytes}
 use Rattle.definitions.specs.Numbers.{stateNumber, wantedGraph}
-use Rattle.definitions.specs.Exports.{runReport, pageReport}
+use Rattle.definitions.specs.Exports.{runReport, pageReport, totalReport}
 use Rattle.definitions.specs.declared.RunState.{RunState}
 use Rattle.definitions.specs.declared.RunAnswer.{RunAnswer}
 use Rattle.definitions.specs.declared.PageAnswer.{PageAnswer}
+use Rattle.definitions.specs.declared.TotalAnswer.{TotalAnswer}
 use Rattle.definitions.specs.declared.RunAnswer.the-variants as RunAnswers
 use Rattle.definitions.specs.declared.PageAnswer.the-variants as PageAnswers
+use Rattle.definitions.specs.declared.TotalAnswer.the-variants as TotalAnswers
 
 module _ (report : List ℕ) {answer : RunAnswer} where
   pub run-refused : {n : ℕ} → answer ≡ RunAnswers.Refused n → report ≡ runReport report answer
@@ -29,3 +31,12 @@ module _ (report : List ℕ) {answer : PageAnswer} where
   pub taken : {skipped : ℕ} → answer ≡ PageAnswers.Taken skipped → {p : List ℕ} → p ≡ littleBytes 4 skipped → p ≡ pageReport report answer
   unfolding pageReport
   taken e s = s ∙ ap (pageReport report) (sym e)
+
+module _ (report : List ℕ) {answer : TotalAnswer} where
+  pub total-refused : {n : ℕ} → answer ≡ TotalAnswers.Refused n → report ≡ totalReport report answer
+  unfolding totalReport
+  total-refused e = rw e
+
+  pub total-told : {steps : ℕ} → answer ≡ TotalAnswers.Total steps → {p : List ℕ} → p ≡ littleBytes 4 steps → p ≡ totalReport report answer
+  unfolding totalReport
+  total-told e s = s ∙ ap (totalReport report) (sym e)

@@ -1,4 +1,4 @@
-// What the three calls have in common: the lengths of what is lent, and the saved run handed back.
+// What load, run and page have in common: the lengths of what is lent, and the saved run handed back.
 ghost use mathlib.Core.Path.{_≡_};
 ghost use Rattle.definitions.specs.Limits.{savedWidth};
 ghost use Rattle.definitions.specs.Exports.{savedAfter};

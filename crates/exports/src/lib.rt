@@ -1,13 +1,14 @@
-// The C interface: the three calls as other programs link them, over the saved run as bytes and back, and the reports.
-pub mod handing; // handing.rt: what the three calls have in common
+// The C interface: the calls as other programs link them, over the saved run as bytes and back, and the reports.
+pub mod handing; // handing.rt: what load, run and page have in common
 pub mod reports;
 
 ghost use mathlib.Core.Path.{_≡_};
 ghost use Rattle.definitions.specs.Outcome.{ok};
-ghost use Rattle.definitions.specs.Exports.{loadExport, runExport, pageExport};
+ghost use Rattle.definitions.specs.Exports.{loadExport, runExport, pageExport, totalExport};
 use definitions::PAGE_REPORT_WIDTH;
 use definitions::RUN_REPORT_WIDTH;
 use definitions::SAVED_WIDTH;
+use definitions::TOTAL_REPORT_WIDTH;
 use layout::reading;
 
 // Load: 1 to 9.
@@ -166,4 +167,24 @@ pub extern "C" fn willetcoffer_page(
     handing::hand_back(number, kept, saved);
     reports::write_page_report(answer, report);
     number
+}
+
+// Total: 1 for its report, then 2 to 7.
+// Ruled out: a total that takes a report of any length; one that returns 0 for a refused card.
+#[no_mangle]
+pub extern "C" fn willetcoffer_total(
+    terms: &[u8],
+    schema: &[u8],
+    script: &[u8],
+    report: &mut [u8],
+) -> u32
+    ensures { λ r. ⌜ totalExport (now (terms .entry)) (now (schema .entry)) (now (script .entry)) (now (report .entry))
+        ≡ record { number = r; report = now (report .exit) } ⌝ }
+{
+    if report.len() != TOTAL_REPORT_WIDTH {
+        return 1;
+    }
+    let answer = engine::total::total(terms, schema, script);
+    reports::write_total_report(answer, report);
+    reports::total_number(answer)
 }

@@ -1,12 +1,13 @@
-// The numbers of the answers, and the reports of a run and of a page.
+// The numbers of the answers, and the reports of a run, of a page and of a total.
 ghost use mathlib.Core.Path.{_≡_};
-ghost use Rattle.definitions.specs.Numbers.{loadNumber, runNumber, pageNumber, stateNumber, wantedGraph};
-ghost use Rattle.definitions.specs.Limits.{runReportWidth, pageReportWidth};
-ghost use Rattle.definitions.specs.Exports.{runReport, pageReport};
+ghost use Rattle.definitions.specs.Numbers.{loadNumber, runNumber, pageNumber, totalNumber, stateNumber, wantedGraph};
+ghost use Rattle.definitions.specs.Limits.{runReportWidth, pageReportWidth, totalReportWidth};
+ghost use Rattle.definitions.specs.Exports.{runReport, pageReport, totalReport};
 use definitions::LoadAnswer;
 use definitions::PageAnswer;
 use definitions::RunAnswer;
 use definitions::RunState;
+use definitions::TotalAnswer;
 use layout::writing;
 
 // 0, or the refusal's number.
@@ -34,6 +35,15 @@ pub fn page_number(answer: PageAnswer) -> u32
     match answer {
         PageAnswer::Taken(_) => 0,
         PageAnswer::Refused(n) => n as u32,
+    }
+}
+
+pub fn total_number(answer: TotalAnswer) -> u32
+    ensures { λ r. ⌜ r ≡ totalNumber answer ⌝ }
+{
+    match answer {
+        TotalAnswer::Total(_) => 0,
+        TotalAnswer::Refused(n) => n as u32,
     }
 }
 
@@ -83,4 +93,15 @@ pub fn write_page_report(answer: PageAnswer, out: &mut [u8])
         return;
     };
     writing::write_number(skipped, out);
+}
+
+// The total; a refused call leaves the report as it was.
+pub fn write_total_report(answer: TotalAnswer, out: &mut [u8])
+    requires { do ⌜ (← ⟦out.len()⟧) ≡ totalReportWidth ⌝ }
+    ensures { λ r. ⌜ now (out .exit) ≡ totalReport (now (out .entry)) answer ⌝ }
+{
+    let TotalAnswer::Total(steps) = answer else {
+        return;
+    };
+    writing::write_number(steps, out);
 }

@@ -11,6 +11,7 @@ use lib.Dec.{T, ltb, eqb, leb→le, ltb→lt, eqb→eq}
 use Rattle.definitions.specs.Limits.{variableLimit, patternWidth, languageRangeWidth, blockWidth, pairLimit, depthLimit}
 use Rattle.definitions.specs.Bytes.{Got, provided, onward, row, byte, word, past, whole, body}
 use Rattle.definitions.specs.Text.{patternOf, languageRangeOf}
+use Rattle.definitions.specs.Total.{scriptRecords}
 use Rattle.definitions.specs.Tree.{Name, var, const, Expr, Cond, Query, Binder, Script, success, fromNamed, block, sequence}
 use Rattle.definitions.specs.Reading.{andThen, oneOf, twoOf, fourOf, NameShape, nameRows, nameOf, readName, ExprShape, exprRows, exprOf, readExpr}
 use Rattle.definitions.specs.Reading.{CondShape, condRows, condOf, readCond, withBody, QueryShape, queryRows, queryOf, readQuery}
@@ -278,6 +279,14 @@ placed-from lo lo′ hi (success at) l h = (omega (arith, h .0), h .1)
 placed-from lo lo′ hi (fromNamed at n c) l h = (omega (arith, h .0), h .1)
 placed-from lo lo′ hi (block at each bs q c) l h = (omega (arith, h .0), h .1)
 placed-from lo lo′ hi (sequence at c d) l h = (omega (arith, h .0), h .1)
+
+-- a record takes a byte at least
+pub records-fit : (lo hi : ℕ) (c : Script) → Placed lo hi c → lo + scriptRecords c ≤ hi
+unfolding scriptRecords
+records-fit lo hi (success at) h = omega (arith, h .0, h .1)
+records-fit lo hi (fromNamed at n c) h = omega (arith, h .0, records-fit (suc at) hi c (h .1))
+records-fit lo hi (block at each bs q c) h = omega (arith, h .0, records-fit (suc at) hi c (h .1))
+records-fit lo hi (sequence at c d) h = omega (arith, h .0, records-fit (suc at) (h .1 .0) c (h .1 .1), records-fit (h .1 .0) hi d (h .1 .2))
 
 -- a script read from an offset on with some levels left
 pub record ScriptIn (s : List ℕ) (terms left at : ℕ) (c : Script) (n : ℕ) : Type 0 where

@@ -1,3 +1,4 @@
 pub mod Uses
 pub mod Bindings
 pub mod Places
+pub mod Totals

@@ -2,7 +2,7 @@
 use Prim.Native.Nat.{ℕ}
 use native.Mathlib.Omega.{arith}
 use mathlib.Core.Path.{_≡_, refl, sym, _∙_}
-use mathlib.Core.List.{List, [], _∷_}
+use mathlib.Core.List.{List, [], _∷_, _++_}
 use mathlib.Core.Bool.{Bool, true, false, not, _&&_, _||_}
 use mathlib.Core.Option.{Option, none, some}
 use lib.Dec.{leb}
@@ -12,21 +12,24 @@ use Rattle.definitions.specs.Limits.{budgetLimit}
 use Rattle.definitions.specs.Lists.{every, some?, distinct, isEmpty}
 use Rattle.definitions.specs.Bytes.{onward}
 use Rattle.definitions.specs.Types.{Ty}
-use Rattle.definitions.specs.Terms.{sameTerm, sameProperty, isDateTime, readTerms, readSchema}
+use Rattle.definitions.specs.Terms.{Term, Schema, sameTerm, sameProperty, isDateTime, readTerms, readSchema}
+use Rattle.definitions.specs.Tree.{Script}
 use Rattle.definitions.specs.Reading.{parsed}
 use Rattle.definitions.specs.Scope.{inScope}
+use Rattle.definitions.specs.Total.{totalOf}
 use Rattle.definitions.specs.Typing.{writtenTypes, typings, above, Verdict, greatest, firstAbove, judge, verdict}
 use Rattle.definitions.specs.Outcome as Outcomes
 use Rattle.definitions.specs.Machine.{withProperties, taken, withPage, inLimits}
 use Rattle.definitions.specs.Result.{Result, refused, passed, _>>=_, _>>_, require, given}
-use Rattle.definitions.specs.Calls.{recordTests, sizesFit, scriptTests, readTests, Checked, constantsOf, typesOf, typeTests, check, Lent, lengthsFit, loadTests, loadResult, load, soundIn, entryTests}
+use Rattle.definitions.specs.Calls.{recordTests, sizesFit, scriptTests, Parsed, readTests}
+use Rattle.definitions.specs.Calls.{Checked, constantsOf, typesOf, typeTests, check, Lent, lengthsFit, loadTests, loadResult, load, soundIn, entryTests}
 use Rattle.definitions.specs.Calls.{runIn, Running, runTests, ranOf, runResult, runCall}
-use Rattle.definitions.specs.Calls.{isGraph, pageIn, takeIn, Taking, pageTests, pageResult, pageCall}
+use Rattle.definitions.specs.Calls.{isGraph, pageIn, takeIn, Taking, pageTests, pageResult, pageCall, totalResult, total}
 use Rattle.definitions.specs.declared.SavedRun.{SavedRun}
 use Rattle.definitions.specs.declared.RunAnswer.the-variants as RunAnswers
 use Rattle.laws.proofs.Results.{by-bind, by-after}
 use Rattle.theorems.proofs.CallsPassed.{run-passed, run-fine, run-gives}
-use Rattle.theorems.specs.Demand1.{firstBroken, isThere, ifThere, loadRules, runRules, pageRules, LoadRefuses, RunRefuses, PageRefuses, Demand1}
+use Rattle.theorems.specs.Demand1.{firstBroken, isThere, ifThere, readRules, loadRules, runRules, pageRules, LoadRefuses, RunRefuses, PageRefuses, TotalRefuses, Demand1}
 
 -- ── the proof: tests follow a table ─────────────────────────────────────────────────────────
 
@@ -82,6 +85,31 @@ unfolding _>>=_
 then-passes f (refuses e h) = refuses e h
 then-passes f (passes e) = passes e
 
+-- ── the proof: 2 to 7 ───────────────────────────────────────────────────────────────────────
+
+-- and what goes on with what was read
+read-follows : {B : Type 0} (terms schema script : List ℕ) (k : Parsed → Result B) (rules : List (ℕ × Bool))
+    → ((listed : List Term) (S : Schema) (root : Script) → readTerms terms ≡ some listed → readSchema schema ≡ some S
+    → parsed (length (withProperties S listed)) script ≡ some root → Follows (k (record { schema = S; terms = withProperties S listed; root = root })) rules)
+    → Follows (readTests terms schema script >>= k) (readRules terms schema script ++ rules)
+unfolding readTests recordTests scriptTests onward ifThere _>>=_
+read-follows terms schema script k rules more =
+    regroup (recordTests terms schema) _ _
+    (regroup (given 2 (readTerms terms)) _ _
+    (there 2 (λ e. omega (arith, e)) (readTerms terms) λ listed e₂. rw e₂
+    (together (require 3 (distinct sameTerm listed)) _ _
+    (rule 3 (λ e. omega (arith, e)) (distinct sameTerm listed)
+    (regroup (given 4 (readSchema schema)) _ _
+    (there 4 (λ e. omega (arith, e)) (readSchema schema) λ S e₄. rw e₄
+    (together (require 5 (distinct sameProperty S)) _ _
+    (rule 5 (λ e. omega (arith, e)) (distinct sameProperty S)
+    (let ts = withProperties S listed in
+    regroup (scriptTests ts S script) _ _
+    (together (require 6 (sizesFit ts S script)) _ _
+    (rule-there 6 (λ e. omega (arith, e)) (sizesFit ts S script) (parsed (length ts) script) _ _ λ root e₆. rw e₆
+    (together (require 7 (inScope root)) _ _
+    (rule 7 (λ e. omega (arith, e)) (inScope root) (more listed S root e₂ e₄ e₆))))))))))))))
+
 -- ── the proof: load ─────────────────────────────────────────────────────────────────────────
 
 -- refusal 9: of some typings, the first above all
@@ -104,25 +132,12 @@ judge-follows f [] = broken 8 (λ e. omega (arith, e))
 judge-follows f (Γ ∷ Γs) = kept (above-follows f (Γ ∷ Γs) (Γ ∷ Γs))
 
 load-follows : (l : Lent) → Follows (loadTests l) (loadRules (lengthsFit l) l)
-unfolding loadTests check readTests recordTests scriptTests typeTests onward ifThere verdict _>>=_
+unfolding loadTests check typeTests onward ifThere verdict _>>=_
 load-follows l =
     rule 1 (λ e. omega (arith, e)) (lengthsFit l)
-    (regroup (recordTests (l .terms) (l .schema)) _ _
-    (regroup (given 2 (readTerms (l .terms))) _ _
-    (there 2 (λ e. omega (arith, e)) (readTerms (l .terms)) λ listed e₂. rw e₂
-    (together (require 3 (distinct sameTerm listed)) _ _
-    (rule 3 (λ e. omega (arith, e)) (distinct sameTerm listed)
-    (regroup (given 4 (readSchema (l .schema))) _ _
-    (there 4 (λ e. omega (arith, e)) (readSchema (l .schema)) λ S e₄. rw e₄
-    (together (require 5 (distinct sameProperty S)) _ _
-    (rule 5 (λ e. omega (arith, e)) (distinct sameProperty S)
-    (let ts = withProperties S listed in
-    regroup (scriptTests ts S (l .script)) _ _
-    (together (require 6 (sizesFit ts S (l .script))) _ _
-    (rule-there 6 (λ e. omega (arith, e)) (sizesFit ts S (l .script)) (parsed (length ts) (l .script)) _ _ λ root e₆. rw e₆
-    (together (require 7 (inScope root)) _ _
-    (rule 7 (λ e. omega (arith, e)) (inScope root)
-    (judge-follows (λ Γ. record { schema = S; terms = ts; root = root; types = Γ }) (typings (constantsOf S ts) (writtenTypes root) root))))))))))))))))
+    (read-follows (l .terms) (l .schema) (l .script) typeTests _ λ listed S root e₂ e₄ e₆.
+    let ts = withProperties S listed in
+    rw (e₂, e₄, e₆) (judge-follows (λ Γ. record { schema = S; terms = ts; root = root; types = Γ }) (typings (constantsOf S ts) (writtenTypes root) root)))
 
 load-refuses : (l : Lent) (r : Result Checked) → Follows r (loadRules (lengthsFit l) l) → loadTests l ≡ r → LoadRefuses l
 unfolding load loadResult
@@ -183,6 +198,19 @@ module _ (l : Lent) (saved : SavedRun) (g : ℕ) (page : List ℕ) where
   page-refuses (refused n) (refuses e h) q = record { number = rw q e; keeps = λ k. rw q (refl, refl, refl); answers = λ z. absurd (h (e ∙ z)) }
   page-refuses (passed x) (passes e) q = record { number = rw q (sym e); keeps = λ k. absurd (k e); answers = λ z. (x .taken .skipped, rw q refl) }
 
+-- ── the proof: total ────────────────────────────────────────────────────────────────────────
+
+no-more : {A : Type 0} {rules : List (ℕ × Bool)} (m : Result A) → Follows (m >>= passed) rules → Follows m rules
+unfolding _>>=_
+no-more (refused n) h = h
+no-more (passed a) h = h
+
+module _ (terms schema script : List ℕ) where
+  total-refuses : (r : Result Parsed) → Follows r (readRules terms schema script) → readTests terms schema script ≡ r → TotalRefuses terms schema script
+  unfolding total totalResult
+  total-refuses (refused n) (refuses e h) q = record { number = rw q e; answers = λ z. absurd (h (e ∙ z)) }
+  total-refuses (passed x) (passes e) q = record { number = rw q (sym e); answers = λ z. (totalOf (x .root), rw q refl) }
+
 -- ── the theorem ─────────────────────────────────────────────────────────────────────────────
 
 pub demand-1 : Demand1
@@ -190,4 +218,7 @@ demand-1 = record {
   load = λ l. load-refuses l (loadTests l) (load-follows l) refl;
   run = λ l saved budget now. run-refuses l saved budget now (runTests l saved budget now) (run-follows l saved budget now) refl;
   page = λ l saved g page. page-refuses l saved g page (pageTests l saved g page) (page-follows l saved g page) refl;
+  total = λ terms schema script.
+      let r = readTests terms schema script in
+      total-refuses terms schema script r (no-more r (read-follows terms schema script passed [] (λ listed S root e₂ e₄ e₆. end))) refl;
 }

@@ -35,7 +35,7 @@ use Rattle.safety.proofs.RunSound.{last-sound}
 use Rattle.theorems.proofs.Safety.{well-typed, loaded-sound, CallSound, call-sound}
 use Rattle.theorems.specs.Hosts.{Kept, Lending, asLeft, others, HostCall, lending, fed, keptOf, keptAfterLoad, Handed, numberOf, lentKept, keptAfter, engineCall, engineCalls}
 use Rattle.theorems.specs.Demand3.{Keeps, Wrong, Agrees, CallByCall, Demand3}
-use Rattle.theorems.proofs.EngineSound.{handedOf, engine-call, call-valid}
+use Rattle.theorems.proofs.EngineSound.{handedOf, answer-of, engine-call, call-valid}
 
 -- ── the proof: refusals ─────────────────────────────────────────────────────────────────────
 
@@ -88,7 +88,7 @@ fair-call c (paging m n g page) s =
     (fair-paged (pageTaken g (taken (c .schema) g triples (s .store)) s)))))
 
 -- a table of another length gives 1
-wrong-one : (c : Checked) (x : HostCall) (s : State) (d : Done) → machineCall c (fed x) s ≡ ok d → Wrong (lending x) → numberOf (d .answer) ≡ 1
+pub wrong-one : (c : Checked) (x : HostCall) (s : State) (d : Done) → machineCall c (fed x) s ≡ ok d → Wrong (lending x) → numberOf (d .answer) ≡ 1
 unfolding machineCall runDone pageDone
 wrong-one c (HostCall.running (others l saved wrong) budget now) s d e w =
     let one = rw (require-refused 1 (runIn c budget now s) (isFalse (lengthsFit l) wrong)) at e in
@@ -125,7 +125,7 @@ module _ (l : Lent) (c : Checked) (loads : check (l .terms) (l .schema) (l .scri
   accepted = check-accepted (l .terms) (l .schema) (l .script) c loads
 
   -- what a sound state leaves in saved run and tables
-  kept-again : (s : State) → Sound c s → ValidIn s → Keeps c (keptOf c s) s
+  pub kept-again : (s : State) → Sound c s → ValidIn s → Keeps c (keptOf c s) s
   kept-again s sound valid =
       record {
         written = refl;
@@ -159,19 +159,15 @@ module _ (l : Lent) (c : Checked) (loads : check (l .terms) (l .schema) (l .scri
       → Keeps c (keptOf c (lastOf s (d .passed))) (lastOf s (d .passed)) → Agrees c x (keptOf c s) s d (handedOf c (lending x) s d)
   agrees x s d e h keeps =
       let fair = holds-ok d e (fair-call c (fed x) s) in
-      let number = ap numberOf (answer-of (lending x)) in
+      let number = ap numberOf (answer-of c (lending x) s d) in
       record {
-        answer = answer-of (lending x);
+        answer = answer-of c (lending x) s d;
         neverTen = λ z. fair .neverTen (sym number ∙ z);
         one = λ w. number ∙ wrong-one c x s d e w;
         typed = h .typed;
         keeps = subst⁻¹ (λ k. Keeps c k (lastOf s (d .passed))) (call-keeps x s d e) keeps;
         refused = λ n. let still = fair .still (λ z. n (number ∙ z)) in (still, left-as-lent (lending x) s d still);
       }
-    where
-      answer-of : (t : Lending) → handedOf c t s d .answer ≡ d .answer
-      answer-of asLeft = refl
-      answer-of (others y saved wrong) = refl
 
   from-here : (calls : List HostCall) (s : State) → Sound c s → ValidIn s → FromHere l c s calls
   unfolding machineCalls engineCalls

@@ -1,10 +1,16 @@
 -- The demands are about something: a card as bytes is accepted, and a list of calls on bytes, some of them refused, runs it to its end.
--- By computation; then demand 3 is applied to it.
+-- By computation; then demand 3 is applied to it, and Ask 12 to a card like it.
 use Prim.Native.Nat.{ℕ}
 use mathlib.Core.Path.{_≡_, refl}
+use mathlib.Core.Bool.{false}
+use mathlib.Core.Option as Option
 use mathlib.Core.List.{List, [], _∷_, map}
 use lib.IntN.{pos}
-use lib.ListN.{replicate}
+use lib.ListN.{replicate, set}
+use Rattle.definitions.specs.Ascii.{ascii}
+use Rattle.definitions.specs.Types.{Datatype}
+use Rattle.definitions.specs.Terms.{Term}
+use Rattle.definitions.specs.Tree.{var, const, Query, success, fromNamed, block}
 use Rattle.definitions.specs.Outcome.{Outcome, ok, fault}
 use Rattle.definitions.specs.Saved.{noRun}
 use Rattle.definitions.specs.Calls.{Lent, tablesFit, load}
@@ -22,6 +28,8 @@ use Rattle.theorems.proofs.Demand3.{demand-3}
 use Rattle.theorems.specs.OnBytes as OnBytes
 use Rattle.theorems.specs.OnBytes.{ExportCall, Exported, bytesOf, exportCall, exportCalls}
 use Rattle.theorems.proofs.OnBytes.{on-bytes}
+use Rattle.theorems.specs.ExactSteps.{OnceLoad, ExactSteps}
+use Rattle.theorems.proofs.ExactSteps.{exact-steps}
 
 -- `Season.card`: from named c:club, an each block; term 1 is c:club
 accepted : load card .returned .answer ≡ LoadAnswers.Accepted
@@ -89,3 +97,26 @@ numbers = refl
 
 applies-on-bytes : OnBytes.OnBytes card (replicate savedWidth 9) exportsCalled
 applies-on-bytes = on-bytes card accepted (replicate savedWidth 9) refl exportsCalled
+
+-- ── a script with no each block ─────────────────────────────────────────────────────────────
+
+-- the card with a once block in place of the each block
+once : Lent
+once = record { terms = card .terms; schema = card .schema; script = set (card .script) 5 0; termTable = card .termTable; quadTable = card .quadTable }
+
+once-load : OnceLoad once
+unfolding once card uri number opened
+once-load = record {
+  accepted = refl;
+  read = record {
+    schema = record { property = ascii "p:speed"; datatype = Datatype.decimal } ∷ [];
+    terms = Term.integer (pos 3) ∷ Term.uri (ascii "c:club") ∷ Term.uri (ascii "l:1") ∷ Term.uri (ascii "p:speed") ∷ [];
+    root = fromNamed 0 (const 1) (block 4 false (record { variable = 0; written = Option.none } ∷ record { variable = 1; written = Option.none } ∷ [])
+        (Query.pattern (const 1) (var 0) (const 3) (var 1)) (success 26));
+  };
+  reads = refl;
+  noEach = tt;
+}
+
+exact : ExactSteps once (once-load .read .root)
+exact = exact-steps once once-load

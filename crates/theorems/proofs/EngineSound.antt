@@ -38,6 +38,10 @@ abbrev pub handedOf : Checked → Lending → State → Done → Handed
 handedOf c asLeft s d = record { answer = d .answer; left = keptOf c (lastOf s (d .passed)) }
 handedOf c (others l saved wrong) s d = record { answer = d .answer; left = record { saved = saved; termTable = l .termTable; quadTable = l .quadTable } }
 
+pub answer-of : (c : Checked) (t : Lending) (s : State) (d : Done) → handedOf c t s d .answer ≡ d .answer
+answer-of c asLeft s d = refl
+answer-of c (others l saved wrong) s d = refl
+
 -- refusal 1, as the machine tests it
 abbrev fits : Lending → Result (Unit {0})
 fits t = require 1 (tablesFit (termBytes t) (quadBytes t))

@@ -9,20 +9,22 @@ use lib.ListN.{length}
 use lib.IntN.{ℤ}
 use Rattle.definitions.specs.Bytes.{onward}
 use Rattle.definitions.specs.Outcome.{ok, _>>=_}
-use Rattle.definitions.specs.Calls.{Lent, lengthsFit, load, soundIn, pageCall}
-use Rattle.definitions.specs.Numbers.{loadNumber, runNumber, pageNumber}
-use Rattle.definitions.specs.Limits.{savedWidth, runReportWidth, pageReportWidth}
-use Rattle.definitions.specs.Exports.{savedFrom, runReport, pageReport, savedAfter}
-use Rattle.definitions.specs.Exports.{loadExport, RunExport, runOn, runExport, pageOn, pageExport, ranExport}
+use Rattle.definitions.specs.Calls.{Lent, lengthsFit, load, soundIn, pageCall, total}
+use Rattle.definitions.specs.Numbers.{loadNumber, runNumber, pageNumber, totalNumber}
+use Rattle.definitions.specs.Limits.{savedWidth, runReportWidth, pageReportWidth, totalReportWidth}
+use Rattle.definitions.specs.Exports.{savedFrom, runReport, pageReport, totalReport, savedAfter}
+use Rattle.definitions.specs.Exports.{loadExport, RunExport, runOn, runExport, pageOn, pageExport, ranExport, totalExport}
 use Rattle.definitions.specs.declared.SavedRun.{SavedRun}
 use Rattle.definitions.specs.declared.RunAnswer.{RunAnswer}
 use Rattle.definitions.specs.declared.PageAnswer.{PageAnswer}
+use Rattle.definitions.specs.declared.TotalAnswer.{TotalAnswer}
 use Rattle.definitions.specs.declared.RunAnswer.the-variants as RunAnswers
 use Rattle.definitions.specs.declared.PageAnswer.the-variants as PageAnswers
+use Rattle.definitions.specs.declared.TotalAnswer.the-variants as TotalAnswers
 use Rattle.laws.proofs.Tests.{andLeft, isTrue, trueIs}
 use Rattle.theorems.specs.Demand1.{firstBroken, isThere, loadRules, runRules, pageRules}
 use Rattle.theorems.proofs.Demand1.{demand-1}
-use Rattle.theorems.specs.ExportRefusals.{buffersFit, loadBroken, LoadRefuses, RunRefuses, PageRefuses, ExportRefusals}
+use Rattle.theorems.specs.ExportRefusals.{buffersFit, loadBroken, LoadRefuses, RunRefuses, PageRefuses, TotalRefuses, ExportRefusals}
 
 -- ── the proof ───────────────────────────────────────────────────────────────────────────────
 
@@ -135,6 +137,22 @@ page-refuses l saved g page report true e =
     let r = page-on l saved g page report (savedFrom saved) fit in
     record { number = rw (e, pageExport) (r .0); keeps = rw (e, pageExport) (r .1) }
 
+module _ (terms schema script report : List ℕ) where
+  total-report-kept : (a : TotalAnswer) → (totalNumber a ≡ 0 → ⊥) → totalReport report a ≡ report
+  unfolding totalReport
+  total-report-kept (TotalAnswers.Total n) h = absurd (h refl)
+  total-report-kept (TotalAnswers.Refused n) h = refl
+
+  total-refuses : (b : Bool) → eqb (length report) totalReportWidth ≡ b → TotalRefuses terms schema script report
+  unfolding totalExport firstBroken
+  total-refuses false e = record { number = rw (e, totalExport) refl; keeps = λ h. rw (e, totalExport) refl }
+  total-refuses true e =
+      let d = demand-1 .total terms schema script in
+      record {
+        number = rw (e, totalExport) (d .number);
+        keeps = rw (e, totalExport) (λ h. total-report-kept (total terms schema script) (λ z. h (sym (d .number) ∙ z)));
+      }
+
 -- ── the theorem ─────────────────────────────────────────────────────────────────────────────
 
 pub export-refusals : ExportRefusals
@@ -142,4 +160,5 @@ export-refusals = record {
   load = λ l saved. load-refuses l saved (eqb (length saved) savedWidth) refl;
   run = λ l saved budget now report. run-refuses l saved budget now report (buffersFit l saved report runReportWidth) refl;
   page = λ l saved g page report. page-refuses l saved g page report (buffersFit l saved report pageReportWidth) refl;
+  total = λ terms schema script report. total-refuses terms schema script report (eqb (length report) totalReportWidth) refl;
 }

@@ -1,6 +1,6 @@
 pub mod Verdict
 pub mod Roster
-pub mod StepBound
+pub mod StepsLeft
 pub mod Safety
 pub mod PageTaken
 pub mod NotVacuous
@@ -14,4 +14,5 @@ pub mod Demand3
 pub mod RoundTrip
 pub mod SavedFits
 pub mod OnBytes
+pub mod ExactSteps
 pub mod DemandsApply

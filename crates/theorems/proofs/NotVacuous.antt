@@ -1,6 +1,6 @@
 -- The theorems are about something: two scripts as bytes, one with an each block and one without, are accepted, wait for a page, take one in
--- of which two records are skipped, and run to their end. All by computation; then the theorems are applied to them.
-use Prim.Native.Nat.{ℕ, _≤_}
+-- of which two records are skipped, and run to their end. All by computation; then the first is safe by the theorem.
+use Prim.Native.Nat.{ℕ}
 use mathlib.Core.Path.{_≡_, refl}
 use mathlib.Core.List.{List, [], _∷_, _++_, map}
 use mathlib.Core.Bool.{Bool, true, false}
@@ -20,12 +20,9 @@ use Rattle.definitions.specs.CallList.{Call, running, paging, Answer, ran, page
 use Rattle.definitions.specs.declared.RunState.the-variants.{Ended, Wanted, Waiting, Spent}
 use Rattle.definitions.specs.declared.RunAnswer.the-variants as RunAnswers
 use Rattle.definitions.specs.declared.PageAnswer.the-variants as PageAnswers
-use Rattle.laws.proofs.Tests.{trueIs}
 use Rattle.definitions.proofs.Opened.{opened}
 use Rattle.definitions.proofs.Season.{uri, number}
 use Rattle.theorems.proofs.Safety.{Safe, safety-from-load}
-use Rattle.theorems.specs.StepCounts.{size, noEach, stepsOf}
-use Rattle.theorems.proofs.StepBound.{few-steps}
 
 -- ── terms, schema and page ──────────────────────────────────────────────────────────────────
 
@@ -104,7 +101,7 @@ each-runs :
 unfolding found uri number opened run take page triple told each-calls
 each-runs = refl
 
--- an empty page, and the block waits; then the page
+-- an empty page, and the block waits; then the page: three steps in all, as many as it has records of kinds 71 to 74
 once-calls : List Call
 once-calls = run 10 ∷ take [] ∷ run 10 ∷ take page ∷ run 10 ∷ []
 
@@ -119,16 +116,7 @@ once-runs :
 unfolding found uri number opened run take page triple told once-calls
 once-runs = refl
 
--- three steps in all, as many as it has records of kinds 71 to 74: the bound is reached
-once-size : (noEach (found false .root) ≡ true) × (size (found false .root) ≡ 3)
-unfolding found noEach size
-once-size = (refl, refl)
-
--- ── the theorems apply ──────────────────────────────────────────────────────────────────────
+-- ── the theorem applies ─────────────────────────────────────────────────────────────────────
 
 each-safe : (calls : List Call) → Safe (found true) calls (loaded (found true .terms) (found true .root))
 each-safe calls = safety-from-load terms schema (script 1) (found true) each-accepted calls
-
-once-steps : (calls : List Call) (ds : List Done) → machineCalls (found false) calls (loaded (found false .terms) (found false .root)) ≡ ok ds
-    → stepsOf ds ≤ size (found false .root)
-once-steps calls ds e = few-steps (found false) (trueIs (noEach (found false .root)) (once-size .0)) calls ds e

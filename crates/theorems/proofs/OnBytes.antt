@@ -147,7 +147,7 @@ module _ (l : Lent) (k : Kept) (f : Fits (k .saved)) where
   same-call (paging t g page) h e = same-page t g page h e
 
 -- the host keeps the bytes of what it keeps in demand 3
-same-kept : (x : ExportCall) (k : Kept) (h : Handed) → after x (bytesOf k) (exported x h) ≡ bytesOf (keptAfter (lending (callOf x)) k h)
+pub same-kept : (x : ExportCall) (k : Kept) (h : Handed) → after x (bytesOf k) (exported x h) ≡ bytesOf (keptAfter (lending (callOf x)) k h)
 unfolding noTables
 same-kept (running (asLeft report w) budget now) k h = refl
 same-kept (running (others x saved report wrong) budget now) k h = refl

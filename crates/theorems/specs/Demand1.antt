@@ -7,7 +7,7 @@
 -- `ExportRefusals` says the same of the C interface, where the saved run and the report are lent as bytes too.
 use Prim.Native.Nat.{ℕ}
 use mathlib.Core.Path.{_≡_}
-use mathlib.Core.List.{List, [], _∷_}
+use mathlib.Core.List.{List, [], _∷_, _++_}
 use mathlib.Core.Bool.{Bool, true, false, not, _&&_}
 use mathlib.Core.Option.{Option, none, some}
 use lib.Dec.{leb}
@@ -16,21 +16,23 @@ use lib.IntN.{ℤ}
 use Rattle.definitions.specs.Limits.{budgetLimit}
 use Rattle.definitions.specs.Lists.{every, some?, distinct, isEmpty}
 use Rattle.definitions.specs.Bytes.{onward}
-use Rattle.definitions.specs.Terms.{sameTerm, sameProperty, isDateTime, readTerms, readSchema}
+use Rattle.definitions.specs.Terms.{Term, sameTerm, sameProperty, isDateTime, readTerms, readSchema}
+use Rattle.definitions.specs.Tree.{Script}
 use Rattle.definitions.specs.Reading.{parsed}
 use Rattle.definitions.specs.Scope.{inScope}
 use Rattle.definitions.specs.Typing.{writtenTypes, typings, above}
 use Rattle.definitions.specs.Outcome.{ok}
 use Rattle.definitions.specs.Machine.{withProperties, taken, withPage, inLimits}
 use Rattle.definitions.specs.Result.{given}
-use Rattle.definitions.specs.Calls.{constantsOf, sizesFit, Lent, lengthsFit, load, Sound, soundIn, runCall, isGraph, pageIn, pageCall}
-use Rattle.definitions.specs.Numbers.{loadNumber, runNumber, pageNumber}
+use Rattle.definitions.specs.Calls.{constantsOf, sizesFit, Lent, lengthsFit, load, Sound, soundIn, runCall, isGraph, pageIn, pageCall, total}
+use Rattle.definitions.specs.Numbers.{loadNumber, runNumber, pageNumber, totalNumber}
 use Rattle.definitions.specs.declared.SavedRun.{SavedRun}
 use Rattle.definitions.specs.declared.RunState.{RunState}
 use Rattle.definitions.specs.declared.Ran.{Ran}
 use Rattle.definitions.specs.declared.LoadAnswer.the-variants as LoadAnswers
 use Rattle.definitions.specs.declared.RunAnswer.the-variants as RunAnswers
 use Rattle.definitions.specs.declared.PageAnswer.the-variants as PageAnswers
+use Rattle.definitions.specs.declared.TotalAnswer.the-variants as TotalAnswers
 
 -- ── rules in order ──────────────────────────────────────────────────────────────────────────
 
@@ -48,24 +50,37 @@ unfoldable pub ifThere : {A : Type 0} → Option A → (A → Bool) → Bool
 ifThere none test = true
 ifThere (some a) test = test a
 
--- Loading checks 1 to 9 in that order. (`lengths`: the lent tables have their lengths.)
-abbrev pub loadRules : (lengths : Bool) → Lent → List (ℕ × Bool)
-loadRules lengths l =
-    let listed = readTerms (l .terms) in
-    let entries = readSchema (l .schema) in
-    let numbered = onward listed (λ ts. onward entries (λ S. some (withProperties S ts))) in
-    let root = onward numbered (λ ts. parsed (length ts) (l .script)) in
-    let all = onward entries (λ S. onward numbered (λ ts. onward root (λ c. some (typings (constantsOf S ts) (writtenTypes c) c)))) in
-    (1, lengths)  -- a lent table of another length
-    ∷ (2, isThere listed)  -- bad term record
+-- the terms as loading numbers them, and the script, where they can be read
+abbrev pub numberedIn : (terms schema : List ℕ) → Option (List Term)
+numberedIn terms schema = onward (readTerms terms) (λ ts. onward (readSchema schema) (λ S. some (withProperties S ts)))
+
+abbrev pub rootIn : (terms schema script : List ℕ) → Option Script
+rootIn terms schema script = onward (numberedIn terms schema) (λ ts. parsed (length ts) script)
+
+-- Reading terms, schema and script: 2 to 7 in that order.
+abbrev pub readRules : (terms schema script : List ℕ) → List (ℕ × Bool)
+readRules terms schema script =
+    let listed = readTerms terms in
+    let entries = readSchema schema in
+    let root = rootIn terms schema script in
+    (2, isThere listed)  -- bad term record
     ∷ (3, ifThere listed (distinct sameTerm))  -- a term listed twice
     ∷ (4, isThere entries)  -- bad schema record
     ∷ (5, ifThere entries (distinct sameProperty))  -- a property twice in the schema
-    ∷ (6, ifThere entries (λ S. ifThere numbered (λ ts. sizesFit ts S (l .script))) && isThere root)  -- a limit passed, or script malformed
+    ∷ (6, ifThere entries (λ S. ifThere (numberedIn terms schema) (λ ts. sizesFit ts S script)) && isThere root)  -- a limit passed, or script malformed
     ∷ (7, ifThere root inScope)  -- a variable unbound at its use, or bound by two pairs
-    ∷ (8, ifThere all (λ Γs. not (isEmpty Γs)))  -- no typing
-    ∷ (9, ifThere all (λ Γs. some? (λ Γ. every (above Γ) Γs) Γs))  -- typings, none above the rest
     ∷ []
+
+-- Loading checks 1 to 9 in that order. (`lengths`: the lent tables have their lengths.)
+abbrev pub loadRules : (lengths : Bool) → Lent → List (ℕ × Bool)
+loadRules lengths l =
+    let all = onward (readSchema (l .schema)) (λ S. onward (numberedIn (l .terms) (l .schema)) (λ ts. onward (rootIn (l .terms) (l .schema) (l .script)) (λ c.
+    some (typings (constantsOf S ts) (writtenTypes c) c)))) in
+    (1, lengths)  -- a lent table of another length
+    ∷ readRules (l .terms) (l .schema) (l .script)
+    ++ ((8, ifThere all (λ Γs. not (isEmpty Γs)))  -- no typing
+    ∷ (9, ifThere all (λ Γs. some? (λ Γ. every (above Γ) Γs) Γs))  -- typings, none above the rest
+    ∷ [])
 
 -- Running: 1, 10, 11. (`found`: the sound state that saved run and tables hold, if they do.)
 abbrev pub runRules : (lengths : Bool) → (found : Option Sound) → (budget : ℕ) → (now : ℤ) → List (ℕ × Bool)
@@ -86,7 +101,7 @@ pageRules lengths found g page =
     ∷ (14, ifThere found (λ x. ifThere triples (λ rs. inLimits (withPage g (taken (x .checked .schema) g rs (x .state .store)) (x .state .store)))))
     ∷ []  -- 14: terms, quads or graphs would pass their limits
 
--- ── the three calls ─────────────────────────────────────────────────────────────────────────
+-- ── the calls ───────────────────────────────────────────────────────────────────────────────
 
 -- the first rule broken by what a call is handed, 0 where none is
 abbrev pub loadBroken : Lent → ℕ
@@ -97,6 +112,10 @@ runBroken l saved budget now = firstBroken (runRules (lengthsFit l) (soundIn l s
 
 abbrev pub pageBroken : Lent → SavedRun → (graph : ℕ) → (page : List ℕ) → ℕ
 pageBroken l saved g page = firstBroken (pageRules (lengthsFit l) (soundIn l saved) g page)
+
+-- the total: 2 to 7
+abbrev pub totalBroken : (terms schema script : List ℕ) → ℕ
+totalBroken terms schema script = firstBroken (readRules terms schema script)
 
 pub record LoadRefuses (l : Lent) : Type 0 where
   -- the call gives the number of the first rule broken
@@ -121,7 +140,13 @@ pub record PageRefuses (l : Lent) (saved : SavedRun) (graph : ℕ) (page : List 
   pub answers : pageBroken l saved graph page ≡ 0
       → (skipped : ℕ) × (pageCall l saved graph page .returned .answer ≡ PageAnswers.Taken skipped)
 
+-- the total is lent nothing that it writes
+pub record TotalRefuses (terms schema script : List ℕ) : Type 0 where
+  pub number : totalNumber (total terms schema script) ≡ totalBroken terms schema script
+  pub answers : totalBroken terms schema script ≡ 0 → (n : ℕ) × (total terms schema script ≡ TotalAnswers.Total n)
+
 pub record Demand1 : Type 0 where
   pub load : (l : Lent) → LoadRefuses l
   pub run : (l : Lent) (saved : SavedRun) (budget : ℕ) (now : ℤ) → RunRefuses l saved budget now
   pub page : (l : Lent) (saved : SavedRun) (graph : ℕ) (page : List ℕ) → PageRefuses l saved graph page
+  pub total : (terms schema script : List ℕ) → TotalRefuses terms schema script

@@ -2,7 +2,7 @@
 -- refusal every lent buffer keeps its bytes.
 use Prim.Native.Nat.{ℕ}
 use mathlib.Core.Path.{_≡_}
-use mathlib.Core.List.{List}
+use mathlib.Core.List.{List, _∷_}
 use mathlib.Core.Bool.{Bool, _&&_}
 use mathlib.Core.Option.{Option}
 use lib.Dec.{eqb}
@@ -11,9 +11,9 @@ use lib.IntN.{ℤ}
 use Rattle.definitions.specs.Bytes.{onward}
 use Rattle.definitions.specs.Outcome.{ok}
 use Rattle.definitions.specs.Calls.{Lent, lengthsFit, load, Sound, soundIn}
-use Rattle.definitions.specs.Limits.{savedWidth, runReportWidth, pageReportWidth}
-use Rattle.definitions.specs.Exports.{savedFrom, loadExport, RunExport, runExport, pageExport}
-use Rattle.theorems.specs.Demand1.{firstBroken, loadRules, runRules, pageRules}
+use Rattle.definitions.specs.Limits.{savedWidth, runReportWidth, pageReportWidth, totalReportWidth}
+use Rattle.definitions.specs.Exports.{savedFrom, loadExport, RunExport, runExport, pageExport, totalExport}
+use Rattle.theorems.specs.Demand1.{firstBroken, readRules, loadRules, runRules, pageRules}
 
 -- bytes that no saved run has are unsound
 abbrev pub soundBytes : Lent → (saved : List ℕ) → Option Sound
@@ -32,6 +32,10 @@ runBroken l saved budget now report = firstBroken (runRules (buffersFit l saved 
 abbrev pub pageBroken : Lent → (saved : List ℕ) → (graph : ℕ) → (page report : List ℕ) → ℕ
 pageBroken l saved g page report = firstBroken (pageRules (buffersFit l saved report pageReportWidth) (soundBytes l saved) g page)
 
+-- its report alone has a length to keep
+abbrev pub totalBroken : (terms schema script report : List ℕ) → ℕ
+totalBroken terms schema script report = firstBroken ((1, eqb (length report) totalReportWidth) ∷ readRules terms schema script)
+
 pub record LoadRefuses (l : Lent) (saved : List ℕ) : Type 0 where
   pub number : loadExport l saved .number ≡ loadBroken l saved
   pub keeps : (loadBroken l saved ≡ 0 → ⊥) → let r = loadExport l saved in
@@ -48,7 +52,12 @@ pub record PageRefuses (l : Lent) (saved : List ℕ) (graph : ℕ) (page report 
   pub keeps : (pageBroken l saved graph page report ≡ 0 → ⊥) → let r = pageExport l saved graph page report in
       (r .termTable ≡ l .termTable) × (r .quadTable ≡ l .quadTable) × (r .saved ≡ saved) × (r .report ≡ report)
 
+pub record TotalRefuses (terms schema script report : List ℕ) : Type 0 where
+  pub number : totalExport terms schema script report .number ≡ totalBroken terms schema script report
+  pub keeps : (totalBroken terms schema script report ≡ 0 → ⊥) → totalExport terms schema script report .report ≡ report
+
 pub record ExportRefusals : Type 0 where
   pub load : (l : Lent) (saved : List ℕ) → LoadRefuses l saved
   pub run : (l : Lent) (saved : List ℕ) (budget : ℕ) (now : ℤ) (report : List ℕ) → RunRefuses l saved budget now report
   pub page : (l : Lent) (saved : List ℕ) (graph : ℕ) (page report : List ℕ) → PageRefuses l saved graph page report
+  pub total : (terms schema script report : List ℕ) → TotalRefuses terms schema script report

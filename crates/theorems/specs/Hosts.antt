@@ -80,6 +80,12 @@ abbrev pub keptAfter : Lending → Kept → Handed → Kept
 keptAfter asLeft k h = h .left
 keptAfter (others l saved wrong) k h = k
 
+-- and after a list of them
+unfoldable pub keptAfterAll : List HostCall → Kept → List Handed → Kept
+keptAfterAll [] k hs = k
+keptAfterAll (x ∷ xs) k [] = k
+keptAfterAll (x ∷ xs) k (h ∷ hs) = keptAfterAll xs (keptAfter (lending x) k h) hs
+
 -- what the load was lent gives terms, schema and script to every call
 module _ (l : Lent) where
   abbrev pub lentTo : Lending → Kept → Lent

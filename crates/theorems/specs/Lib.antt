@@ -1,6 +1,5 @@
 pub mod Verdict
 pub mod PageLeaves
-pub mod StepCounts
 pub mod Hosts
 pub mod WellTyped
 pub mod Demand1
@@ -8,3 +7,4 @@ pub mod Demand2
 pub mod Demand3
 pub mod ExportRefusals
 pub mod OnBytes
+pub mod ExactSteps

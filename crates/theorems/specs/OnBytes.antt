@@ -63,6 +63,12 @@ abbrev pub after : ExportCall → KeptBytes → Exported → KeptBytes
 after (running t budget now) k e = bytesAfter t k e
 after (paging t g page) k e = bytesAfter t k e
 
+-- and after a list of them
+unfoldable pub afterAll : List ExportCall → KeptBytes → List Exported → KeptBytes
+afterAll [] k es = k
+afterAll (x ∷ xs) k [] = k
+afterAll (x ∷ xs) k (e ∷ es) = afterAll xs (after x k e) es
+
 -- what the load was lent gives terms, schema and script to every call
 module _ (l : Lent) where
   abbrev pub lentTo : {width : ℕ} → Lending width → KeptBytes → Lent

@@ -3,7 +3,7 @@
 use crate::call::{Answer, Call, Engine, Made, Station};
 use crate::count::{Coverage, Met};
 use crate::draw::Draw;
-use crate::judge::{judge, Breach, Difference, History};
+use crate::judge::{judge, Breach, Difference, History, Once};
 use crate::replay::{Move, Replay, Tampering};
 use std::time::Duration;
 use willetcoffer::{SavedRun, State};
@@ -79,10 +79,14 @@ impl<'a> Case<'a> {
         self.print()?;
         let answer = self.call(&Call::Load, None)?;
         self.coverage.load(self.sort, &answer);
-        if answer.code != 0 {
+        let loads = answer.code == 0;
+        if loads {
+            self.loaded();
+        }
+        self.total()?;
+        if !loads {
             return Ok(());
         }
-        self.loaded();
         for _ in 0..self.draw.rng.within(3, 10) {
             if self.draw.rng.one_in(4) {
                 self.tampered_call()?;
@@ -91,6 +95,18 @@ impl<'a> Case<'a> {
             } else {
                 let call = self.draw.next_call(&self.station, self.last.as_ref());
                 self.call(&call, None)?;
+            }
+        }
+        Ok(())
+    }
+
+    /// Asks for the script's total, whether it loads or not.
+    fn total(&mut self) -> Result<(), Difference> {
+        let call = self.draw.total_call();
+        if self.call(&call, None)?.code == 0 {
+            let card = &self.station.card;
+            if let Ok((_, _, script)) = second::check::read(&card.terms, &card.schema, &card.script) {
+                self.coverage.total(&script);
             }
         }
         Ok(())
@@ -130,7 +146,8 @@ impl<'a> Case<'a> {
             print!("{}", crate::replay::describe(&made, label, self.engines));
         }
         let why = self.engines[0].why();
-        self.coverage.call(&Met { call, tamper: label, answer: &made.answers[0], why });
+        let exact = self.history.once.is_some() && !self.history.tampered && tampering.is_none();
+        self.coverage.call(&Met { call, tamper: label, answer: &made.answers[0], why, exact });
         judge(&made, tampering.is_some(), &mut self.history).map_err(|difference| {
             let names = self.engines.map(|engine| engine.name());
             let what = format!("{} {label}: {} and {}: {}", call.name(), names[0], names[1], difference.what);
@@ -172,7 +189,7 @@ impl<'a> Case<'a> {
             return;
         };
         self.draw.loaded(&loaded);
-        self.history.each = self.draw.each;
+        self.history.once = Once::of(&loaded.script);
         self.coverage.kinds(&loaded.script);
     }
 }

@@ -21,11 +21,13 @@ pub struct Met<'a> {
     pub answer: &'a Answer,
     /// Why it was refused.
     pub why: &'a str,
+    /// Whether its steps are held to the total of a script without an each block.
+    pub exact: bool,
 }
 
 impl Coverage {
     /// Counts a call.
-    pub fn call(&mut self, Met { call, tamper, answer, why }: &Met) {
+    pub fn call(&mut self, Met { call, tamper, answer, why, exact }: &Met) {
         self.add(call.name(), format!("{:02}", answer.code));
         if answer.code != 0 {
             self.add("reasons", format!("{} {} {why}", call.name(), answer.code));
@@ -42,6 +44,9 @@ impl Coverage {
                 State::Spent => "spent",
             };
             self.add("state", name);
+            if *exact {
+                self.add("steps held to a total", name);
+            }
         }
         if let (Call::Page { page, .. }, Some(report)) = (call, answer.paged()) {
             for record in records(page) {
@@ -49,6 +54,17 @@ impl Coverage {
             }
             self.add("page", if report.skipped > 0 { "with skipped records" } else { "without skipped records" });
         }
+    }
+
+    /// Counts where the each blocks of a script stand whose total was told.
+    pub fn total(&mut self, script: &Script) {
+        let mut each = script.nodes.iter().map(|node| is_block(node, true));
+        let place = match (each.next(), each.any(|is_each| is_each)) {
+            (Some(true), _) => "each block at the root",
+            (_, true) => "each block below the root only",
+            _ => "no each block",
+        };
+        self.add("total of", place);
     }
 
     /// Counts what a load gave to a script of this sort.

@@ -1,8 +1,11 @@
 //! Judging: what two engines owe each other on one call, and what either of them promises.
 
 use crate::call::{Call, Made};
+use crate::draw::is_block;
 use second::calls::FAULT;
-use willetcoffer::{RunReport, State};
+use second::script::{Kind, Script};
+use std::collections::BTreeMap;
+use willetcoffer::{RunReport, SavedRun, State};
 
 /// What was broken.
 #[derive(Clone, Copy, PartialEq, Eq, Debug)]
@@ -19,7 +22,7 @@ pub enum Breach {
     Unsound,
     /// A run's report is none, or its steps do not go with budget and state.
     Steps,
-    /// A script without an each block took too many steps since its load.
+    /// Steps, what is left on the stack and the end do not go with the total of a script without an each block.
     Total,
     /// What the type printers wrote differs.
     Printer,
@@ -43,18 +46,51 @@ impl Difference {
     }
 }
 
-/// Steps that a script without an each block may take since its load.
-const STEPS_IN_ALL: u64 = 2048;
-
 /// What counts of the calls so far.
 #[derive(Clone, Debug, Default)]
 pub struct History {
     /// Whether the station was tampered with since its load.
     pub tampered: bool,
-    /// Whether the script has an each block.
-    pub each: bool,
+    /// The loaded script, if it has no each block.
+    pub once: Option<Once>,
     /// Steps taken since the load.
     pub steps: u64,
+}
+
+/// A script with no each block: how many records of kinds 71 to 74 stand from each one down, by its offset.
+#[derive(Clone, Debug)]
+pub struct Once(BTreeMap<u16, u64>);
+
+impl Once {
+    /// None where there is an each block.
+    pub fn of(script: &Script) -> Option<Once> {
+        let nodes = &script.nodes;
+        if nodes.iter().any(|node| is_block(node, true)) {
+            return None;
+        }
+        let mut below = vec![1; nodes.len()];
+        // Children stand after their record, so from the last on each child is counted before its record is.
+        for place in (0..nodes.len()).rev() {
+            below[place] += match &nodes[place].kind {
+                Kind::Success => 0,
+                Kind::FromNamed(_, then) => below[*then],
+                Kind::Block(block) => below[block.then],
+                Kind::Sequence(first, second) => below[*first] + below[*second],
+            };
+        }
+        Some(Once(nodes.iter().map(|node| node.offset).zip(below).collect()))
+    }
+
+    /// The records of the whole script.
+    pub fn records(&self) -> u64 {
+        self.0.len() as u64
+    }
+
+    /// The records below what a saved run has on its stack.
+    fn left(&self, saved: &[u8]) -> Option<u64> {
+        let saved = SavedRun::from_bytes(saved.try_into().ok()?);
+        saved.stack().map(|item| self.0.get(&item.offset).copied()).sum()
+    }
 }
 
 /// Compares everything that the two calls gave, and holds them to their promises; `tampered` says whether the station was
@@ -79,14 +115,17 @@ pub fn judge(made: &Made, tampered: bool, history: &mut History) -> Result<(), D
     if answer.code == 10 && !tampered {
         return differs(Breach::Unsound, "refusal 10 without tampering".to_string());
     }
-    match (made.call, answer.code) {
-        (Call::Run { budget, .. }, 0) => ran(answer.ran(), *budget, tampered, history),
+    if let (Call::Run { budget, .. }, 0) = (made.call, answer.code) {
+        ran(answer.ran(), *budget, history)?;
+    }
+    match &history.once {
+        Some(once) if !tampered => exact(made, once, history.steps),
         _ => Ok(()),
     }
 }
 
 /// The promises of a run that was not refused.
-fn ran(report: Option<RunReport>, budget: u64, tampered: bool, history: &mut History) -> Result<(), Difference> {
+fn ran(report: Option<RunReport>, budget: u64, history: &mut History) -> Result<(), Difference> {
     let Some(RunReport { steps, state }) = report else {
         return Err(Difference::new(Breach::Steps, "a report that no run writes".to_string()));
     };
@@ -95,9 +134,26 @@ fn ran(report: Option<RunReport>, budget: u64, tampered: bool, history: &mut His
     if steps > budget || (state == State::Spent && steps != budget) {
         return Err(Difference::new(Breach::Steps, format!("{steps} steps of {budget}, {state}")));
     }
-    if !tampered && !history.each && history.steps > STEPS_IN_ALL {
-        let what = format!("{} steps in all without an each block", history.steps);
-        return Err(Difference::new(Breach::Total, what));
-    }
     Ok(())
+}
+
+/// After any call on a script without an each block: the steps so far and the records below the stack are the script's records;
+/// a run has ended exactly when as many steps are taken, and a total tells as many.
+fn exact(made: &Made, once: &Once, steps: u64) -> Result<(), Difference> {
+    let [answer, _] = &made.answers;
+    let records = once.records();
+    let broken = |what: String| Err(Difference::new(Breach::Total, format!("{what}, of {records} records")));
+    let left = once.left(&made.after[0].saved);
+    if left.map(|left| steps + left) != Some(records) {
+        return broken(format!("{steps} steps taken and {left:?} records left"));
+    }
+    match made.call {
+        Call::Run { .. } if answer.ran().is_some_and(|r| (r.state == State::Ended) != (steps == records)) => {
+            broken(format!("{steps} steps taken, {:?}", answer.ran()))
+        }
+        Call::Total { .. } if answer.total().is_some_and(|total| u64::from(total) != records) => {
+            broken(format!("a total of {:?}", answer.total()))
+        }
+        _ => Ok(()),
+    }
 }

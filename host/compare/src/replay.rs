@@ -5,8 +5,7 @@ mod words;
 pub use words::describe;
 
 use crate::call::{Call, Engine, Made, Station};
-use crate::draw::is_block;
-use crate::judge::{judge, Breach, Difference, History};
+use crate::judge::{judge, Breach, Difference, History, Once};
 use std::panic::{catch_unwind, AssertUnwindSafe};
 use willetcoffer::Card;
 
@@ -85,14 +84,15 @@ impl Tampering {
     }
 }
 
-/// Whether a card's script has an each block.
-fn has_each(card: &Card) -> bool {
-    let loaded = second::check::check(second::arcs::solve, &card.terms, &card.schema, &card.script);
-    loaded.is_ok_and(|loaded| loaded.script.nodes.iter().any(|node| is_block(node, true)))
+/// A card's script, if it has no each block.
+fn once(card: &Card) -> Option<Once> {
+    let (_, _, script) = second::check::read(&card.terms, &card.schema, &card.script).ok()?;
+    Once::of(&script)
 }
 
 impl Replay {
-    /// Makes the moves by both engines; the first difference, with the place of its move. A move after a refused load is none.
+    /// Makes the moves by both engines; the first difference, with the place of its move. After a refused load a total is the only
+    /// move.
     pub fn play(&self, engines: [&dyn Engine; 2]) -> Option<(usize, Difference)> {
         let mut place = 0;
         let play = AssertUnwindSafe(|| self.play_on(engines, &mut place, &mut |_, _| {}));
@@ -110,8 +110,12 @@ impl Replay {
     ) -> Result<(), Difference> {
         let mut station = self.station.clone();
         let mut history = History::default();
+        let mut refused = false;
         engines.iter().for_each(|engine| engine.begin());
         for (at, Move { tampering, call }) in self.moves.iter().enumerate() {
+            if refused && !matches!(call, Call::Total { .. }) {
+                continue;
+            }
             *place = at;
             if let Some(tampering) = tampering {
                 tampering.apply(&mut station);
@@ -123,10 +127,8 @@ impl Replay {
             station = after;
             history.tampered |= tampering.is_some();
             if *call == Call::Load {
-                if answer.code != 0 {
-                    return Ok(());
-                }
-                history.each = has_each(&station.card);
+                refused = answer.code != 0;
+                history.once = once(&station.card).filter(|_| !refused);
             }
         }
         Ok(())

@@ -105,11 +105,11 @@ impl Shrink<'_> {
         });
     }
 
-    /// Fewer steps, another now, fewer records of a page.
+    /// Fewer steps, another now, a lower graph, fewer records of a page.
     fn calls(&mut self) {
         for place in 0..self.best.moves.len() {
             match self.best.moves[place].call.clone() {
-                Call::Load => {}
+                Call::Load | Call::Total { .. } => {}
                 Call::Run { budget: old, .. } => {
                     let smaller = [0, 1, 2, old / 2, old.saturating_sub(1)];
                     for less in smaller.into_iter().filter(|less| *less < old) {
@@ -128,7 +128,17 @@ impl Shrink<'_> {
                         }
                     });
                 }
-                Call::Page { page, .. } => {
+                Call::Page { graph: old, page, .. } => {
+                    for lower in (0..old).take(4) {
+                        let change = |replay: &mut Replay| {
+                            if let Call::Page { graph, .. } = &mut replay.moves[place].call {
+                                *graph = lower;
+                            }
+                        };
+                        if self.attempt(change) {
+                            break;
+                        }
+                    }
                     let all: Vec<Vec<u8>> = records(&page).map(<[u8]>::to_vec).collect();
                     self.pieces(all, &|replay, rest: &[Vec<u8>]| {
                         if let Call::Page { page, .. } = &mut replay.moves[place].call {

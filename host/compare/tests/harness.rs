@@ -4,11 +4,13 @@ use compare::call::engine::{fast, plain, with, Counts};
 use compare::call::{Call, Engine, Station};
 use compare::case::Case;
 use compare::count::Coverage;
+use compare::draw::is_block;
 use second::arcs;
+use second::check::read;
 use second::eval::Fault;
 use second::refusal::{refuse, Refusal};
 use second::rules::Env;
-use second::script::Script;
+use second::script::{Kind, Script};
 use second::search::{Search, Task, Tuple};
 use second::seek::Seek;
 use second::terms::Terms;
@@ -126,6 +128,10 @@ enum Fraud {
     HandsOn,
     /// A last tuple is not looked at.
     Trusts,
+    /// A total leaves out the records of kind 72.
+    LeavesOut,
+    /// A total looks for each blocks in the root alone.
+    RootAlone,
 }
 
 struct Wrong(Fraud);
@@ -146,6 +152,7 @@ impl Engine for Wrong {
                 };
                 self.page(station, &Call::Page { graph: *graph, page, report: *length }, report)
             }
+            Call::Total { .. } => self.total(station, call, report),
         }
     }
 }
@@ -187,6 +194,20 @@ impl Wrong {
         code
     }
 
+    fn total(&self, station: &mut Station, call: &Call, report: &mut [u8]) -> u32 {
+        let code = fast().call(station, call, report);
+        let Station { card, .. } = station;
+        let Ok((_, _, Script { nodes })) = read(&card.terms, &card.schema, &card.script) else { return code };
+        let named = nodes.iter().filter(|node| matches!(node.kind, Kind::FromNamed(..))).count();
+        let once_at_the_root = !is_block(&nodes[0], true);
+        match (self.0, code) {
+            (Fraud::LeavesOut, 0) if report[..] != [0; 4] => report[0] = report[0].wrapping_sub(named as u8),
+            (Fraud::RootAlone, 0) if once_at_the_root => report.copy_from_slice(&(nodes.len() as u32).to_le_bytes()),
+            _ => {}
+        }
+        code
+    }
+
     fn page(&self, station: &mut Station, call: &Call, report: &mut [u8]) -> u32 {
         let before = station.quad_table.clone();
         let code = fast().call(station, call, report);
@@ -202,7 +223,7 @@ impl Wrong {
 #[test]
 fn wrong_calls_are_found() {
     use Fraud::*;
-    for fraud in [Clears, Spends, Rests, Invents, FirstOnly, Keeps, Reports, HandsOn, Trusts] {
+    for fraud in [Clears, Spends, Rests, Invents, FirstOnly, Keeps, Reports, HandsOn, Trusts, LeavesOut, RootAlone] {
         assert!(difference(&Wrong(fraud), 4000).is_some(), "{fraud:?}");
     }
 }

@@ -75,12 +75,25 @@ fn steps_that_do_not_go_with_the_budget() {
 }
 
 #[test]
-fn too_many_steps_without_an_each_block() {
+fn steps_that_do_not_go_with_the_total() {
     let tireless: Turn = |_, call, code, report| {
         if let (Call::Run { budget, .. }, 0) = (call, *code) {
             report[..4].copy_from_slice(&(*budget as u32).to_le_bytes());
             report[4..].copy_from_slice(&[3, 0, 0, 0]);
         }
     };
-    assert_eq!(breach(tireless), Some(Breach::Total));
+    // Waiting where the script has ended.
+    let patient: Turn = |_, call, code, report| {
+        if let (Call::Run { .. }, 0, 0) = (call, *code, report.get(4).copied().unwrap_or(1)) {
+            report[4] = 2;
+        }
+    };
+    let miscounts: Turn = |_, call, code, report| {
+        if let (Call::Total { .. }, 0) = (call, *code) {
+            report[0] = report[0].wrapping_add(1);
+        }
+    };
+    for wrong in [tireless, patient, miscounts] {
+        assert_eq!(breach(wrong), Some(Breach::Total));
+    }
 }

@@ -23,18 +23,42 @@ const CLOSE: u8 = 3;
 /// Terms, schema and script: from the yard, each locomotive with a name and a speed above 60; then, once the yard closes
 /// after now, the end.
 pub fn card() -> Result<Card, BadTerm> {
+    let (listed, properties) = words()?;
+    let roster = each(&[(LOCO, None), (CALLED, None), (FAST, None)], quick(), success());
+    Ok(Card::new(&listed, &properties, from_named(con(YARD), sequence(roster, closing()))))
+}
+
+type Words = ([Term; 2], [(Term, Datatype); 3]);
+
+/// The listed terms and the schema.
+fn words() -> Result<Words, BadTerm> {
     let listed = [Term::uri("http://club.example/yard")?, Term::integer(60)?];
     let properties = [
         (Term::uri("p:name")?, Datatype::String),
         (Term::uri("p:speed")?, Datatype::Decimal),
         (Term::uri("p:closes")?, Datatype::DateTime),
     ];
+    Ok((listed, properties))
+}
+
+/// A locomotive with a name and a speed above 60.
+fn quick() -> Query {
     let has = |property, object| pattern([con(YARD), var(LOCO), con(property), var(object)]);
-    let quick = both(both(has(NAME, CALLED), has(SPEED, FAST)), filter(less(con(SIXTY), var(FAST))));
-    let roster = each(&[(LOCO, None), (CALLED, None), (FAST, None)], quick, success());
-    let closing = pattern([con(YARD), con(YARD), con(CLOSES), var(CLOSE)]);
-    let end = once(&[(CLOSE, None)], both(closing, filter(less(now(), var(CLOSE)))), success());
-    Ok(Card::new(&listed, &properties, from_named(con(YARD), sequence(roster, end))))
+    both(both(has(NAME, CALLED), has(SPEED, FAST)), filter(less(con(SIXTY), var(FAST))))
+}
+
+/// Once the yard closes after now, the end.
+fn closing() -> Script {
+    let closes = pattern([con(YARD), con(YARD), con(CLOSES), var(CLOSE)]);
+    once(&[(CLOSE, None)], both(closes, filter(less(now(), var(CLOSE)))), success())
+}
+
+/// The same with once blocks alone, so that it takes a known number of steps: from the yard, the first locomotive with a name and a
+/// speed above 60; then, once the yard closes after now, the end.
+pub fn once_card() -> Result<Card, BadTerm> {
+    let (listed, properties) = words()?;
+    let first = once(&[(LOCO, None), (CALLED, None), (FAST, None)], quick(), success());
+    Ok(Card::new(&listed, &properties, from_named(con(YARD), sequence(first, closing()))))
 }
 
 /// The records of some triples.

@@ -1,5 +1,6 @@
 //! A season on one screen: a card is loaded, runs, wants a page, gets it with a record that is skipped, runs on, waits,
-//! gets the page rewritten, and ends. All calls are the proved engine's.
+//! gets the page rewritten, and ends; then the same with a card whose steps are known beforehand, with a bar. All calls are the
+//! proved engine's.
 #![forbid(unsafe_code)]
 
 mod card;
@@ -18,14 +19,20 @@ struct Panel {
     tables: Tables,
     saved: SavedRun,
     screen: Screen,
+    /// The steps taken since the load.
+    taken: u32,
+    /// How many there are in all, where the script has no each block.
+    total: Option<u32>,
 }
 
 impl Panel {
     fn load(card: Card) -> Result<Panel, Refusal> {
         let mut tables = Tables::new();
         let saved = card.load(&mut tables)?;
-        let screen = Screen::loaded(&saved);
-        Ok(Panel { card, tables, saved, screen })
+        let total = card.total()?;
+        let screen = Screen::loaded(&saved, total);
+        screen.bar(0, total);
+        Ok(Panel { card, tables, saved, screen, taken: 0, total })
     }
 
     /// Runs step by step, so that each answer of the each block is seen, until the machine stands still.
@@ -36,7 +43,9 @@ impl Panel {
             steps += report.steps;
             self.screen.roster(&self.tables, &self.saved);
             if report.steps == 0 {
+                self.taken += steps;
                 self.screen.state(steps, report.state, &self.tables);
+                self.screen.bar(self.taken, self.total);
                 return Ok(());
             }
         }
@@ -49,8 +58,8 @@ impl Panel {
     }
 }
 
-fn main() -> Result<(), Box<dyn Error>> {
-    let mut panel = Panel::load(card::card()?)?;
+fn season(card: Card) -> Result<(), Box<dyn Error>> {
+    let mut panel = Panel::load(card)?;
     panel.run()?;
     panel.page("the yard's first page", &card::first_page()?)?;
     panel.run()?;
@@ -58,4 +67,10 @@ fn main() -> Result<(), Box<dyn Error>> {
     panel.run()?;
     panel.screen.end();
     Ok(())
+}
+
+fn main() -> Result<(), Box<dyn Error>> {
+    season(card::card()?)?;
+    println!("\nthe first locomotive alone, by once blocks:");
+    season(card::once_card()?)
 }

@@ -9,12 +9,15 @@ pub struct Screen {
 }
 
 impl Screen {
-    /// The types that the load reports.
-    pub fn loaded(saved: &SavedRun) -> Screen {
+    /// The types that the load reports, and whether there is a bar to show.
+    pub fn loaded(saved: &SavedRun, total: Option<u32>) -> Screen {
         println!("load     accepted");
         for (variable, name) in NAMES {
             let found = saved.variable_type(variable);
             println!("         {name:8} {}", found.map_or("-".to_owned(), |t| t.to_string()));
+        }
+        if total.is_none() {
+            println!("bar      none: the script has an each block");
         }
         Screen { roster: Vec::new() }
     }
@@ -41,6 +44,14 @@ impl Screen {
             other => other.to_string(),
         };
         println!("run      {steps} steps, {state}");
+    }
+
+    /// How far the script has come, where its steps are known beforehand.
+    pub fn bar(&self, taken: u32, total: Option<u32>) {
+        if let Some(total) = total {
+            let [done, left] = [taken, total - taken].map(|steps| steps as usize);
+            println!("bar      [{}{}] {taken} of {total}", "#".repeat(done), "-".repeat(left));
+        }
     }
 
     /// What a page call reported.

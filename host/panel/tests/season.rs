@@ -1,5 +1,6 @@
 //! The season's screen. Steps by document 01's machine: from named 1, sequence 1, two answers of the each block 2 each, its
-//! drop 1; then once 1 and success 1. One record of the first page has a string where the schema asks for a decimal.
+//! drop 1; then once 1 and success 1. One record of the first page has a string where the schema asks for a decimal. Then the
+//! card of once blocks: its six records of kinds 71 to 74 are the whole bar.
 
 use std::process::Command;
 
@@ -14,6 +15,7 @@ fn the_season_on_one_screen() {
         "         $name    xsd:string",
         "         $speed   xsd:decimal",
         "         $closes  xsd:dateTime",
+        "bar      none: the script has an each block",
         "run      0 steps, wants http://club.example/yard",
         "page     the yard's first page: 1 skipped, 7 quads stored",
         "         roster: Mallard 126.4",
@@ -22,6 +24,24 @@ fn the_season_on_one_screen() {
         "page     the page rewritten: 0 skipped, 3 quads stored",
         "run      2 steps, ended",
         "roster   2 locomotives",
+        "",
+        "the first locomotive alone, by once blocks:",
+        "load     accepted",
+        "         $loco    xsd:anyURI",
+        "         $name    xsd:string",
+        "         $speed   xsd:decimal",
+        "         $closes  xsd:dateTime",
+        "bar      [------] 0 of 6",
+        "run      0 steps, wants http://club.example/yard",
+        "bar      [------] 0 of 6",
+        "page     the yard's first page: 1 skipped, 7 quads stored",
+        "         roster: Mallard 126.4",
+        "run      4 steps, waiting",
+        "bar      [####--] 4 of 6",
+        "page     the page rewritten: 0 skipped, 3 quads stored",
+        "run      2 steps, ended",
+        "bar      [######] 6 of 6",
+        "roster   1 locomotives",
     ];
     assert_eq!(lines, expected);
 }

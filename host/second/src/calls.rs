@@ -1,9 +1,9 @@
-//! The three calls over bytes, as the C interface has them: inputs are terms, schema and script, tables are term table, quad
+//! The calls over bytes, as the C interface has them: inputs are terms, schema and script, tables are term table, quad
 //! table and, where it is written with them, saved run.
 
-use crate::check::{check, Typer};
+use crate::check::{check, read, Typer};
 use crate::eval::{Fault, Quad, Store};
-use crate::limits::{BUDGET, PAGE_REPORT, QUAD_TABLE, RUN_REPORT, SAVED, SLOT, TERM_TABLE};
+use crate::limits::{BUDGET, PAGE_REPORT, QUAD_TABLE, RUN_REPORT, SAVED, SLOT, TERM_TABLE, TOTAL_REPORT};
 use crate::machine::{Machine, State, World};
 use crate::refusal::{demand, Refusal};
 use crate::saved;
@@ -141,6 +141,13 @@ impl Engine<'_> {
         write_quads(&held.quads, quad_table);
         *saved = saved::encode(&loaded.script, &loaded.types, machine, held.quads.len());
         *report = skipped.to_le_bytes();
+        Ok(())
+    }
+    /// Tells how many steps the script takes in all: writes the report, 0 where an each block leaves that open.
+    pub fn total(&self, [terms, schema, script]: [&[u8]; 3], report: &mut [u8]) -> Outcome {
+        let report = lent::<TOTAL_REPORT>(report)?;
+        let (_, _, script) = read(terms, schema, script)?;
+        *report = (script.total().unwrap_or(0) as u32).to_le_bytes();
         Ok(())
     }
 }

@@ -25,8 +25,11 @@ pub struct Loaded {
     pub types: Env,
 }
 
-/// Checks 2 to 9 in their order, each as a whole pass.
-pub fn check(typer: Typer, terms: &[u8], schema: &[u8], script: &[u8]) -> Result<Loaded, Refusal> {
+/// Schema, terms as loading numbers them, and script.
+pub type Parts = (Schema, Terms, Script);
+
+/// Checks 2 to 7 in their order, each as a whole pass.
+pub fn read(terms: &[u8], schema: &[u8], script: &[u8]) -> Result<Parts, Refusal> {
     let listed = read_listed(terms)?;
     all_different(&listed)?;
     let schema = Schema::read(schema)?;
@@ -35,6 +38,12 @@ pub fn check(typer: Typer, terms: &[u8], schema: &[u8], script: &[u8]) -> Result
     demand(schema.properties.len() <= ENTRIES, 6, "limit on entries")?;
     let script = read_script(script, terms.len())?;
     scope::check(&script)?;
+    Ok((schema, terms, script))
+}
+
+/// Checks 2 to 9.
+pub fn check(typer: Typer, terms: &[u8], schema: &[u8], script: &[u8]) -> Result<Loaded, Refusal> {
+    let (schema, terms, script) = read(terms, schema, script)?;
     let types = typer(&script, &terms)?;
     Ok(Loaded { schema, terms, script, types })
 }

@@ -11,7 +11,7 @@
 //! | first answer of a block | [`search::Naive`]: every tuple, all parts evaluated | [`seek::Seek`]: driven by the patterns |
 //!
 //! An [`Engine`] holds one of each; [`Engine::fast`] and [`Engine::plain`] are the two that the comparison uses. The
-//! three calls take and give the bytes of the C interface; each returns nothing, or its refusal.
+//! calls take and give the bytes of the C interface; each returns nothing, or its refusal.
 //!
 //! It shares no code with the rest of the workspace: limits, offsets and records stand here in its own words, so that a slip
 //! in one place is not repeated in the other.

@@ -34,6 +34,8 @@ pub const SAVED: usize = 486;
 pub const RUN_REPORT: usize = 8;
 /// Bytes of a page call's report.
 pub const PAGE_REPORT: usize = 4;
+/// Bytes of a total call's report.
+pub const TOTAL_REPORT: usize = 4;
 /// Steps of one run call, at most.
 pub const BUDGET: u64 = 60_000;
 /// Bytes of a page, at most.

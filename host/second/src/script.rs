@@ -127,6 +127,12 @@ impl Script {
         self.nodes.binary_search_by_key(&offset, |node| node.offset).ok()
     }
 
+    /// How many steps it takes in all, where that is fixed: one for each record, if there is no each block.
+    pub fn total(&self) -> Option<usize> {
+        let repeats = |node: &Node| matches!(&node.kind, Kind::Block(block) if block.each);
+        (!self.nodes.iter().any(repeats)).then_some(self.nodes.len())
+    }
+
     /// All pairs of variable and written type, in script order.
     pub fn pairs(&self) -> impl Iterator<Item = Pair> + '_ {
         self.nodes.iter().flat_map(|node| match &node.kind {

@@ -1,6 +1,6 @@
 //! A card and its calls.
 
-use crate::limits::{PAGE_REPORT_WIDTH, RUN_REPORT_WIDTH, SAVED_WIDTH, TEXT_WIDTH};
+use crate::limits::{PAGE_REPORT_WIDTH, RUN_REPORT_WIDTH, SAVED_WIDTH, TEXT_WIDTH, TOTAL_REPORT_WIDTH};
 use crate::raw;
 use crate::refusal::Refusal;
 use crate::report::{PageReport, RunReport};
@@ -88,5 +88,25 @@ impl Card {
         let graph = graph.into();
         Refusal::unless_zero(raw::page(self, tables.lent_mut(), saved.as_bytes_mut(), graph, page, &mut report))?;
         Ok(PageReport { skipped: u32::from_le_bytes(report) })
+    }
+    /// How many steps the script takes in all, counted from its load: as many as it has records of kinds 71 to 74. The steps that
+    /// runs report are never more, and the script has ended exactly when they are as many, whatever pages came between. None for a
+    /// script with an each block, which has no such total.
+    ///
+    /// Refused with 2 to 7; types are not asked, so a card that [`Card::load`] refuses with 8 or 9 has its total.
+    ///
+    /// ```
+    /// use willetcoffer::script::{con, each, empty, from_named, once, success};
+    /// use willetcoffer::{Card, Term};
+    /// let yard = Term::uri("http://club.example/yard")?;
+    /// let card = |script| Card::new(&[yard], &[], from_named(con(0), script));
+    /// assert_eq!(card(once(&[], empty(), success())).total()?, Some(3));
+    /// assert_eq!(card(each(&[], empty(), success())).total()?, None);
+    /// # Ok::<(), Box<dyn std::error::Error>>(())
+    /// ```
+    pub fn total(&self) -> Result<Option<u32>, Refusal> {
+        let mut report = [0; TOTAL_REPORT_WIDTH];
+        Refusal::unless_zero(raw::total(self, &mut report))?;
+        Ok(Some(u32::from_le_bytes(report)).filter(|steps| *steps != 0))
     }
 }

@@ -93,3 +93,5 @@ pub const SAVED_WIDTH: usize = ITEMS_OFFSET + DEPTH_LIMIT * ITEM_WIDTH;
 pub const RUN_REPORT_WIDTH: usize = 8;
 /// Bytes of a page call's report.
 pub const PAGE_REPORT_WIDTH: usize = 4;
+/// Bytes of a total call's report.
+pub const TOTAL_REPORT_WIDTH: usize = 4;

@@ -61,6 +61,17 @@ extern "C" {
         report: *mut u8,
         report_length: usize,
     ) -> u32;
+
+    fn willetcoffer_total(
+        terms: *const u8,
+        terms_length: usize,
+        schema: *const u8,
+        schema_length: usize,
+        script: *const u8,
+        script_length: usize,
+        report: *mut u8,
+        report_length: usize,
+    ) -> u32;
 }
 
 /// The tables of a call that writes them.
@@ -148,6 +159,23 @@ pub fn page(card: &Card, tables: TablesMut<'_>, saved: &mut [u8], graph: u64, pa
             graph,
             page.as_ptr(),
             page.len(),
+            report.as_mut_ptr(),
+            report.len(),
+        )
+    }
+}
+
+/// Tells how many steps a script takes in all: on 0 the report is written, else nothing is.
+pub fn total(card: &Card, report: &mut [u8]) -> u32 {
+    // SAFETY: as in `load`.
+    unsafe {
+        willetcoffer_total(
+            card.terms.as_ptr(),
+            card.terms.len(),
+            card.schema.as_ptr(),
+            card.schema.len(),
+            card.script.as_ptr(),
+            card.script.len(),
             report.as_mut_ptr(),
             report.len(),
         )

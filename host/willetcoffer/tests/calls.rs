@@ -3,7 +3,9 @@
 use willetcoffer::limits::{
     BUDGET_LIMIT, GRAPH_LIMIT, PAGE_LIMIT, SECONDS_AFTER, SECONDS_BEFORE, SLOT_WIDTH, TEXT_WIDTH,
 };
-use willetcoffer::limits::{PAGE_REPORT_WIDTH, QUAD_TABLE_WIDTH, RUN_REPORT_WIDTH, SAVED_WIDTH, TERM_TABLE_WIDTH};
+use willetcoffer::limits::{
+    PAGE_REPORT_WIDTH, QUAD_TABLE_WIDTH, RUN_REPORT_WIDTH, SAVED_WIDTH, TERM_TABLE_WIDTH, TOTAL_REPORT_WIDTH,
+};
 use willetcoffer::page::{record_width, records, triple};
 use willetcoffer::raw::{self, TablesMut, TablesRef};
 use willetcoffer::script::*;
@@ -99,6 +101,10 @@ fn refusals_of_run_and_page() {
 #[test]
 fn every_length_counts() {
     let card = yard();
+    for length in [0, TOTAL_REPORT_WIDTH - 1, TOTAL_REPORT_WIDTH + 1] {
+        let mut report = vec![9; length];
+        assert_eq!((raw::total(&card, &mut report), report), (1, vec![9; length]));
+    }
     let widths = [TERM_TABLE_WIDTH, QUAD_TABLE_WIDTH, SAVED_WIDTH, RUN_REPORT_WIDTH, PAGE_REPORT_WIDTH];
     let buffers = || widths.map(|width| vec![0; width]);
     let load = |[terms, quads, saved, ..]: &mut [Vec<u8>; 5]| raw::load(&card, TablesMut { terms, quads }, saved);
@@ -122,6 +128,38 @@ fn every_length_counts() {
             assert_eq!(lent, before);
         }
     }
+}
+
+/// A script with no each block: its total is told before the load, and is what its runs add up to, however they are cut.
+#[test]
+fn the_total() {
+    let name = once(&[(0, None)], pattern([con(0), con(0), con(1), var(0)]), success());
+    let script = from_named(con(0), sequence(name, success()));
+    let card = Card::new(&[uri("u:yard")], &[(uri("p:speed"), Datatype::Decimal)], script);
+    assert_eq!(card.total(), Ok(Some(5)));
+    for budget in [1, 2, BUDGET_LIMIT] {
+        let mut tables = Tables::new();
+        let mut saved = card.load(&mut tables).unwrap();
+        let mut steps = 0;
+        for page in [vec![], speed("u:yard", 5), vec![]] {
+            while let Ok(RunReport { steps: 1.., state }) =
+                card.run(&tables, &mut saved, budget, 0).inspect(|r| steps += r.steps)
+            {
+                assert_eq!(state == State::Ended, steps == 5);
+            }
+            assert_eq!(card.page(&mut tables, &mut saved, 0u16, &page), Ok(PageReport { skipped: 0 }));
+        }
+        assert_eq!(steps, 5);
+    }
+    assert_eq!(yard().total(), Ok(None));
+    let untyped = Card::new(&[], &[], once(&[(0, None)], empty(), success()));
+    assert_eq!((refusal(&untyped), untyped.total()), (9, Ok(Some(2))));
+    let refused = |card: Card| card.total().unwrap_err().number();
+    let three = Card::new(&[integer(3)], &[], success());
+    assert_eq!(refused(Card { terms: vec![0x16], ..three.clone() }), 2);
+    assert_eq!(refused(Card { terms: three.terms.repeat(2), ..three }), 3);
+    assert_eq!(refused(with_script(&[])), 6);
+    assert_eq!(refused(with_script(&[0x72, 0x31, 0, 0x71])), 7);
 }
 
 #[test]

@@ -17,6 +17,7 @@ impl Engine for Archive {
             Call::Load => raw::load(card, TablesMut { terms, quads }, saved),
             Call::Run { budget, now, .. } => raw::run(card, TablesRef { terms, quads }, saved, *budget, *now, report),
             Call::Page { graph, page, .. } => raw::page(card, TablesMut { terms, quads }, saved, *graph, page, report),
+            Call::Total { .. } => raw::total(card, report),
         }
     }
 }

@@ -119,6 +119,7 @@ impl<S: Search + Counts> Engine for Second<S> {
             Call::Page { graph, page, .. } => {
                 self.engine(true).page(inputs, [terms, quads, saved], *graph, page, report)
             }
+            Call::Total { .. } => self.engine(false).total(inputs, report),
         })
     }
 

@@ -3,7 +3,7 @@
 use super::Engine;
 use willetcoffer::limits::{
     FETCHED_OFFSET, GRAPH_LIMIT, PAGE_REPORT_WIDTH, QUAD_TABLE_WIDTH, RUN_REPORT_WIDTH, SAVED_WIDTH, SLOT_WIDTH,
-    TERM_TABLE_WIDTH,
+    TERM_TABLE_WIDTH, TOTAL_REPORT_WIDTH,
 };
 use willetcoffer::saved::GRAPHS;
 use willetcoffer::{Card, PageReport, RunReport};
@@ -44,6 +44,11 @@ pub enum Call {
         /// The length of the lent report.
         report: usize,
     },
+    /// A total.
+    Total {
+        /// The length of the lent report.
+        report: usize,
+    },
 }
 
 impl Call {
@@ -57,12 +62,18 @@ impl Call {
         Call::Page { graph: graph as u64, page, report: PAGE_REPORT_WIDTH }
     }
 
+    /// A total with a report of the right length.
+    pub fn total() -> Call {
+        Call::Total { report: TOTAL_REPORT_WIDTH }
+    }
+
     /// Its name in the coverage table.
     pub fn name(&self) -> &'static str {
         match self {
             Call::Load => "load",
             Call::Run { .. } => "run",
             Call::Page { .. } => "page",
+            Call::Total { .. } => "total",
         }
     }
 
@@ -70,7 +81,7 @@ impl Call {
     fn report(&self) -> usize {
         match self {
             Call::Load => 0,
-            Call::Run { report, .. } | Call::Page { report, .. } => *report,
+            Call::Run { report, .. } | Call::Page { report, .. } | Call::Total { report } => *report,
         }
     }
 }
@@ -88,6 +99,12 @@ impl Answer {
     /// The report of a run that was not refused.
     pub fn ran(&self) -> Option<RunReport> {
         RunReport::from_bytes(&self.report).filter(|_| self.code == 0)
+    }
+
+    /// The report of a total that was not refused.
+    pub fn total(&self) -> Option<u32> {
+        let report = self.report[..].try_into().ok().filter(|_| self.code == 0);
+        report.map(u32::from_le_bytes)
     }
 
     /// The report of a page that was not refused.

@@ -12,18 +12,24 @@ pub struct Coverage {
 /// How often each of what is required is to be met.
 pub const ENOUGH: u64 = 100;
 
-/// What a long enough run has to meet: each refusal of each call, each script kind, each state, each type.
+/// What a long enough run has to meet: each refusal of each call, each script kind, each state, also where the total is known, each
+/// place of each blocks, each type.
 fn required() -> Vec<(&'static str, String)> {
     let mut all = Vec::new();
     let mut add = |section, keys: &[u32]| all.extend(keys.iter().map(|k| (section, format!("{k:02}"))));
     add("load", &[0, 1, 2, 3, 4, 5, 6, 7, 8, 9]);
     add("run", &[0, 1, 10, 11]);
     add("page", &[0, 1, 10, 12, 13, 14]);
+    add("total", &[0, 1, 2, 3, 4, 5, 6, 7]);
     add("printer", &[0, 2, 3, 4, 5, 6, 7, 8, 9]);
     let kinds = [0x31..=0x32, 0x41..=0x45, 0x50..=0x58, 0x61..=0x65, 0x71..=0x74].into_iter().flatten();
     all.extend(kinds.map(|kind: u32| ("kind", format!("{kind:x}"))));
     all.extend(["once", "each"].map(|mode| ("kind", format!("73 {mode}"))));
-    all.extend(["ended", "wanted", "waiting", "spent"].map(|state| ("state", state.to_string())));
+    for section in ["state", "steps held to a total"] {
+        all.extend(["ended", "wanted", "waiting", "spent"].map(|state| (section, state.to_string())));
+    }
+    let each = ["no each block", "each block at the root", "each block below the root only"];
+    all.extend(each.map(|place| ("total of", place.to_string())));
     all.extend(willetcoffer::Type::all().map(|t| ("type", t.to_string())));
     all.extend((0x81..=0x85).map(|kind: u32| ("page record", format!("{kind:x}"))));
     all

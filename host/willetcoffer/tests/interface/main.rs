@@ -118,7 +118,7 @@ fn codes_of_types() {
     }
 }
 
-/// Words before a refusal's number.
+/// Words before a refusal's number; it stands too where a record's number is written.
 const REFUSING: [&str; 5] = ["require", "given", "refused", "refusedRun", "refusedPage"];
 
 /// The definitions of the calls.
@@ -128,7 +128,9 @@ fn calls() -> String {
 
 /// The refusals' numbers among some words.
 fn refusals_in(words: &[String]) -> impl Iterator<Item = i128> + '_ {
-    words.windows(2).filter(|pair| REFUSING.contains(&&*pair[0])).filter_map(|pair| pair[1].parse().ok())
+    let named = words.windows(2).filter(|pair| REFUSING.contains(&&*pair[0])).map(|pair| &pair[1]);
+    let written = words.windows(3).filter(|three| three[0] == "number" && three[1] == "=").map(|three| &three[2]);
+    named.chain(written).filter_map(|word| word.parse().ok())
 }
 
 #[test]
@@ -190,7 +192,7 @@ fn refusals_of_each_call() {
         let call = pair[1].split('(').next().unwrap_or_default();
         assert_eq!(named, refusals_from(call, &definitions), "{call}");
     }
-    assert!(parts.len() > 3);
+    assert!(parts.len() > 4);
 }
 
 /// The table of the saved run in the header's comment: each row begins where the last one ended.
@@ -218,7 +220,7 @@ fn the_layout_in_the_header() {
 #[test]
 fn declarations() {
     let exports = exported(&read("crates/exports/src/lib.rt"));
-    assert!(exports.len() >= 3, "the exports were read: {exports:?}");
+    assert!(exports.len() >= 4, "the exports were read: {exports:?}");
     assert_eq!(in_c(&read(HEADER)), exports);
     assert_eq!(in_rust(&read("host/willetcoffer/src/raw.rs")), exports);
 }
