@@ -71,6 +71,9 @@ matched r g = onward (languageRangeOf (filled 8 (ascii r))) (λ q. some (matches
 
 languageRanges :
     matched "*" ""
+    ∷ matched "*" "en"
+    ∷ matched "*" "-"
+    ∷ matched "*" "--------"
     ∷ matched "en" "en"
     ∷ matched "en" "en-gb"
     ∷ matched "en" "eng"
@@ -86,7 +89,8 @@ languageRanges :
     ∷ matched "en*" "en"
     ∷ matched "en-*-*" "en"
     ∷ []
-    ≡ some true ∷ some true ∷ some true ∷ some false ∷ some true ∷ some true ∷ some false ∷ some true ∷ some false
+    ≡ some false ∷ some true ∷ some true ∷ some true
+    ∷ some true ∷ some true ∷ some false ∷ some true ∷ some true ∷ some false ∷ some true ∷ some false
     ∷ none ∷ none ∷ none ∷ none ∷ none ∷ none ∷ []
 unfolding matched opened
 languageRanges = refl

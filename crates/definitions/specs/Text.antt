@@ -106,7 +106,7 @@ accepts p t =
 
 -- `*`, or the beginning of a tag
 pub data LanguageRange : Type 0 where
-  everything : LanguageRange
+  anyTag : LanguageRange
   beginning : Text → LanguageRange
 
 -- a `-*` at the end counts for nothing
@@ -119,7 +119,7 @@ withoutStar (a ∷ b ∷ t) = cond (eqb a hyphen && (eqb b star && isEmpty t)) [
 unfoldable pub rangeOfText : Text → Option LanguageRange
 rangeOfText t =
     let u = withoutStar t in
-    cond (sameBytes t (star ∷ [])) (some everything) (provided (every tagByte u && some? smallLetter u) (some (beginning u)))
+    cond (sameBytes t (star ∷ [])) (some anyTag) (provided (every tagByte u && some? smallLetter u) (some (beginning u)))
 
 -- the range in 8 bytes, zeros at the end; none where it is bad
 unfoldable pub languageRangeOf : List ℕ → Option LanguageRange
@@ -132,6 +132,7 @@ goesOn [] (b ∷ tag) = eqb b hyphen
 goesOn (a ∷ range) [] = false
 goesOn (a ∷ range) (b ∷ tag) = eqb a b && goesOn range tag
 
+-- `*` refuses the empty tag and accepts the others (document 02, Ask 2)
 unfoldable pub matches : LanguageRange → (tag : Text) → Bool
-matches everything tag = true
+matches anyTag tag = not (isEmpty tag)
 matches (beginning range) tag = goesOn range tag

@@ -1,10 +1,10 @@
 -- Laws of language ranges: what a loop over the bytes of range and tag has still to do.
 use Prim.Native.Nat.{ℕ, _+_, _≤_, _<_}
-use mathlib.Core.Bool.{Bool, true, false, cond, _&&_, _||_}
+use mathlib.Core.Bool.{Bool, true, false, cond, not, _&&_, _||_}
 use mathlib.Core.List.{List, [], _∷_}
 use mathlib.Core.Logic.{_⊎_, inl, inr, ⊎-elim}
 use mathlib.Core.Option.{some}
-use mathlib.Core.Path.{_≡_, refl, sym, ap₂, _∙_, subst}
+use mathlib.Core.Path.{_≡_, refl, sym, ap, ap₂, _∙_, subst}
 use native.Mathlib.Omega.{arith}
 use lib.Dec.{T, eqb}
 use lib.ListN.{length, List·getD-eq-default}
@@ -13,7 +13,7 @@ use Rattle.definitions.specs.Limits.{languageRangeWidth}
 use Rattle.definitions.specs.Lists.{every, some?, isEmpty}
 use Rattle.definitions.specs.Bytes.{byte, unfilled, sameBytes, provided}
 use Rattle.definitions.specs.Terms.{tagByte, smallLetter, hyphen, fieldText}
-use Rattle.definitions.specs.Text.{LanguageRange, everything, beginning, languageRangeOf, rangeOfText, matches, withoutStar, goesOn, star}
+use Rattle.definitions.specs.Text.{LanguageRange, anyTag, beginning, languageRangeOf, rangeOfText, matches, withoutStar, goesOn, star}
 use Rattle.laws.proofs.Tests.{andLeft, andRight, trueIs}
 use Rattle.laws.proofs.Options.{some-is, provided-inv, onward-inv}
 use Rattle.laws.proofs.Equality.{same-bytes}
@@ -140,18 +140,18 @@ module _ (f g : List ℕ) (i : ℕ) (o : Along f g i) where
 
 -- `*` alone, or the beginning of a tag
 data Ranged (f : List ℕ) (q : LanguageRange) : Type 0 where
-  all-of : unfilled f ≡ star ∷ [] → q ≡ everything → Ranged f q
+  all-of : unfilled f ≡ star ∷ [] → q ≡ anyTag → Ranged f q
   begins : T (every tagByte (withoutStar (unfilled f))) → q ≡ beginning (withoutStar (unfilled f)) → Ranged f q
 
-ranged-text : (t : List ℕ) (q : LanguageRange) → rangeOfText t ≡ some q → ((t ≡ star ∷ []) × (q ≡ everything)) ⊎ (T (every tagByte (withoutStar t)) × (q ≡ beginning (withoutStar t)))
+ranged-text : (t : List ℕ) (q : LanguageRange) → rangeOfText t ≡ some q → ((t ≡ star ∷ []) × (q ≡ anyTag)) ⊎ (T (every tagByte (withoutStar t)) × (q ≡ beginning (withoutStar t)))
 unfolding rangeOfText
 ranged-text t q e = go (sameBytes t (star ∷ [])) refl e
   where
     u : List ℕ
     u = withoutStar t
 
-    go : (p : Bool) → sameBytes t (star ∷ []) ≡ p → cond p (some everything) (provided (every tagByte u && some? smallLetter u) (some (beginning u))) ≡ some q
-        → ((t ≡ star ∷ []) × (q ≡ everything)) ⊎ (T (every tagByte u) × (q ≡ beginning u))
+    go : (p : Bool) → sameBytes t (star ∷ []) ≡ p → cond p (some anyTag) (provided (every tagByte u && some? smallLetter u) (some (beginning u))) ≡ some q
+        → ((t ≡ star ∷ []) × (q ≡ anyTag)) ⊎ (T (every tagByte u) × (q ≡ beginning u))
     go true h c = inl (same-bytes t (star ∷ []) (trueIs (sameBytes t (star ∷ [])) h), sym (some-is c))
     go false h c =
         let w = provided-inv (every tagByte u && some? smallLetter u) (some (beginning u)) c in
@@ -164,18 +164,28 @@ ranged f q e =
     let same = field-text (λ b. tagByte b || eqb b star) languageRangeWidth f (o .1) in
     ⊎-elim (λ h. all-of (h .0) (h .1)) (λ h. begins (h .0) (h .1)) (ranged-text (unfilled f) q (rw same (o .2)))
 
+-- a field whose first byte is a zero holds the empty text, and no other field does
+first-zero : (g : List ℕ) → eqb (byte g 0) 0 ≡ isEmpty (unfilled g)
+unfolding unfilled
+first-zero [] = refl
+first-zero (b ∷ g) = go (eqb b 0)
+  where
+    go : (p : Bool) → p ≡ isEmpty {A = ℕ} (elim p as (λ c. List ℕ) [ true ↦ [] | false ↦ b ∷ unfilled g ])
+    go true = refl
+    go false = refl
+
 module _ (f : List ℕ) where
   star-first : byte f 0 ≡ star → T (every tagByte (withoutStar (unfilled f))) → ⊥
   star-first e h =
       let n : byte f 0 ≡ 0 → ⊥ = λ z. omega (arith, e, z) in
       star-stays (rest f 1) (subst (λ t. T (every tagByte (withoutStar t))) (rest-more f 0 (within f 0 n) n ∙ rw e) h)
 
-  pub accepts-all : (g : List ℕ) → byte f 0 ≡ star → (q : LanguageRange) → languageRangeOf f ≡ some q → true ≡ matches q g
+  pub accepts-tagged : (g : List ℕ) → byte f 0 ≡ star → (q : LanguageRange) → languageRangeOf f ≡ some q → not (eqb (byte g 0) 0) ≡ matches q (unfilled g)
   unfolding matches
-  accepts-all g e q h = go (ranged f q h)
+  accepts-tagged g e q h = go (ranged f q h)
     where
-      go : Ranged f q → true ≡ matches q g
-      go (all-of a b) = rw b
+      go : Ranged f q → not (eqb (byte g 0) 0) ≡ matches q (unfilled g)
+      go (all-of a b) = rw b (ap not (first-zero g))
       go (begins a b) = absurd (star-first e a)
 
   module _ (n : byte f 0 ≡ star → ⊥) where

@@ -58,14 +58,14 @@ fn goes_on(range: &[u8], tag: &[u8]) -> bool
     true
 }
 
-// Whether a range accepts a tag. Ruled out: en that accepts eng; en-* that refuses en.
+// Whether a range accepts a tag. Ruled out: en that accepts eng; `*` that accepts the empty tag.
 pub fn accepts(range: &[u8], tag: &[u8]) -> bool
     requires { ⌜ length (now range) ≡ languageRangeWidth ⌝ }
     requires { ⌜ length (now tag) ≡ tagWidth ⌝ }
     ensures { λ r. ⌜ ((q : LanguageRange) → languageRangeOf (now (range .entry)) ≡ some q → r ≡ matches q (unfilled (now (tag .entry)))) ⌝ }
 {
     if range[0] == STAR {
-        return true;
+        return tag[0] != 0;
     }
     goes_on(range, tag)
 }

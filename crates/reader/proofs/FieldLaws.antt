@@ -15,7 +15,7 @@ use Rattle.definitions.specs.Lists.{every, some?, isEmpty}
 use Rattle.definitions.specs.Bytes.{byte, part, allZero, unfilled, provided, onward, sameBytes}
 use Rattle.definitions.specs.Ascii.{ascii}
 use Rattle.definitions.specs.Terms.{Text, textByte, tagByte, smallLetter, hyphen}
-use Rattle.definitions.specs.Text.{Atom, Piece, one, many, withPiece, withStart, star, caret, dollar, dot, noLiteral, atomOf, piecesOf, patternOfText, patternOf, everything}
+use Rattle.definitions.specs.Text.{Atom, Piece, one, many, withPiece, withStart, star, caret, dollar, dot, noLiteral, atomOf, piecesOf, patternOfText, patternOf, anyTag}
 use Rattle.definitions.specs.Text.{beginning, withoutStar, rangeOfText, languageRangeOf}
 use Rattle.laws.proofs.Bytes.{part-length}
 use Rattle.laws.proofs.Fields.{by-same, filledBy, filled-byte, unfilled-byte, no-text, field-text}
@@ -314,7 +314,7 @@ same-empty (b ∷ t) = refl
 range-star : (t : Text) → isSome (rangeOfText (star ∷ t)) ≡ isEmpty t
 unfolding rangeOfText
 range-star t =
-    cond-is (sameBytes t []) (some everything) (provided (tagged false (withoutStar (star ∷ t))) (some (beginning (withoutStar (star ∷ t)))))
+    cond-is (sameBytes t []) (some anyTag) (provided (tagged false (withoutStar (star ∷ t))) (some (beginning (withoutStar (star ∷ t)))))
     ∙ (rw (provided-is (tagged false (withoutStar (star ∷ t))) (beginning (withoutStar (star ∷ t))), star-bad false t, same-empty t) (both (isEmpty t)))
   where
     both : (b : Bool) → cond b true false ≡ b
@@ -324,7 +324,7 @@ range-star t =
 range-text : (a : ℕ) (t : Text) → eqb a star ≡ false → isSome (rangeOfText (a ∷ t)) ≡ rangeText false false (a ∷ t)
 unfolding rangeOfText
 range-text a t n =
-    cond-is (eqb a star && sameBytes t []) (some everything) (provided (tagged false (withoutStar (a ∷ t))) (some (beginning (withoutStar (a ∷ t)))))
+    cond-is (eqb a star && sameBytes t []) (some anyTag) (provided (tagged false (withoutStar (a ∷ t))) (some (beginning (withoutStar (a ∷ t)))))
     ∙ rw n (provided-is (tagged false (withoutStar (a ∷ t))) (beginning (withoutStar (a ∷ t))) ∙ first (tagByte a) refl)
   where
     first : (y : Bool) → tagByte a ≡ y → tagged false (withoutStar (a ∷ t)) ≡ (tagByte a && rangeText (not (eqb a hyphen)) (eqb a hyphen) t)
@@ -426,8 +426,8 @@ unfolding rangeFrom
 tag-done s i end letter hyph h = rw (part-done s i end h)
 
 module _ (s : List ℕ) (at : ℕ) (h : at + languageRangeWidth ≤ length s) where
-  pub everything-alone : byte s at ≡ star → isSome (languageRangeOf (part s at languageRangeWidth)) ≡ allZero (part s (at + 1) (at + languageRangeWidth - (at + 1)))
-  everything-alone e =
+  pub star-alone : byte s at ≡ star → isSome (languageRangeOf (part s at languageRangeWidth)) ≡ allZero (part s (at + 1) (at + languageRangeWidth - (at + 1)))
+  star-alone e =
       let w = field-cons s at languageRangeWidth (omega arith) h in
       ap (λ (f : List ℕ). isSome (languageRangeOf f)) w
       ∙ language-star (byte s at) (part s (at + 1) (at + languageRangeWidth - (at + 1))) (sym (ap length w) ∙ part-length s at languageRangeWidth h) e

@@ -43,10 +43,11 @@ fn show_rows(text: &[u8]) {
     }
 }
 
-// 17 lines.
+// 20 lines.
 pub fn cases() {
-    // `*` accepts every string.
-    show_rows(b"*|\n*|en\n");
+    // `*` refuses the empty tag, which str gives too, and accepts the others, also one of hyphens only.
+    show_rows(b"*|\n*|en\n*|-\n*|--------\n");
+    show_on(b"*", values::text::text_of(made::integer(3)));
     show_on(b"*", values::text::text_of(made::integer(1000000000001)));
     // Another range accepts its own tag and tags that go on with a hyphen.
     show_rows(b"en|en\nen|en-gb\nen|eng\nen|fr\nen|\nen-gb|en\nen-gb|en-gb\nen-gb|en-gb-ox\n");

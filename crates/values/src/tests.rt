@@ -14,7 +14,7 @@ ghost use Rattle.definitions.specs.Text.{LanguageRange, languageRangeOf, matche
 ghost use Rattle.values.specs.Meaning.{meaning, Good, Tells, textTest};
 
 // Whether a language range, in the bytes of a script from an offset on, accepts a string's tag.
-// Ruled out: en that accepts the tag eng; * that refuses a string with no tag.
+// Ruled out: en that accepts the tag eng; `*` that accepts a string with no tag.
 pub fn lang_matches(v: Value, script: &[u8], at: usize) -> bool
     requires { ⌜ Good v ⌝ }
     requires { ⌜ at + languageRangeWidth ≤ length (now script) ⌝ }

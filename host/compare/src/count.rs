@@ -3,7 +3,7 @@
 mod coverage;
 pub mod kinds;
 
-pub use coverage::{Coverage, ENOUGH};
+pub use coverage::Coverage;
 
 use crate::call::{Answer, Call};
 use crate::draw::is_block;
@@ -23,12 +23,15 @@ pub struct Met<'a> {
     pub why: &'a str,
     /// Whether its steps are held to the total of a script without an each block.
     pub exact: bool,
+    /// The sorts of tags that it asked `*` about.
+    pub asked: Vec<&'static str>,
 }
 
 impl Coverage {
     /// Counts a call.
-    pub fn call(&mut self, Met { call, tamper, answer, why, exact }: &Met) {
+    pub fn call(&mut self, Met { call, tamper, answer, why, exact, asked }: &Met) {
         self.add(call.name(), format!("{:02}", answer.code));
+        asked.iter().for_each(|sort| self.add("under *", *sort));
         if answer.code != 0 {
             self.add("reasons", format!("{} {} {why}", call.name(), answer.code));
         }

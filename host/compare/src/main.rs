@@ -5,7 +5,7 @@ use compare::call::archive::Archive;
 use compare::call::engine::{fast, plain};
 use compare::call::printer::Printer;
 use compare::call::Engine;
-use compare::count::{Coverage, ENOUGH};
+use compare::count::Coverage;
 use compare::run::{Compare, Outcome, Plan};
 use std::process::ExitCode;
 use std::time::Instant;
@@ -94,11 +94,11 @@ fn compare() -> Result<bool, String> {
         coverage.add_many("by definition", name, count);
     }
     print!("{}", coverage.table());
-    let missing = coverage.missing();
+    let missing = coverage.missing(plan.cases);
     let long = plan.cases >= LONG;
     if !missing.is_empty() && !plan.printed {
         let word = if long { "MET TOO RARELY" } else { "met too rarely for a long run" };
-        println!("{word} (less than {ENOUGH}): {}", missing.join("; "));
+        println!("{word}: {}", missing.join("; "));
     }
     report(&plan, engines, &outcome, start);
     if let Some(printer) = &printer {

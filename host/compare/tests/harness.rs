@@ -8,9 +8,11 @@ use compare::draw::is_block;
 use second::arcs;
 use second::check::read;
 use second::eval::Fault;
+use second::lang::LangRange;
+use second::pattern::Pattern;
 use second::refusal::{refuse, Refusal};
 use second::rules::Env;
-use second::script::{Kind, Script};
+use second::script::{Cond, Expr, Kind, Query, Script};
 use second::search::{Search, Task, Tuple};
 use second::seek::Seek;
 use second::terms::Terms;
@@ -66,6 +68,28 @@ fn wrong_typers_are_found() {
     }
 }
 
+/// The search with something else in the place of `*` on an expression.
+fn starred(task: &Task, other: &dyn Fn(Expr) -> Cond) -> Result<Option<Tuple>, Fault> {
+    fn in_cond(cond: &mut Cond, other: &dyn Fn(Expr) -> Cond) {
+        match cond {
+            Cond::Or(a, b) | Cond::And(a, b) => [a, b].into_iter().for_each(|part| in_cond(part, other)),
+            Cond::Not(a) => in_cond(a, other),
+            Cond::LangMatches(LangRange::AnyTag, e) => *cond = other(e.clone()),
+            _ => {}
+        }
+    }
+    fn in_query(query: &mut Query, other: &dyn Fn(Expr) -> Cond) {
+        match query {
+            Query::Both(a, b) | Query::Union(a, b) => [a, b].into_iter().for_each(|part| in_query(part, other)),
+            Query::Filter(cond, _) => in_cond(cond, other),
+            Query::Pattern(_) | Query::Empty => {}
+        }
+    }
+    let mut block = task.block.clone();
+    in_query(&mut block.query, other);
+    Seek.first(&Task { block: &block, ..*task })
+}
+
 /// Searches that are wrong in a small way.
 #[test]
 fn wrong_searches_are_found() {
@@ -102,7 +126,18 @@ fn wrong_searches_are_found() {
         store.quads = &store.quads[..store.quads.len().saturating_sub(1)];
         Seek.first(&Task { store, ..*task })
     }
-    for search in [one_too_many, from_the_start, without_types, a_quad_fewer] {
+    // `*` accepts every string, as the empty pattern does.
+    fn star_of_all(task: &Task) -> Result<Option<Tuple>, Fault> {
+        let all = Pattern::read(&[0; 16]).unwrap();
+        starred(task, &|e| Cond::Regex(all.clone(), e))
+    }
+    // `*` refuses tags that begin with a hyphen too.
+    fn star_of_letters(task: &Task) -> Result<Option<Tuple>, Fault> {
+        let (any, hyphen) = (LangRange::AnyTag, LangRange::Tag(Vec::new()));
+        let not = |e| Cond::Not(Box::new(Cond::LangMatches(hyphen.clone(), e)));
+        starred(task, &|e: Expr| Cond::And(Box::new(Cond::LangMatches(any.clone(), e.clone())), Box::new(not(e))))
+    }
+    for search in [one_too_many, from_the_start, without_types, a_quad_fewer, star_of_all, star_of_letters] {
         assert!(difference(&with("wrong", [arcs::solve; 2], Wrong(search)), 500).is_some());
     }
 }

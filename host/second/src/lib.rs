@@ -1,7 +1,8 @@
 //! A second engine for page scripts over Linked Data triples.
 //!
-//! It is written from the specification (document 01) and the settled readings alone, with a structure of its own:
-//! bytes are decoded into Rust data, the work is done there, and the result is encoded back. Nothing but `std` is used.
+//! It is written from the specification (document 01, and the requests of document 02 that are met) and the settled readings
+//! alone, with a structure of its own: bytes are decoded into Rust data, the work is done there, and the result is encoded
+//! back. Nothing but `std` is used.
 //!
 //! Whatever has a plain definition has it here twice: once as the definition reads, once fast.
 //!

@@ -110,18 +110,20 @@ fn blocks_without_variables() {
     assert_eq!(s.run(9, 0), Ok((4, ENDED, 0)));
 }
 
+/// The terms that an each block of one variable and success binds it to.
+fn answers(mut s: Station, variable: usize) -> Vec<u16> {
+    let mut seen = Vec::new();
+    while s.run(1, 0).unwrap().1 != ENDED {
+        seen.extend(s.bound(variable));
+        s.run(1, 0).unwrap();
+    }
+    seen
+}
+
 #[test]
 fn tuples_in_order_over_all_terms_in_use() {
     // range(integer) is had by properties of integer and decimal, range(decimal) by decimal only.
-    let run_to_end = |code: u8| {
-        let mut s = station(each(&[(3, code)], empty(), success()));
-        let mut seen = Vec::new();
-        while s.run(1, 0).unwrap().1 != ENDED {
-            seen.extend(s.bound(3));
-            s.run(1, 0).unwrap();
-        }
-        seen
-    };
+    let run_to_end = |code: u8| answers(station(each(&[(3, code)], empty(), success())), 3);
     assert_eq!(run_to_end(1), [0, 2, 3, 4]);
     assert_eq!(run_to_end(13), [2, 3]);
     assert_eq!(run_to_end(11), [2]);
@@ -155,6 +157,23 @@ fn now_and_no_value() {
         assert!(!holds(filter(cond.clone()), 0) && holds(filter(not(cond)), 0));
     }
     assert!(!holds(filter(equal(minus(over.clone(), over), con(1))), 0));
+}
+
+/// Document 02, Ask 2: `*` stands for any tag that is there, and what it refuses are the untagged names.
+#[test]
+fn the_star_and_untagged_names() {
+    let names =
+        [string("a"), tagged("en", "a"), tagged("-", "a"), string(""), tagged("--------", ""), tagged("e", "b")];
+    let holds =
+        |cond: Bytes| answers(Station::loaded(terms(&names), stock(), each(&[(0, 0)], filter(cond), success())), 0);
+    let star = lang_matches("*", var(0));
+    assert_eq!(holds(star.clone()), [1, 2, 4, 5]);
+    assert_eq!(holds(not(star.clone())), [0, 3]);
+    assert_eq!(holds(node(0x53, &[star, not(lang_matches("en", var(0)))])), [2, 4, 5]);
+    // str gives a text without a tag.
+    let of_str = lang_matches("*", str(var(0)));
+    let tested = node(0x53, &[regex("", var(0)), of_str]);
+    assert_eq!(holds(tested), []);
 }
 
 #[test]

@@ -4,6 +4,7 @@ use super::{Call, Station};
 use second::arcs;
 use second::assignments;
 use second::eval::Fault;
+use second::lang::take_asked;
 use second::printer::print_with;
 use second::rules::Env;
 use second::script::Script;
@@ -11,7 +12,7 @@ use second::search::{Naive, Search, Task, Tuple};
 use second::seek::Seek;
 use second::terms::Terms;
 use second::Refusal;
-use std::cell::Cell;
+use std::cell::{Cell, RefCell};
 
 /// An engine.
 pub trait Engine {
@@ -34,6 +35,11 @@ pub trait Engine {
         ""
     }
 
+    /// The sorts of tags that the last call asked `*` about, if it says so.
+    fn asked(&self) -> Vec<&'static str> {
+        Vec::new()
+    }
+
     /// What it counted on the way.
     fn counts(&self) -> Vec<(&'static str, u64)> {
         Vec::new()
@@ -47,12 +53,13 @@ pub struct Second<S> {
     typers: [second::check::Typer; 2],
     search: S,
     why: Cell<&'static str>,
+    asked: RefCell<Vec<&'static str>>,
 }
 
 /// An engine with these parts: how types are worked out in loads and by the printer, and in the other calls; and how
 /// answers are found.
 pub fn with<S>(name: &'static str, typers: [second::check::Typer; 2], search: S) -> Second<S> {
-    Second { name, typers, search, why: Cell::new("") }
+    Second { name, typers, search, why: Cell::new(""), asked: RefCell::default() }
 }
 
 /// The fast engine.
@@ -111,7 +118,8 @@ impl<S: Search + Counts> Engine for Second<S> {
     fn call(&self, station: &mut Station, call: &Call, report: &mut [u8]) -> u32 {
         let Station { card, term_table: terms, quad_table: quads, saved } = station;
         let inputs = [&card.terms[..], &card.schema, &card.script];
-        self.code(match call {
+        take_asked();
+        let code = self.code(match call {
             Call::Load => self.engine(false).load(inputs, [terms, quads, saved]),
             Call::Run { budget, now, .. } => {
                 self.engine(true).run(inputs, [terms, quads], saved, (*budget, *now), report)
@@ -120,7 +128,9 @@ impl<S: Search + Counts> Engine for Second<S> {
                 self.engine(true).page(inputs, [terms, quads, saved], *graph, page, report)
             }
             Call::Total { .. } => self.engine(false).total(inputs, report),
-        })
+        });
+        self.asked.replace(take_asked());
+        code
     }
 
     fn print(&self, input: &[u8]) -> Option<String> {
@@ -129,6 +139,10 @@ impl<S: Search + Counts> Engine for Second<S> {
 
     fn why(&self) -> &'static str {
         self.why.get()
+    }
+
+    fn asked(&self) -> Vec<&'static str> {
+        self.asked.borrow().clone()
     }
 
     fn counts(&self) -> Vec<(&'static str, u64)> {

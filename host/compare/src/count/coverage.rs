@@ -1,5 +1,6 @@
 //! What was met, and whether it was met often enough.
 
+use second::lang::TAG_SORTS;
 use std::collections::BTreeMap;
 use std::fmt::Write;
 
@@ -10,11 +11,13 @@ pub struct Coverage {
 }
 
 /// How often each of what is required is to be met.
-pub const ENOUGH: u64 = 100;
+const ENOUGH: u64 = 100;
+/// Each sort of tag is to be met under `*` by one call for so many cases: 1,000 times in the gate's 50,000.
+const CASES_FOR_A_TAG: u64 = 50;
 
-/// What a long enough run has to meet: each refusal of each call, each script kind, each state, also where the total is known, each
-/// place of each blocks, each type.
-fn required() -> Vec<(&'static str, String)> {
+/// What a long enough run of so many cases has to meet, and how often: each refusal of each call, each script kind, each state, also
+/// where the total is known, each place of each blocks, each type, each sort of tag under `*`.
+fn required(cases: u64) -> Vec<(&'static str, String, u64)> {
     let mut all = Vec::new();
     let mut add = |section, keys: &[u32]| all.extend(keys.iter().map(|k| (section, format!("{k:02}"))));
     add("load", &[0, 1, 2, 3, 4, 5, 6, 7, 8, 9]);
@@ -32,6 +35,8 @@ fn required() -> Vec<(&'static str, String)> {
     all.extend(each.map(|place| ("total of", place.to_string())));
     all.extend(willetcoffer::Type::all().map(|t| ("type", t.to_string())));
     all.extend((0x81..=0x85).map(|kind: u32| ("page record", format!("{kind:x}"))));
+    let mut all: Vec<_> = all.into_iter().map(|(section, key)| (section, key, ENOUGH)).collect();
+    all.extend(TAG_SORTS.map(|sort| ("under *", sort.to_string(), cases / CASES_FOR_A_TAG)));
     all
 }
 
@@ -51,10 +56,10 @@ impl Coverage {
         self.counts.get(&(section, key.to_string())).copied().unwrap_or(0)
     }
 
-    /// What was met less than [`ENOUGH`] times, of what is required.
-    pub fn missing(&self) -> Vec<String> {
-        let few = required().into_iter().filter(|(section, key)| self.get(section, key) < ENOUGH);
-        few.map(|(section, key)| format!("{section} {key}: {}", self.get(section, &key))).collect()
+    /// What was met too rarely in so many cases, of what is required.
+    pub fn missing(&self, cases: u64) -> Vec<String> {
+        let few = required(cases).into_iter().filter(|(section, key, enough)| self.get(section, key) < *enough);
+        few.map(|(section, key, enough)| format!("{section} {key}: {} of {enough}", self.get(section, &key))).collect()
     }
 
     /// The table, a section after the other.

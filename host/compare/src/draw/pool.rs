@@ -44,7 +44,7 @@ fn uri_text(rng: &mut Rng, n: usize) -> Vec<u8> {
 
 /// A string.
 fn string(rng: &mut Rng, n: usize) -> Term {
-    let tags = ["", "", "", "en", "en-gb", "en-", "fr", "e", "eng", "-", "abcdefgh"];
+    let tags = ["", "", "", "en", "en-gb", "en-", "fr", "e", "eng", "-", "--", "--------", "abcdefgh"];
     let tag = rng.one(&tags);
     let mut text = match rng.below(8) {
         0 => String::new(),

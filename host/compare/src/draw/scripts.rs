@@ -1,5 +1,6 @@
 //! Scripts that are accepted often: each variable has a type in mind, and the parts are drawn to agree with it.
 
+mod starred;
 mod tangle;
 
 use crate::draw::pool::{datatype, Pool, Size};
@@ -14,7 +15,7 @@ const URI: Type = Type::Data(Datatype::AnyUri);
 const PATTERNS: [&str; 16] =
     ["", "a", "^a", "b$", "a.*b", ".", "^$", "A*b", "^.*$", "name", "^19.*Z$", "-", "0$", "^", "$", "^[a]"];
 /// Language ranges; the last one is bad, as the last pattern.
-const RANGES: [&str; 11] = ["*", "en", "en-*", "fr", "en-gb", "e", "-e", "en-", "abcdefgh", "en--*", "en*"];
+const RANGES: [&str; 13] = ["*", "*", "*", "en", "en-*", "fr", "en-gb", "e", "-e", "en-", "abcdefgh", "en--*", "en*"];
 
 /// The numbers of the URIs that a case uses as graphs.
 pub fn graphs(pool: &Pool) -> Vec<usize> {

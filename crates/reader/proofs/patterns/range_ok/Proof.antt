@@ -9,7 +9,7 @@ use Rattle.definitions.specs.Limits.{languageRangeWidth}
 use Rattle.definitions.specs.Bytes.{part}
 use Rattle.definitions.specs.Text.{languageRangeOf}
 use Rattle.laws.specs.ReadAnswers.{isSome}
-use Rattle.reader.proofs.FieldLaws.{rangeFrom, everything-alone, tag-begins, tag-zero, tag-end, tag-bad, tag-turn, tag-done}
+use Rattle.reader.proofs.FieldLaws.{rangeFrom, star-alone, tag-begins, tag-zero, tag-end, tag-bad, tag-turn, tag-done}
 use Rattle.reader.proofs.patterns.range_ok.Statement.{statement}
 use Rattle.reader.proofs.patterns.range_ok.Tie as tie
 
@@ -34,7 +34,7 @@ zeros-requires c κs = omega arith
 returns : tie.Need-returns Inv-loop μ-loop
 returns c =
     let c₁ = c .before in let c₂ = c₁ .before .before .before in
-    c .zeros .ensures ∙ sym (everything-alone (c₂ .args .s .now) (c₂ .args .at) (c₂ .pre) (c₁ .if1 .taken))
+    c .zeros .ensures ∙ sym (star-alone (c₂ .args .s .now) (c₂ .args .at) (c₂ .pre) (c₁ .if1 .taken))
 
 loop-holds : tie.Need-loop-holds Inv-loop μ-loop
 loop-holds c = tag-begins (c .before .before .before .args .s .now) (c .before .before .before .args .at) (c .before .before .before .pre) (c .if1 .left)
