@@ -10,6 +10,7 @@ use Rattle.definitions.specs.Total as Total
 use Rattle.definitions.specs.Typing as Typing
 use Rattle.definitions.specs.Calendar as Calendar
 use Rattle.definitions.specs.Outcome as Outcome
+use Rattle.definitions.specs.Truth as Truth
 use Rattle.definitions.specs.Values as Values
 use Rattle.definitions.specs.Evaluate as Evaluate
 use Rattle.definitions.specs.Search as Search
@@ -67,10 +68,14 @@ unfoldable pub openOutcome : Unit {0}
 unfolding Outcome._>>=_ Outcome._>>_ Outcome.demand
 openOutcome = tt
 
+unfoldable pub openTruth : Unit {0}
+unfolding Truth.notTruth Truth.andTruth Truth.orTruth Truth.isTrue
+openTruth = tt
+
 unfoldable pub openValues : Unit {0}
 unfolding Values.valueOf Values.numberIn Values.lifted Values.lifted₂ Values.sum Values.difference Values.absolute Values.shortDigits Values.naturalText Values.signText
     Values.integerText Values.fractionText Values.decimalText Values.textOf Values.ranks Values.rankIn Values.before Values.stringBefore Values.paired Values.present
-    Values.sameTagged Values.equalPair Values.lessPair Values.stringIn Values.holdsOf
+    Values.sameTagged Values.equalPair Values.lessPair Values.stringIn Values.truthIn
 openValues = tt
 
 unfoldable pub openEvaluate : Unit {0}
@@ -120,6 +125,6 @@ unfolding Printer.entryBody Printer.endFrom Printer.termsEnd Printer.schemaEnd P
 openPrinter = tt
 
 unfoldable pub opened : Unit {0}
-unfolding openBytes openAscii openTerms openText openReading openScope openTotal openTyping openCalendar openOutcome openValues openEvaluate openSearch openMachine openSaved
-    openSound openResult openCalls openCallList openExports openPrinter
+unfolding openBytes openAscii openTerms openText openReading openScope openTotal openTyping openCalendar openOutcome openTruth openValues openEvaluate openSearch openMachine
+    openSaved openSound openResult openCalls openCallList openExports openPrinter
 opened = tt

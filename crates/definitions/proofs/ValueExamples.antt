@@ -1,4 +1,4 @@
--- The definitions at work, by computation: document 01's texts of values, patterns, language ranges, and the rank table's rule.
+-- The definitions at work, by computation: document 01's texts of values, patterns, language ranges, the rank table's rule, and a sum that overflows.
 use Prim.Native.Nat.{ℕ, zero, suc}
 use mathlib.Core.Path.{_≡_, refl}
 use mathlib.Core.List.{List, [], _∷_, map}
@@ -10,7 +10,11 @@ use Prim.Native.String.{String}
 use Rattle.definitions.specs.Ascii.{ascii}
 use Rattle.definitions.specs.Lists.{isIn, every}
 use Rattle.definitions.specs.Bytes.{filled, onward}
-use Rattle.definitions.specs.Terms.{Text}
+use Rattle.definitions.specs.Types.{Datatype, plain}
+use Rattle.definitions.specs.Terms.{Term, Text}
+use Rattle.definitions.specs.Tree.{var, const, Expr, Cond, Query}
+use Rattle.definitions.specs.Outcome.{Outcome, ok}
+use Rattle.definitions.specs.Search.{Tuple, answer}
 use Rattle.definitions.specs.Text.{patternOf, accepts, languageRangeOf, matches}
 use Rattle.definitions.specs.Calendar.{dateTimeText}
 use Rattle.definitions.specs.Values.{integerText, decimalText, ranks, rankIn, stringBefore, Tagged}
@@ -133,3 +137,23 @@ strings :
     ≡ true ∷ false ∷ true ∷ true ∷ true ∷ true ∷ false ∷ []
 unfolding tagged opened
 strings = refl
+
+-- ── a sum that overflows ────────────────────────────────────────────────────────────────────
+
+-- 10^12, 5, then speeds of locomotives
+speeds : List Term
+speeds = map Term.integer (pos 1000000000000 ∷ pos 5 ∷ pos 1 ∷ pos 0 ∷ negsuc 999999999999 ∷ [])
+
+-- not (x + 10^12 < 5), and the same with not twice
+notLess : Cond
+notLess = Cond.not (Cond.less (Expr.plus (Expr.name (var 0)) (Expr.name (const 0))) (Expr.name (const 1)))
+
+selected : Cond → Option Tuple → Outcome (Option Tuple)
+selected c last = answer (record { schema = []; clock = pos 0 }) (λ v. plain Datatype.integer) speeds [] (λ v. none) (0 ∷ []) (Query.filter c) last
+
+-- 0 alone is selected: past the limit a sum with 10^12, 5 or 1 is no value, and that with −10^12 is less; not twice, −10^12 alone
+overflows :
+    selected notLess none ∷ selected notLess (some (3 ∷ [])) ∷ selected (Cond.not notLess) none ∷ selected (Cond.not notLess) (some (4 ∷ [])) ∷ []
+    ≡ ok (some (3 ∷ [])) ∷ ok none ∷ ok (some (4 ∷ [])) ∷ ok none ∷ []
+unfolding speeds notLess selected opened
+overflows = refl

@@ -1,8 +1,7 @@
--- Document 01, "The machine": one tuple tried. All parts are evaluated; the faults come first.
+-- Document 01, "The machine": one tuple tried. All parts are evaluated; the faults come first. Booleans as in document 02, Ask 5.
 use Prim.Native.Nat.{ℕ}
 use mathlib.Core.List.{List}
 use mathlib.Core.Bool.{Bool, true, false, _&&_, _||_}
-use mathlib.Core.Bool as Bools
 use mathlib.Core.Option.{Option, none, some}
 use lib.Dec.{eqb}
 use lib.ListN.{getElem?}
@@ -13,7 +12,10 @@ use Rattle.definitions.specs.Terms.{Term, Schema, datatypeIn, hasType}
 use Rattle.definitions.specs.Text.{accepts, matches}
 use Rattle.definitions.specs.Tree.{Name, var, const, Expr, Cond, Query}
 use Rattle.definitions.specs.Outcome.{Outcome, ok, fault, _>>=_, _>>_, demand, graphNoURI, subjectNoURI, propertyNotInSchema, objectNotOfDatatype, noTerm}
-use Rattle.definitions.specs.Values.{Value, valueOf, sum, difference, absolute, textOf, paired, equalPair, lessPair, stringIn, holdsOf}
+use Rattle.definitions.specs.Values.{Value, valueOf, sum, difference, absolute, textOf, paired, equalPair, lessPair, stringIn, truthIn}
+use Rattle.definitions.specs.Truth.{notTruth, andTruth, orTruth, isTrue}
+use Rattle.definitions.specs.declared.Truth.{Truth}
+use Rattle.definitions.specs.declared.Truth.the-variants.{True, False}
 
 -- four term numbers
 pub record Quad : Type 0 where
@@ -99,28 +101,28 @@ module _ (σ : Setting) (terms : List Term) (quads : List Quad) (β : Bindings) 
     b ← expression f
     difference a b
 
-  unfoldable pub condition : Cond → Outcome Bool
-  condition Cond.no = ok false
-  condition Cond.yes = ok true
+  unfoldable pub condition : Cond → Outcome Truth
+  condition Cond.no = ok False
+  condition Cond.yes = ok True
   condition (Cond.or c d) = do
     a ← condition c
     b ← condition d
-    ok (a || b)
+    ok (orTruth a b)
   condition (Cond.and c d) = do
     a ← condition c
     b ← condition d
-    ok (a && b)
+    ok (andTruth a b)
   condition (Cond.not c) = do
     a ← condition c
-    ok (Bools.not a)
+    ok (notTruth a)
   condition (Cond.regex p e) = do
     a ← expression e
     s ← stringIn a
-    ok (holdsOf (λ x. accepts p (x .text)) s)
+    ok (truthIn (λ x. accepts p (x .text)) s)
   condition (Cond.langMatches r e) = do
     a ← expression e
     s ← stringIn a
-    ok (holdsOf (λ x. matches r (x .tag)) s)
+    ok (truthIn (λ x. matches r (x .tag)) s)
   condition (Cond.equal e f) = do
     a ← expression e
     b ← expression f
@@ -132,7 +134,7 @@ module _ (σ : Setting) (terms : List Term) (quads : List Quad) (β : Bindings) 
     p ← paired a b
     ok (lessPair p)
 
-  -- pattern, quad stored; both, and; union, or; filter, its boolean; empty, always
+  -- pattern, quad stored; both, and; union, or; filter, its boolean true; empty, always
   unfoldable pub query : Query → Outcome Bool
   query (Query.pattern g s p o) = do
     G ← named terms β g
@@ -152,5 +154,7 @@ module _ (σ : Setting) (terms : List Term) (quads : List Quad) (β : Bindings) 
     a ← query q
     b ← query r
     ok (a || b)
-  query (Query.filter c) = condition c
+  query (Query.filter c) = do
+    a ← condition c
+    ok (isTrue a)
   query Query.empty = ok true

@@ -12,6 +12,7 @@ pub mod Total
 pub mod Typing
 pub mod Calendar
 pub mod Outcome
+pub mod Truth
 pub mod Values
 pub mod Evaluate
 pub mod Search

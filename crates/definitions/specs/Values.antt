@@ -12,6 +12,9 @@ use Rattle.definitions.specs.Bytes.{sameBytes, provided}
 use Rattle.definitions.specs.Terms.{Term, Text, isInteger, isDecimal, sameNumber}
 use Rattle.definitions.specs.Calendar.{digits, dateTimeText}
 use Rattle.definitions.specs.Outcome.{Outcome, ok, fault, _>>=_, arithmeticOnNoNumber, nothingInCommon, textTestOnNoString}
+use Rattle.definitions.specs.Truth.{truthOf}
+use Rattle.definitions.specs.declared.Truth.{Truth}
+use Rattle.definitions.specs.declared.Truth.the-variants.{Unknown}
 
 -- a string's tag and text
 pub record Tagged : Type 0 where
@@ -215,28 +218,28 @@ paired (Value.integer a) b = withNumber (widened a) b
 paired (Value.decimal a) b = withNumber a b
 paired (Value.dateTime a) b = withDateTime a b
 
--- a comparison that holds no value is false
-unfoldable pub present : {A : Type 0} → (A → A → Bool) → Option A → Option A → Bool
-present f none b = false
-present f (some a) none = false
-present f (some a) (some b) = f a b
+-- a comparison that holds no value is unknown
+unfoldable pub present : {A : Type 0} → (A → A → Bool) → Option A → Option A → Truth
+present f none b = Unknown
+present f (some a) none = Unknown
+present f (some a) (some b) = truthOf (f a b)
 
 unfoldable pub sameTagged : Tagged → Tagged → Bool
 sameTagged a b = sameBytes (a .tag) (b .tag) && sameBytes (a .text) (b .text)
 
 -- equal on strings compares tag and text; numbers compare by amount, dateTimes by seconds
-unfoldable pub equalPair : Pair → Bool
-equalPair (uris a b) = sameBytes a b
+unfoldable pub equalPair : Pair → Truth
+equalPair (uris a b) = truthOf (sameBytes a b)
 equalPair (strings a b) = present sameTagged a b
 equalPair (numbers a b) = present sameNumber a b
-equalPair (dateTimes a b) = sameNumber a b
+equalPair (dateTimes a b) = truthOf (sameNumber a b)
 
 -- URIs go by bytes
-unfoldable pub lessPair : Pair → Bool
-lessPair (uris a b) = before (λ n. n) a b
+unfoldable pub lessPair : Pair → Truth
+lessPair (uris a b) = truthOf (before (λ n. n) a b)
 lessPair (strings a b) = present (stringBefore ranks) a b
 lessPair (numbers a b) = present ltZ a b
-lessPair (dateTimes a b) = ltZ a b
+lessPair (dateTimes a b) = truthOf (ltZ a b)
 
 -- ── regex and langMatches want a string ─────────────────────────────────────────────────────
 
@@ -247,7 +250,7 @@ stringIn (Value.integer n) = fault textTestOnNoString
 stringIn (Value.decimal n) = fault textTestOnNoString
 stringIn (Value.dateTime n) = fault textTestOnNoString
 
--- a test that holds no value is false
-unfoldable pub holdsOf : (Tagged → Bool) → Option Tagged → Bool
-holdsOf f none = false
-holdsOf f (some s) = f s
+-- a test that holds no value is unknown
+unfoldable pub truthIn : (Tagged → Bool) → Option Tagged → Truth
+truthIn f none = Unknown
+truthIn f (some s) = truthOf (f s)

@@ -171,6 +171,13 @@ pub struct SavedRun {
     pub store: SavedStore,
 }
 
+// A boolean of a script.
+pub enum Truth {
+    True,
+    False,
+    Unknown,
+}
+
 // How a run call ends; the wanted graph goes by its term number.
 pub enum RunState {
     Ended,

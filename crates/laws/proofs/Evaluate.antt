@@ -13,6 +13,7 @@ use Rattle.definitions.specs.Tree.{Name, var, const, Expr, Cond, Query}
 use Rattle.definitions.specs.Scope.{inName, inExpr, inCond, inQuery}
 use Rattle.definitions.specs.Typing.{allows, nameHas, exprHas, condTyped, propertyTyped, queryTyped}
 use Rattle.definitions.specs.Outcome.{ok, _>>=_, graphNoURI, subjectNoURI, objectNotOfDatatype}
+use Rattle.definitions.specs.declared.Truth.{Truth}
 use Rattle.definitions.specs.Values.{Value, valueOf, Number, whole, millionths, numberIn, combine, distance, sum, difference, absolute, Pair, paired, stringIn, equalPair, lessPair}
 use Rattle.definitions.specs.Evaluate.{Setting, Bindings, Quad, Named, named, termOfNumber, isURI, inSchema, propertyDatatype, expression, condition, query}
 use Rattle.definitions.specs.Search.{Typing}
@@ -254,7 +255,7 @@ module _ (σ : Setting) (Γ : Typing) (loaded terms : List Term) (extends : Exte
 
   -- two expressions with a common datatype
   compared-fine : (e f : Expr) → ExprBounded (length loaded) e → ExprBounded (length loaded) f → BoundIn β (λ v. inExpr v e || inExpr v f)
-      → T (someDatatype (λ d. exprHas constants Γ e d && exprHas constants Γ f d)) → (test : Pair → Bool)
+      → T (someDatatype (λ d. exprHas constants Γ e d && exprHas constants Γ f d)) → (test : Pair → Truth)
       → Fine Any (expression σ terms quads β e >>= λ a. expression σ terms quads β f >>= λ b. paired a b >>= λ p. ok (test p))
   compared-fine e f k₁ k₂ i h test =
       let r = some-datatype (λ d. exprHas constants Γ e d && exprHas constants Γ f d) h in
@@ -319,5 +320,5 @@ module _ (σ : Setting) (Γ : Typing) (loaded terms : List Term) (extends : Exte
       let typed₂ = queryTyped constants Γ r in
       fine-then (query-fine q (k .0) (in-left β (λ v. inQuery v q) (λ v. inQuery v r) i) (andLeft typed₁ typed₂ h)) λ a p.
       fine-then (query-fine r (k .1) (in-right β (λ v. inQuery v q) (λ v. inQuery v r) i) (andRight typed₁ typed₂ h)) λ b p′. fine tt
-  query-fine (Query.filter c) k i h = condition-fine c k i h
+  query-fine (Query.filter c) k i h = fine-then (condition-fine c k i h) λ a p. fine tt
   query-fine Query.empty k i h = fine tt

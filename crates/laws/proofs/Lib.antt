@@ -17,6 +17,7 @@ pub mod Pairs
 pub mod NoFault
 pub mod Bindings
 pub mod Evaluate
+pub mod Truths
 pub mod Answers
 pub mod Places
 pub mod Results

@@ -7,7 +7,6 @@ use mir.Facts.{toZ-ofZ}
 use mathlib.Core.Path.{_≡_, refl, _∙_, ap, ap₂, subst, subst⁻¹}
 use mathlib.Core.List.{List, []}
 use mathlib.Core.Bool.{Bool, true, false, cond, _&&_, _||_}
-use mathlib.Core.Bool as Bools
 use mathlib.Core.Option.{none, some}
 use lib.Dec.{T, eqb, ltb}
 use lib.IntN.{ℤ}
@@ -20,6 +19,9 @@ use Rattle.definitions.specs.Outcome.{Outcome, ok, _>>=_}
 use Rattle.definitions.specs.Values.{Value as Meant, sum, difference, absolute, textOf, Pair, equalPair, lessPair}
 use Rattle.definitions.specs.Evaluate.{Quad, stored, numberOf, expression, condition, query}
 use Rattle.definitions.specs.Saved.{termsIn}
+use Rattle.definitions.specs.Truth.{notTruth, andTruth, orTruth, isTrue}
+use Rattle.definitions.specs.declared.Truth.{Truth}
+use Rattle.definitions.specs.declared.Truth.the-variants.{True, False}
 use Rattle.laws.proofs.Options.{some-is}
 use Rattle.laws.specs.Sound.{NameBounded}
 use Rattle.laws.specs.Walks.{Walked}
@@ -32,7 +34,7 @@ use Rattle.query.specs.declared.Four.{Four}
 use borrow.Author.Tests.{ltb-true}
 use Rattle.query.specs.StoreLent.{settingIn}
 use Rattle.query.specs.declared.Context.{Context}
-use Rattle.query.specs.Eval.{Lent, ValueOf, TruthOf, HoldsOf, NumberGives}
+use Rattle.query.specs.Eval.{Lent, ValueOf, TruthOf, FilterHolds, HoldsOf, NumberGives}
 use Rattle.laws.proofs.NoFault.{ok-is, then-ok}
 use Rattle.query.proofs.Patterns.{named-ok, pattern-ok}
 use Rattle.query.proofs.CodeLaws.{at-fixed, code-number}
@@ -57,18 +59,18 @@ gives-then {a} {r} {m} f h k = record {
   is = λ v e. let (x, ex, ef) = then-ok e in k .is v (ap f (h .is x ex) ∙ ef);
 }
 
-gives-tells : {a : Value} {r : Bool} {m : Outcome Meant} (f : Meant → Outcome Bool) → Gives a m → Tells r (f (meaning a)) → Tells r (m >>= f)
+gives-tells : {A : Type 0} {a : Value} {r : A} {m : Outcome Meant} (f : Meant → Outcome A) → Gives a m → Tells r (f (meaning a)) → Tells r (m >>= f)
 gives-tells f h k b e = let (x, ex, ef) = then-ok e in k b (ap f (h .is x ex) ∙ ef)
 
--- a Boolean of the parts' Booleans
-tells-one : {a : Bool} {m : Outcome Bool} (f : Bool → Bool) → Tells a m → Tells (f a) (m >>= λ x. ok (f x))
-tells-one f h b e = let (x, ex, ef) = then-ok e in ap f (h x ex) ∙ ok-is ef
+-- what is made of the parts' truth
+tells-one : {A B : Type 0} {a : A} {r : B} {m : Outcome A} (f : A → B) → r ≡ f a → Tells a m → Tells r (m >>= λ x. ok (f x))
+tells-one f made h b e = let (x, ex, ef) = then-ok e in made ∙ (ap f (h x ex) ∙ ok-is ef)
 
-tells-two : {a b : Bool} {m n : Outcome Bool} (f : Bool → Bool → Bool) → Tells a m → Tells b n → Tells (f a b) (m >>= λ x. n >>= λ y. ok (f x y))
-tells-two f h k b e =
+tells-two : {A : Type 0} {a b r : A} {m n : Outcome A} (f : A → A → A) → r ≡ f a b → Tells a m → Tells b n → Tells r (m >>= λ x. n >>= λ y. ok (f x y))
+tells-two f made h k b e =
     let (x, ex, e₁) = then-ok e in
     let (y, ey, e₂) = then-ok e₁ in
-    ap₂ f (h x ex) (k y ey) ∙ ok-is e₂
+    made ∙ (ap₂ f (h x ex) (k y ey) ∙ ok-is e₂)
 
 -- ── expressions ─────────────────────────────────────────────────────────────────────────────
 
@@ -122,29 +124,29 @@ module _ (table known : List ℕ) (x : Context) where
 
   -- ── booleans ──────────────────────────────────────────────────────────────────────────────
 
-  pub no-truth : TruthOf table known x false Cond.no
+  pub no-truth : TruthOf table known x False Cond.no
   unfolding condition
   no-truth S terms quads t b e = ok-is e
 
-  pub yes-truth : TruthOf table known x true Cond.yes
+  pub yes-truth : TruthOf table known x True Cond.yes
   unfolding condition
   yes-truth S terms quads t b e = ok-is e
 
-  module _ {a : Bool} (c : Cond) (h : TruthOf table known x a c) where
-    pub not-truth : TruthOf table known x (Bools.not a) (Cond.not c)
+  module _ {a r : Truth} (c : Cond) (h : TruthOf table known x a c) where
+    pub not-truth : r ≡ notTruth a → TruthOf table known x r (Cond.not c)
     unfolding condition
-    not-truth S terms quads t = tells-one Bools.not (h S terms quads t)
+    not-truth made S terms quads t = tells-one notTruth made (h S terms quads t)
 
-    module _ {b : Bool} (d : Cond) (k : TruthOf table known x b d) where
-      pub or-truth : TruthOf table known x (a || b) (Cond.or c d)
+    module _ {b : Truth} (d : Cond) (k : TruthOf table known x b d) where
+      pub or-truth : r ≡ orTruth a b → TruthOf table known x r (Cond.or c d)
       unfolding condition
-      or-truth S terms quads t = tells-two _||_ (h S terms quads t) (k S terms quads t)
+      or-truth made S terms quads t = tells-two orTruth made (h S terms quads t) (k S terms quads t)
 
-      pub and-truth : TruthOf table known x (a && b) (Cond.and c d)
+      pub and-truth : r ≡ andTruth a b → TruthOf table known x r (Cond.and c d)
       unfolding condition
-      and-truth S terms quads t = tells-two _&&_ (h S terms quads t) (k S terms quads t)
+      and-truth made S terms quads t = tells-two andTruth made (h S terms quads t) (k S terms quads t)
 
-  module _ {a : Value} {r : Bool} (e : Expr) (h : ValueOf table known x a e) where
+  module _ {a : Value} {r : Truth} (e : Expr) (h : ValueOf table known x a e) where
     pub regex-truth : (p : Pattern) → Tells r (textTest (λ s. accepts p (s .text)) (meaning a)) → TruthOf table known x r (Cond.regex p e)
     unfolding condition textTest
     regex-truth p g S terms quads t = gives-tells (textTest (λ s. accepts p (s .text))) (h S terms quads t) g
@@ -154,7 +156,7 @@ module _ (table known : List ℕ) (x : Context) where
     language-truth p g S terms quads t = gives-tells (textTest (λ s. matches p (s .tag))) (h S terms quads t) g
 
     module _ {b : Value} (f : Expr) (k : ValueOf table known x b f) where
-      compared-tells : (test : Pair → Bool) (S : Schema) (terms : List Term) (quads : List Quad) → termsIn table ≡ some terms
+      compared-tells : (test : Pair → Truth) (S : Schema) (terms : List Term) (quads : List Quad) → termsIn table ≡ some terms
           → Tells r (compared test (meaning a) (meaning b))
           → Tells r (expression (settingIn S x) terms quads (bindingsOf known) e >>= λ u. expression (settingIn S x) terms quads (bindingsOf known) f >>= λ y. compared test u y)
       compared-tells test S terms quads t g =
@@ -171,11 +173,11 @@ module _ (table known : List ℕ) (x : Context) where
 
   -- ── queries ───────────────────────────────────────────────────────────────────────────────
 
-  module _ (rows : List Quad) where
-    pub filter-holds : {a : Bool} (c : Cond) → TruthOf table known x a c → HoldsOf table known x rows a (Query.filter c)
-    unfolding query
-    filter-holds c h S terms t = h S terms rows t
+  pub filter-holds : {a : Truth} {r : Bool} (c : Cond) → TruthOf table known x a c → r ≡ isTrue a → FilterHolds table known x r c
+  unfolding query
+  filter-holds c h made rows S terms t = tells-one isTrue made (h S terms rows t)
 
+  module _ (rows : List Quad) where
     pub empty-holds : HoldsOf table known x rows true Query.empty
     unfolding query
     empty-holds S terms t b e = ok-is e
@@ -183,11 +185,11 @@ module _ (table known : List ℕ) (x : Context) where
     module _ {a b : Bool} (q r : Query) (h : HoldsOf table known x rows a q) (k : HoldsOf table known x rows b r) where
       pub both-holds : HoldsOf table known x rows (a && b) (Query.both q r)
       unfolding query
-      both-holds S terms t = tells-two _&&_ (h S terms t) (k S terms t)
+      both-holds S terms t = tells-two _&&_ refl (h S terms t) (k S terms t)
 
       pub union-holds : HoldsOf table known x rows (a || b) (Query.union q r)
       unfolding query
-      union-holds S terms t = tells-two _||_ (h S terms t) (k S terms t)
+      union-holds S terms t = tells-two _||_ refl (h S terms t) (k S terms t)
 
     -- the place of a name that has a number
     fixed-place : (n : Name) (i : ℕ) → NameBounded soughtCode n → numberOf (bindingsOf known) n ≡ some i → placeAt (codeOf known variableLimit n) ≡ fixed i

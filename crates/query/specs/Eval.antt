@@ -16,6 +16,7 @@ use Rattle.query.specs.declared.Context.{Context}
 use Rattle.definitions.specs.Values.{valueOf}
 use Rattle.values.specs.Meaning.{meaning, Good, Gives, Tells}
 use Rattle.values.specs.declared.Value.{Value}
+use Rattle.definitions.specs.declared.Truth.{Truth}
 
 -- a term table, and what is known of the 16 variables
 pub record Lent (table known : List ℕ) (x : Context) : Type 0 where
@@ -29,11 +30,14 @@ module _ (table known : List ℕ) (x : Context) where
   abbrev pub ValueOf : Value → Expr → Type 0
   ValueOf v e = (S : Schema) (terms : List Term) (quads : List Quad) → termsIn table ≡ some terms → Gives v (expression (settingIn S x) terms quads (bindingsOf known) e)
 
-  abbrev pub TruthOf : Bool → Cond → Type 0
+  abbrev pub TruthOf : Truth → Cond → Type 0
   TruthOf b c = (S : Schema) (terms : List Term) (quads : List Quad) → termsIn table ≡ some terms → Tells b (condition (settingIn S x) terms quads (bindingsOf known) c)
 
   abbrev pub HoldsOf : List Quad → Bool → Query → Type 0
   HoldsOf quads b q = (S : Schema) (terms : List Term) → termsIn table ≡ some terms → Tells b (query (settingIn S x) terms quads (bindingsOf known) q)
+
+  abbrev pub FilterHolds : Bool → Cond → Type 0
+  FilterHolds b c = (quads : List Quad) → HoldsOf quads b (Query.filter c)
 
 -- the value of a number's term
 abbrev pub NumberGives : (table : List ℕ) → Value → ℕ → Type 0

@@ -11,7 +11,7 @@ use Rattle.definitions.specs.Types.{Ty}
 use Rattle.definitions.specs.Terms.{Term, Schema}
 use Rattle.definitions.specs.Tree.{Name, var, const, Expr, Cond, Query}
 use Rattle.definitions.specs.Outcome.{Outcome, ok, fault}
-use Rattle.definitions.specs.Evaluate.{Setting, Bindings, Quad, condition, query}
+use Rattle.definitions.specs.Evaluate.{Setting, Bindings, Quad, query}
 use Rattle.definitions.specs.Search.{Typing, Tuple}
 use Rattle.definitions.specs.Saved.{isBound}
 use Rattle.definitions.specs.Sound.{numberHas}
@@ -112,7 +112,7 @@ module _ (σ : Setting) (terms : List Term) (quads : List Quad) (γ : Bindings) 
   seek (Query.pattern g s p o) lo = scan (placesOf γ v g s p o) lo (length terms) quads
   seek (Query.both q r) lo = seek r (seek q lo)
   seek (Query.union q r) lo = min (seek q lo) (seek r lo)
-  seek (Query.filter c) lo = cond (condKnown γ c) (cond (passes (condition σ terms quads γ c)) lo (length terms)) lo
+  seek (Query.filter c) lo = cond (condKnown γ c) (cond (passes (query σ terms quads γ (Query.filter c))) lo (length terms)) lo
   seek Query.empty lo = lo
 
 -- ── terms of the variable's type ────────────────────────────────────────────────────────────

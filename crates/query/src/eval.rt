@@ -10,16 +10,22 @@ ghost use Rattle.definitions.specs.Reading.{readExpr, readCond, readQuery};
 ghost use Rattle.laws.specs.Walks.{Loads};
 ghost use Rattle.laws.specs.Walks.{Walked};
 ghost use Rattle.query.specs.StoreLent.{Told, Tabled, Stored, rowsOf};
-ghost use Rattle.query.specs.Eval.{Lent, NumberGives, ValueOf, TruthOf, HoldsOf};
+ghost use Rattle.query.specs.Eval.{Lent, NumberGives, ValueOf, TruthOf, FilterHolds, HoldsOf};
 use crate::Context;
+use crate::Judged;
 use crate::Test;
 use crate::Valued;
 use crate::names::name_at;
 use crate::names::names_at;
 use crate::scan::scan;
 use definitions::SLOT_WIDTH;
+use definitions::Truth;
 use definitions::VARIABLE_LIMIT;
 use fields::numbers;
+use truth::and_of;
+use truth::is_true;
+use truth::not_of;
+use truth::or_of;
 use values::Value;
 use values::slot;
 
@@ -111,8 +117,103 @@ pub fn eval_expr(
     }
 }
 
-// Whether the boolean at an offset holds. Ruled out: or where and stands; the pattern one byte off.
+// The truth of the boolean at an offset. Ruled out: and by its first part alone; the pattern one byte off.
 pub fn eval_cond(
+    script: &[u8],
+    context: Context,
+    at: usize,
+    left: u8,
+    table: &[u8],
+    known: &[usize],
+) -> Judged
+    requires { ⌜ Loads (readCond (now script) (context .loaded) left at) ⌝ }
+    requires { ⌜ Lent (now table) (now known) context ⌝ }
+    ensures { λ r. ⌜ Walked (TruthOf (now (table .entry)) (now (known .entry)) context (r .truth)) (readCond (now (script .entry)) (context .loaded) left at) (r .next) ⌝ }
+{
+    let kind = script[at];
+    let first = at + 1;
+    let below = left - 1;
+    match kind {
+        0x50 => Judged {
+            next: first,
+            truth: Truth::False,
+        },
+        0x51 => Judged {
+            next: first,
+            truth: Truth::True,
+        },
+        0x52 => {
+            let a = eval_cond(script, context, first, below, table, known);
+            let b = eval_cond(script, context, a.next, below, table, known);
+            let one = a.truth;
+            let other = b.truth;
+            let truth = or_of(one, other);
+            Judged {
+                next: b.next,
+                truth,
+            }
+        }
+        0x53 => {
+            let a = eval_cond(script, context, first, below, table, known);
+            let b = eval_cond(script, context, a.next, below, table, known);
+            let one = a.truth;
+            let other = b.truth;
+            let truth = and_of(one, other);
+            Judged {
+                next: b.next,
+                truth,
+            }
+        }
+        0x54 => {
+            let a = eval_cond(script, context, first, below, table, known);
+            let one = a.truth;
+            let truth = not_of(one);
+            Judged {
+                next: a.next,
+                truth,
+            }
+        }
+        0x55 => {
+            let text = at + 17;
+            let a = eval_expr(script, context, text, below, table, known);
+            let truth = values::tests::regex(a.value, script, first);
+            Judged {
+                next: a.next,
+                truth,
+            }
+        }
+        0x56 => {
+            let text = at + 9;
+            let a = eval_expr(script, context, text, below, table, known);
+            let truth = values::tests::lang_matches(a.value, script, first);
+            Judged {
+                next: a.next,
+                truth,
+            }
+        }
+        0x57 => {
+            let a = eval_expr(script, context, first, below, table, known);
+            let b = eval_expr(script, context, a.next, below, table, known);
+            let truth = values::comparison::equal(a.value, b.value);
+            Judged {
+                next: b.next,
+                truth,
+            }
+        }
+        _ => {
+            let a = eval_expr(script, context, first, below, table, known);
+            let b = eval_expr(script, context, a.next, below, table, known);
+            let truth = values::comparison::less(a.value, b.value);
+            Judged {
+                next: b.next,
+                truth,
+            }
+        }
+    }
+}
+
+// Whether a filter holds, by its boolean at an offset. Ruled out: one that holds on unknown; one that holds where its boolean is false.
+pub fn eval_filter(
     script: &[u8],
     context: Context,
     at: usize,
@@ -122,79 +223,14 @@ pub fn eval_cond(
 ) -> Test
     requires { ⌜ Loads (readCond (now script) (context .loaded) left at) ⌝ }
     requires { ⌜ Lent (now table) (now known) context ⌝ }
-    ensures { λ r. ⌜ Walked (TruthOf (now (table .entry)) (now (known .entry)) context (r .holds)) (readCond (now (script .entry)) (context .loaded) left at) (r .next) ⌝ }
+    ensures { λ r. ⌜ Walked (FilterHolds (now (table .entry)) (now (known .entry)) context (r .holds)) (readCond (now (script .entry)) (context .loaded) left at) (r .next) ⌝ }
 {
-    let kind = script[at];
-    let first = at + 1;
-    let below = left - 1;
-    match kind {
-        0x50 => Test {
-            next: first,
-            holds: false,
-        },
-        0x51 => Test {
-            next: first,
-            holds: true,
-        },
-        0x52 => {
-            let a = eval_cond(script, context, first, below, table, known);
-            let b = eval_cond(script, context, a.next, below, table, known);
-            Test {
-                next: b.next,
-                holds: a.holds | b.holds,
-            }
-        }
-        0x53 => {
-            let a = eval_cond(script, context, first, below, table, known);
-            let b = eval_cond(script, context, a.next, below, table, known);
-            Test {
-                next: b.next,
-                holds: a.holds & b.holds,
-            }
-        }
-        0x54 => {
-            let a = eval_cond(script, context, first, below, table, known);
-            Test {
-                next: a.next,
-                holds: !a.holds,
-            }
-        }
-        0x55 => {
-            let text = at + 17;
-            let a = eval_expr(script, context, text, below, table, known);
-            let holds = values::tests::regex(a.value, script, first);
-            Test {
-                next: a.next,
-                holds,
-            }
-        }
-        0x56 => {
-            let text = at + 9;
-            let a = eval_expr(script, context, text, below, table, known);
-            let holds = values::tests::lang_matches(a.value, script, first);
-            Test {
-                next: a.next,
-                holds,
-            }
-        }
-        0x57 => {
-            let a = eval_expr(script, context, first, below, table, known);
-            let b = eval_expr(script, context, a.next, below, table, known);
-            let holds = values::comparison::equal(a.value, b.value);
-            Test {
-                next: b.next,
-                holds,
-            }
-        }
-        _ => {
-            let a = eval_expr(script, context, first, below, table, known);
-            let b = eval_expr(script, context, a.next, below, table, known);
-            let holds = values::comparison::less(a.value, b.value);
-            Test {
-                next: b.next,
-                holds,
-            }
-        }
+    let a = eval_cond(script, context, at, left, table, known);
+    let truth = a.truth;
+    let holds = is_true(truth);
+    Test {
+        next: a.next,
+        holds,
     }
 }
 
@@ -242,7 +278,7 @@ pub fn eval_query(
                 holds: a.holds | b.holds,
             }
         }
-        0x64 => eval_cond(script, context, first, below, table, known),
+        0x64 => eval_filter(script, context, first, below, table, known),
         _ => Test {
             next: first,
             holds: true,

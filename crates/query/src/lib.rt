@@ -3,6 +3,7 @@ pub mod eval;
 pub mod names;
 pub mod scan;
 
+use definitions::Truth;
 use values::Value;
 
 // Codes of a pattern's places: a number below SOUGHT is a term's.
@@ -42,6 +43,12 @@ pub struct NamesRead {
 pub struct Test {
     pub next: usize,
     pub holds: bool,
+}
+
+// A boolean's truth.
+pub struct Judged {
+    pub next: usize,
+    pub truth: Truth,
 }
 
 // An expression's value.

@@ -1,16 +1,18 @@
-// Equal and less. A line has the sign between two values: < and > by less, = by equal, ? where neither holds either way.
+// Equal and less. A line has the sign between two values: < and > by less, = by equal, ? where none of them is true.
 use crate::print;
 use cases::made;
 use cases::rows;
 use definitions::TAG_WIDTH;
 use definitions::TEXT_WIDTH;
+use truth::is_true;
 use values::Value;
 ghost use mathlib.Core.Path.{_≡_};
-ghost use mathlib.Core.Bool.{Bool};
 ghost use Prim.Native.Nat.{_+_, _≤_};
 ghost use lib.ListN.{length};
 ghost use Rattle.definitions.specs.Limits.{textWidth, tagWidth};
 ghost use Rattle.definitions.specs.Outcome.{ok};
+ghost use Rattle.definitions.specs.Truth.{isTrue};
+ghost use Rattle.definitions.specs.declared.Truth.{Truth};
 ghost use Rattle.definitions.specs.Values.{equalPair, lessPair};
 ghost use Rattle.values.specs.Meaning.{meaning, Good, compared};
 ghost use Rattle.roster.specs.Signs.{signOf};
@@ -35,12 +37,12 @@ fn sign(less: bool, equal: bool, more: bool) -> u8
 fn relation(a: Value, b: Value) -> u8
     requires { ⌜ Good a ⌝ }
     requires { ⌜ Good b ⌝ }
-    ensures { λ r. ⌜ ((l e m : Bool) → compared lessPair (meaning a) (meaning b) ≡ ok l → compared equalPair (meaning a) (meaning b) ≡ ok e
-        → compared lessPair (meaning b) (meaning a) ≡ ok m → r ≡ signOf l e m) ⌝ }
+    ensures { λ r. ⌜ ((l e m : Truth) → compared lessPair (meaning a) (meaning b) ≡ ok l → compared equalPair (meaning a) (meaning b) ≡ ok e
+        → compared lessPair (meaning b) (meaning a) ≡ ok m → r ≡ signOf (isTrue l) (isTrue e) (isTrue m)) ⌝ }
 {
-    let less = values::comparison::less(a, b);
-    let equal = values::comparison::equal(a, b);
-    let more = values::comparison::less(b, a);
+    let less = is_true(values::comparison::less(a, b));
+    let equal = is_true(values::comparison::equal(a, b));
+    let more = is_true(values::comparison::less(b, a));
     sign(less, equal, more)
 }
 

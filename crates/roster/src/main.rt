@@ -5,6 +5,7 @@ mod numbers;
 mod patterns;
 mod print;
 mod ranges;
+mod truths;
 
 fn main() {
     dates::cases();
@@ -12,4 +13,5 @@ fn main() {
     comparisons::cases();
     patterns::cases();
     ranges::cases();
+    truths::cases();
 }

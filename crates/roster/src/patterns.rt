@@ -57,6 +57,6 @@ pub fn cases() {
     show_rows(
         b"abcdefghijklmnop|abcdefghijklmnop\n^.*.*.*.*.*.*.*$|aaaaaaaaaaaaaaaaaaaaaaaaaaaaaaaaaaaaaaaa\n^a*a*a*a*a*a*b$|aaaaaaaaaaaaaaaaaaaaaaaaaaaaaaaaaaaaaaaa\n",
     );
-    // No value, which no pattern accepts.
+    // No value: unknown, also under the pattern that accepts every text.
     show_on(b"", values::text::text_of(made::integer(1000000000001)));
 }

@@ -1,4 +1,5 @@
 // Words, numbers and values on standard output.
+use definitions::Truth;
 use values::Value;
 ghost use mathlib.Core.Path.{_≡_};
 ghost use lib.IntN.{natAbs};
@@ -72,11 +73,18 @@ pub fn value(v: Value)
     field(&text);
 }
 
-// The end of a line that tells whether a test holds.
-pub fn answer(holds: bool) {
-    if holds {
-        word(b": yes\n");
-    } else {
-        word(b": no\n");
+// A boolean.
+pub fn truth(t: Truth) {
+    match t {
+        Truth::True => word(b"true"),
+        Truth::False => word(b"false"),
+        Truth::Unknown => word(b"unknown"),
     }
+}
+
+// The end of a line that tells what a test gives.
+pub fn answer(t: Truth) {
+    word(b": ");
+    truth(t);
+    byte(b'\n');
 }

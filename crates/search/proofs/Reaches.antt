@@ -11,7 +11,8 @@ use Rattle.definitions.specs.Terms.{Term}
 use Rattle.definitions.specs.Tree.{Name, var, const, Query}
 use Rattle.definitions.specs.Scope.{inCond}
 use Rattle.definitions.specs.Outcome.{Outcome, ok, fault, _>>=_}
-use Rattle.definitions.specs.Evaluate.{Setting, Bindings, Quad, stored, numberOf, condition, query}
+use Rattle.definitions.specs.Evaluate.{Setting, Bindings, Quad, stored, numberOf, query}
+use Rattle.definitions.specs.Truth.{isTrue}
 use Rattle.laws.proofs.Tests.{andLeft, andRight, by-test, trueIs}
 use Rattle.query.specs.Seek.{passes, sought, known, placeOf, placesOf, condKnown, seek}
 use Rattle.search.proofs.OnlyNamed.{condition-agrees}
@@ -60,7 +61,7 @@ module _ (σ : Setting) (terms : List Term) (quads : List Quad) (γ : Bindings) 
   seek-floor m h (Query.union q r) lo l = omega (arith, seek-floor m h q lo l, seek-floor m h r lo l)
   seek-floor m h (Query.filter c) lo l =
       by-test (λ x. m ≤ x) (condKnown γ c) _ lo
-      (λ k. by-test (λ x. m ≤ x) (passes (condition σ terms quads γ c)) lo (length terms) (λ k. l) (λ k. h)) (λ k. l)
+      (λ k. by-test (λ x. m ≤ x) (test γ (Query.filter c)) lo (length terms) (λ k. l) (λ k. h)) (λ k. l)
   seek-floor m h Query.empty lo l = l
 
   module _ (δ : Bindings) (u : Under γ δ) (j : ℕ) (is : δ v ≡ some j) where
@@ -89,8 +90,8 @@ module _ (σ : Setting) (terms : List Term) (quads : List Quad) (γ : Bindings) 
         by-test (λ x. x ≤ j) (condKnown γ c) _ lo
         (λ k.
         let same = condition-agrees σ terms quads γ δ c (bound-agrees γ δ u (λ x. inCond x c) (cond-bound γ c k)) in
-        let p : T (passes (condition σ terms quads γ c)) = subst⁻¹ (λ m. T (passes m)) same h in
-        by-test (λ x. x ≤ j) (passes (condition σ terms quads γ c)) lo (length terms) (λ t. l)
-        (λ t. absurd (T-not (passes (condition σ terms quads γ c)) t p)))
+        let p : T (test γ (Query.filter c)) = subst⁻¹ (λ m. T (passes (m >>= λ a. ok (isTrue a)))) same h in
+        by-test (λ x. x ≤ j) (test γ (Query.filter c)) lo (length terms) (λ t. l)
+        (λ t. absurd (T-not (test γ (Query.filter c)) t p)))
         (λ k. l)
     seek-reaches Query.empty lo l h = l

@@ -9,7 +9,7 @@ use mathlib.Core.Logic.{_⊎_, inl, inr}
 use lib.ListN.{length}
 use Rattle.definitions.specs.Terms.{Term, Schema}
 use Rattle.definitions.specs.Tree.{Cond, Query}
-use Rattle.definitions.specs.Evaluate.{Quad, condition}
+use Rattle.definitions.specs.Evaluate.{Quad, query}
 use Rattle.definitions.specs.Saved.{termsIn}
 use Rattle.laws.proofs.Tests.{trueIs}
 use Rattle.laws.proofs.Options.{same-some}
@@ -18,7 +18,7 @@ use Rattle.query.specs.Seek.{passes, placesOf, scan, condKnown, seek}
 use Rattle.query.specs.Codes.{placesAt, bindingsOf, Coded}
 use Rattle.query.specs.declared.Context.{Context}
 use Rattle.query.specs.StoreLent.{settingIn}
-use Rattle.query.specs.Eval.{Lent, TruthOf}
+use Rattle.query.specs.Eval.{Lent, FilterHolds}
 use Rattle.search.specs.Seeking.{Sure, SeekOf}
 use Rattle.query.specs.declared.Four.{Four}
 use Rattle.query.proofs.Outcomes.{ok-passes}
@@ -86,7 +86,7 @@ module _ (table known : List ℕ) (x : Context) (l : Lent table known x) (rows :
     -- with nothing left to find it does not matter
     pub ended-seeks : lo ≡ x .count → SeekOf table known x rows v lo lo (Query.filter c)
     unfolding seek
-    ended-seeks e = (omega arith, λ S terms t sure. go (condKnown (bindingsOf known) c) (passes (condition (settingIn S x) terms rows (bindingsOf known) c)) (e ∙ counted terms t))
+    ended-seeks e = (omega arith, λ S terms t sure. go (condKnown (bindingsOf known) c) (passes (query (settingIn S x) terms rows (bindingsOf known) (Query.filter c))) (e ∙ counted terms t))
       where
         go : (a b : Bool) {n : ℕ} → lo ≡ n → lo ≡ cond a (cond b lo n) lo
         go true true h = refl
@@ -97,12 +97,12 @@ module _ (table known : List ℕ) (x : Context) (l : Lent table known x) (rows :
     unfolding seek
     unknown-seeks e = (omega arith, λ S terms t sure. rw (sym ek ∙ e) refl)
 
-    module _ (e : k ≡ true) {b : Bool} (truth : TruthOf table known x b c) where
+    module _ (e : k ≡ true) {b : Bool} (holds : FilterHolds table known x b c) where
       tested : (S : Schema) (terms : List Term) → termsIn table ≡ some terms → Sure (settingIn S x) terms rows (bindingsOf known) (Query.filter c)
-          → passes (condition (settingIn S x) terms rows (bindingsOf known) c) ≡ b
+          → passes (query (settingIn S x) terms rows (bindingsOf known) (Query.filter c)) ≡ b
       tested S terms t sure =
           let f = fine-ok (sure (trueIs (condKnown (bindingsOf known) c) (sym ek ∙ e))) in
-          ok-passes (f .1) ∙ sym (truth S terms rows t (f .0) (f .1))
+          ok-passes (f .1) ∙ sym (holds rows S terms t (f .0) (f .1))
 
       pub true-seeks : b ≡ true → SeekOf table known x rows v lo lo (Query.filter c)
       unfolding seek

@@ -6,7 +6,7 @@ use mathlib.Core.Option.{some}
 use lib.Dec.{T}
 use Rattle.definitions.specs.Terms.{Term, Schema}
 use Rattle.definitions.specs.Tree.{Cond, Query}
-use Rattle.definitions.specs.Evaluate.{Setting, Bindings, Quad, condition}
+use Rattle.definitions.specs.Evaluate.{Setting, Bindings, Quad, query}
 use Rattle.definitions.specs.Saved.{termsIn}
 use Rattle.laws.specs.Outcomes.{Fine, Any}
 use Rattle.query.specs.Seek.{condKnown, seek}
@@ -20,7 +20,7 @@ module _ (σ : Setting) (terms : List Term) (quads : List Quad) (γ : Bindings) 
   Sure (Query.pattern g s p o) = Unit {0}
   Sure (Query.both q r) = Sure q × Sure r
   Sure (Query.union q r) = Sure q × Sure r
-  Sure (Query.filter c) = T (condKnown γ c) → Fine Any (condition σ terms quads γ c)
+  Sure (Query.filter c) = T (condKnown γ c) → Fine Any (query σ terms quads γ (Query.filter c))
   Sure Query.empty = Unit {0}
 
 -- `least` is what the seek of v from lo on gives; it never goes back

@@ -10,7 +10,7 @@ ghost use Rattle.query.specs.Eval.{Lent};
 ghost use Rattle.search.specs.Seeking.{FilterOf, SeekOf};
 use crate::Sought;
 use query::Context;
-use query::eval::eval_cond;
+use query::eval::eval_filter;
 use query::names::known_cond;
 use query::names::names_at;
 use query::scan::scan;
@@ -61,7 +61,7 @@ fn seek_filter(
             least: lo,
         };
     }
-    let t = eval_cond(script, context, at, left, table, known);
+    let t = eval_filter(script, context, at, left, table, known);
     if t.holds {
         return Sought {
             next: k.next,

@@ -15,4 +15,5 @@ pub mod RoundTrip
 pub mod SavedFits
 pub mod OnBytes
 pub mod ExactSteps
+pub mod Truths
 pub mod DemandsApply

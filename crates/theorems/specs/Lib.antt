@@ -8,3 +8,4 @@ pub mod Demand3
 pub mod ExportRefusals
 pub mod OnBytes
 pub mod ExactSteps
+pub mod Truths

@@ -11,6 +11,9 @@ use mir.Val.{toZ, ofZ}
 use Rattle.definitions.specs.Bytes.{unfilled, sameBytes}
 use Rattle.definitions.specs.Terms.{sameNumber}
 use Rattle.definitions.specs.Outcome.{ok, fault, _>>=_, nothingInCommon}
+use Rattle.definitions.specs.Truth.{truthOf}
+use Rattle.definitions.specs.declared.Truth.{Truth}
+use Rattle.truth.specs.Told.{toldOf}
 use Rattle.definitions.specs.Values.{Pair, uris, strings, numbers, dateTimes, paired, present, widened, sameTagged, stringBefore, equalPair, lessPair, before, ranks}
 use Rattle.values.specs.declared.Value.{Value}
 use Rattle.values.specs.Meaning.{meaning, where?, numberOf, stringOf, taggedOf, Good, Tells, compared}
@@ -69,7 +72,7 @@ pairs a b (as-dateTime k m) (as-string j l) = as-nothing (rw (m, l))
 
 -- ── a test of the pair ──────────────────────────────────────────────────────────────────────
 
-module _ (test : Pair → Bool) (a b : Value) (r : Bool) where
+module _ (test : Pair → Truth) (a b : Value) (r : Truth) where
   tells : (p : Pair) → paired (meaning a) (meaning b) ≡ ok p → r ≡ test p → Tells r (compared test (meaning a) (meaning b))
   unfolding compared _>>=_
   tells p e h t c = h ∙ ok-is (rw e at c)
@@ -113,8 +116,8 @@ module _ (test : Pair → Bool) (a b : Value) (r : Bool) where
   dateTimes-told (as-dateTimes j e) k h = tells (dateTimes (a .number) (b .number)) e h
   dateTimes-told (as-nothing e) k h = no-telling e
 
--- a comparison that holds no value is false
-present-where : {A : Type 0} (f : A → A → Bool) (p q : Bool) (x y : A) → ((p && q) && f x y) ≡ present f (where? p x) (where? q y)
+-- a comparison that holds no value is unknown
+present-where : {A : Type 0} (f : A → A → Bool) (p q : Bool) (x y : A) → toldOf (p && q) (f x y) ≡ present f (where? p x) (where? q y)
 unfolding present
 present-where f true true x y = refl
 present-where f true false x y = refl
@@ -122,47 +125,55 @@ present-where f false q x y = refl
 
 -- ── equal and less ──────────────────────────────────────────────────────────────────────────
 
-module _ (a b : Value) (t : Bool) where
-  abbrev both? : Bool
-  both? = (a .present && b .present) && t
+module _ (a b : Value) (t : Bool) {r : Truth} where
+  -- of two values that may be no value
+  module _ (told : r ≡ toldOf (a .present && b .present) t) where
+    pub equal-strings : a .kind ≡ 2 → t ≡ (sameBytes (unfilled (a .tag)) (unfilled (b .tag)) && sameBytes (unfilled (a .text)) (unfilled (b .text)))
+        → Tells r (compared equalPair (meaning a) (meaning b))
+    unfolding equalPair sameTagged
+    equal-strings k e =
+        strings-told equalPair a b r (pairs a b (view a) (view b)) k
+        (told ∙ rw e (present-where sameTagged (a .present) (b .present) (stringOf a) (stringOf b)))
 
-  pub equal-strings : a .kind ≡ 2 → t ≡ (sameBytes (unfilled (a .tag)) (unfilled (b .tag)) && sameBytes (unfilled (a .text)) (unfilled (b .text)))
-      → Tells both? (compared equalPair (meaning a) (meaning b))
-  unfolding equalPair sameTagged
-  equal-strings k e = strings-told equalPair a b both? (pairs a b (view a) (view b)) k (rw e (present-where sameTagged (a .present) (b .present) (stringOf a) (stringOf b)))
-
-  pub less-strings : a .kind ≡ 2 → t ≡ stringBefore ranks (stringOf a) (stringOf b) → Tells both? (compared lessPair (meaning a) (meaning b))
-  unfolding lessPair
-  less-strings k e = strings-told lessPair a b both? (pairs a b (view a) (view b)) k (rw e (present-where (stringBefore ranks) (a .present) (b .present) (stringOf a) (stringOf b)))
-
-  module _ (k : (a .kind ≡ 3) ⊎ (a .kind ≡ 5)) (x y : ℤ) (cx : Counted a 3 x) (cy : Counted b 3 y) where
-    counted-test : (f : ℤ → ℤ → Bool) → t ≡ f (toZ w64 (ofZ w64 x)) (toZ w64 (ofZ w64 y)) → both? ≡ present f (inMillionths a) (inMillionths b)
-    counted-test f e =
-        ap (λ s. (a .present && b .present) && s) (e ∙ ap₂ f (plain x (cx .1) ∙ cx .0) (plain y (cy .1) ∙ cy .0))
-        ∙ present-where f (a .present) (b .present) (countedIn (a .kind) 3 (a .number)) (countedIn (b .kind) 3 (b .number))
-
-    pub equal-numbers : t ≡ sameNumber (toZ w64 (ofZ w64 x)) (toZ w64 (ofZ w64 y)) → Tells both? (compared equalPair (meaning a) (meaning b))
-    unfolding equalPair
-    equal-numbers e = numbers-told equalPair a b both? (pairs a b (view a) (view b)) k (counted-test sameNumber e)
-
-    pub less-numbers : t ≡ ltZ (toZ w64 (ofZ w64 x)) (toZ w64 (ofZ w64 y)) → Tells both? (compared lessPair (meaning a) (meaning b))
+    pub less-strings : a .kind ≡ 2 → t ≡ stringBefore ranks (stringOf a) (stringOf b) → Tells r (compared lessPair (meaning a) (meaning b))
     unfolding lessPair
-    less-numbers e = numbers-told lessPair a b both? (pairs a b (view a) (view b)) k (counted-test ltZ e)
+    less-strings k e =
+        strings-told lessPair a b r (pairs a b (view a) (view b)) k
+        (told ∙ rw e (present-where (stringBefore ranks) (a .present) (b .present) (stringOf a) (stringOf b)))
 
-  module _ (g : Good a) (h : Good b) (k : a .kind ≡ 4) where
-    pub equal-dateTimes : t ≡ sameNumber (toZ w64 (ofZ w64 (a .number))) (toZ w64 (ofZ w64 (b .number))) → Tells t (compared equalPair (meaning a) (meaning b))
-    unfolding equalPair
-    equal-dateTimes e = dateTimes-told equalPair a b t (pairs a b (view a) (view b)) k (e ∙ ap₂ sameNumber (plain (a .number) (g .number)) (plain (b .number) (h .number)))
+    module _ (k : (a .kind ≡ 3) ⊎ (a .kind ≡ 5)) (x y : ℤ) (cx : Counted a 3 x) (cy : Counted b 3 y) where
+      counted-test : (f : ℤ → ℤ → Bool) → t ≡ f (toZ w64 (ofZ w64 x)) (toZ w64 (ofZ w64 y)) → r ≡ present f (inMillionths a) (inMillionths b)
+      counted-test f e =
+          told ∙ (ap (toldOf (a .present && b .present)) (e ∙ ap₂ f (plain x (cx .1) ∙ cx .0) (plain y (cy .1) ∙ cy .0))
+          ∙ present-where f (a .present) (b .present) (countedIn (a .kind) 3 (a .number)) (countedIn (b .kind) 3 (b .number)))
 
-    pub less-dateTimes : t ≡ ltZ (toZ w64 (ofZ w64 (a .number))) (toZ w64 (ofZ w64 (b .number))) → Tells t (compared lessPair (meaning a) (meaning b))
-    unfolding lessPair
-    less-dateTimes e = dateTimes-told lessPair a b t (pairs a b (view a) (view b)) k (e ∙ ap₂ ltZ (plain (a .number) (g .number)) (plain (b .number) (h .number)))
+      pub equal-numbers : t ≡ sameNumber (toZ w64 (ofZ w64 x)) (toZ w64 (ofZ w64 y)) → Tells r (compared equalPair (meaning a) (meaning b))
+      unfolding equalPair
+      equal-numbers e = numbers-told equalPair a b r (pairs a b (view a) (view b)) k (counted-test sameNumber e)
 
-  module _ (n₅ : a .kind ≡ 5 → ⊥) (n₃ : a .kind ≡ 3 → ⊥) (n₄ : a .kind ≡ 4 → ⊥) (n₂ : a .kind ≡ 2 → ⊥) where
-    pub equal-uris : t ≡ sameBytes (unfilled (a .text)) (unfilled (b .text)) → Tells t (compared equalPair (meaning a) (meaning b))
-    unfolding equalPair
-    equal-uris e = uris-told equalPair a b t (pairs a b (view a) (view b)) n₅ n₃ n₄ n₂ e
+      pub less-numbers : t ≡ ltZ (toZ w64 (ofZ w64 x)) (toZ w64 (ofZ w64 y)) → Tells r (compared lessPair (meaning a) (meaning b))
+      unfolding lessPair
+      less-numbers e = numbers-told lessPair a b r (pairs a b (view a) (view b)) k (counted-test ltZ e)
 
-    pub less-uris : t ≡ before (λ n. n) (unfilled (a .text)) (unfilled (b .text)) → Tells t (compared lessPair (meaning a) (meaning b))
-    unfolding lessPair
-    less-uris e = uris-told lessPair a b t (pairs a b (view a) (view b)) n₅ n₃ n₄ n₂ e
+  -- of two that are always there
+  module _ (told : r ≡ truthOf t) where
+    module _ (g : Good a) (h : Good b) (k : a .kind ≡ 4) where
+      counted-seconds : (f : ℤ → ℤ → Bool) → t ≡ f (toZ w64 (ofZ w64 (a .number))) (toZ w64 (ofZ w64 (b .number))) → r ≡ truthOf (f (a .number) (b .number))
+      counted-seconds f e = told ∙ ap truthOf (e ∙ ap₂ f (plain (a .number) (g .number)) (plain (b .number) (h .number)))
+
+      pub equal-dateTimes : t ≡ sameNumber (toZ w64 (ofZ w64 (a .number))) (toZ w64 (ofZ w64 (b .number))) → Tells r (compared equalPair (meaning a) (meaning b))
+      unfolding equalPair
+      equal-dateTimes e = dateTimes-told equalPair a b r (pairs a b (view a) (view b)) k (counted-seconds sameNumber e)
+
+      pub less-dateTimes : t ≡ ltZ (toZ w64 (ofZ w64 (a .number))) (toZ w64 (ofZ w64 (b .number))) → Tells r (compared lessPair (meaning a) (meaning b))
+      unfolding lessPair
+      less-dateTimes e = dateTimes-told lessPair a b r (pairs a b (view a) (view b)) k (counted-seconds ltZ e)
+
+    module _ (n₅ : a .kind ≡ 5 → ⊥) (n₃ : a .kind ≡ 3 → ⊥) (n₄ : a .kind ≡ 4 → ⊥) (n₂ : a .kind ≡ 2 → ⊥) where
+      pub equal-uris : t ≡ sameBytes (unfilled (a .text)) (unfilled (b .text)) → Tells r (compared equalPair (meaning a) (meaning b))
+      unfolding equalPair
+      equal-uris e = uris-told equalPair a b r (pairs a b (view a) (view b)) n₅ n₃ n₄ n₂ (told ∙ ap truthOf e)
+
+      pub less-uris : t ≡ before (λ n. n) (unfilled (a .text)) (unfilled (b .text)) → Tells r (compared lessPair (meaning a) (meaning b))
+      unfolding lessPair
+      less-uris e = uris-told lessPair a b r (pairs a b (view a) (view b)) n₅ n₃ n₄ n₂ (told ∙ ap truthOf e)

@@ -13,7 +13,8 @@ use Rattle.definitions.specs.Bytes.{row, filled, unfilled}
 use Rattle.definitions.specs.Types.{Datatype, datatypeCode}
 use Rattle.definitions.specs.Terms.{textByte, tagByte, isInteger, isDecimal, isDateTime}
 use Rattle.definitions.specs.Outcome.{Outcome, ok, _>>=_}
-use Rattle.definitions.specs.Values.{Tagged, Pair, paired, stringIn, holdsOf, Value as Meant}
+use Rattle.definitions.specs.Values.{Tagged, Pair, paired, stringIn, truthIn, Value as Meant}
+use Rattle.definitions.specs.declared.Truth.{Truth}
 use Rattle.values.specs.declared.Value.{Value}
 
 -- what is there, or no value
@@ -59,17 +60,17 @@ pub record Gives (r : Value) (o : Outcome Meant) : Type 0 where
   pub good : Good r
   pub is : (v : Meant) → o ≡ ok v → meaning r ≡ v
 
-abbrev pub Tells : Bool → Outcome Bool → Type 0
-Tells r o = (b : Bool) → o ≡ ok b → r ≡ b
+abbrev pub Tells : {A : Type 0} → A → Outcome A → Type 0
+Tells {A} r o = (b : A) → o ≡ ok b → r ≡ b
 
 -- a test of two values with a common datatype
-unfoldable pub compared : (Pair → Bool) → Meant → Meant → Outcome Bool
+unfoldable pub compared : (Pair → Truth) → Meant → Meant → Outcome Truth
 compared test a b = do
   p ← paired a b
   ok (test p)
 
 -- a test of a string
-unfoldable pub textTest : (Tagged → Bool) → Meant → Outcome Bool
+unfoldable pub textTest : (Tagged → Bool) → Meant → Outcome Truth
 textTest test a = do
   s ← stringIn a
-  ok (holdsOf test s)
+  ok (truthIn test s)

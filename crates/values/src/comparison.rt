@@ -5,6 +5,8 @@ use crate::arithmetic::counted;
 use crate::number;
 use crate::order;
 use crate::tables;
+use definitions::Truth;
+use truth::told;
 ghost use mathlib.Core.Path.{_≡_};
 ghost use mathlib.Core.Bool.{_&&_};
 ghost use Rattle.definitions.specs.Bytes.{sameBytes, unfilled};
@@ -70,8 +72,8 @@ fn string_before(a: Value, b: Value, table: [u8; 95]) -> bool
 }
 
 // Whether two values are equal: numbers by amount, dateTimes by seconds, strings by tag and text.
-// Ruled out: integer 3 apart from decimal 3.0; two "no value" equal.
-pub fn equal(a: Value, b: Value) -> bool
+// Ruled out: integer 3 apart from decimal 3.0; false where a side has no value.
+pub fn equal(a: Value, b: Value) -> Truth
     requires { ⌜ Good a ⌝ }
     requires { ⌜ Good b ⌝ }
     ensures { λ r. ⌜ Tells r (compared equalPair (meaning a) (meaning b)) ⌝ }
@@ -79,16 +81,19 @@ pub fn equal(a: Value, b: Value) -> bool
     let kind = a.kind;
     let present = a.present & b.present;
     match kind {
-        2 => present & same_strings(a, b),
-        3 | 5 => present & number::is_same(counted(a, DECIMAL), counted(b, DECIMAL)),
-        4 => number::is_same(a.number, b.number),
-        _ => same_texts(a, b),
+        2 => told(present, same_strings(a, b)),
+        3 | 5 => told(
+            present,
+            number::is_same(counted(a, DECIMAL), counted(b, DECIMAL)),
+        ),
+        4 => told(true, number::is_same(a.number, b.number)),
+        _ => told(true, same_texts(a, b)),
     }
 }
 
 // Whether a value is less than another: strings by text, then tag, under the rank table, URIs by bytes.
 // Ruled out: string Z before string a; a text before its own beginning.
-pub fn less(a: Value, b: Value) -> bool
+pub fn less(a: Value, b: Value) -> Truth
     requires { ⌜ Good a ⌝ }
     requires { ⌜ Good b ⌝ }
     ensures { λ r. ⌜ Tells r (compared lessPair (meaning a) (meaning b)) ⌝ }
@@ -96,9 +101,12 @@ pub fn less(a: Value, b: Value) -> bool
     let kind = a.kind;
     let present = a.present & b.present;
     match kind {
-        2 => present & string_before(a, b, tables::RANKS),
-        3 | 5 => present & number::is_less(counted(a, DECIMAL), counted(b, DECIMAL)),
-        4 => number::is_less(a.number, b.number),
-        _ => text_before(a, b, tables::BYTES),
+        2 => told(present, string_before(a, b, tables::RANKS)),
+        3 | 5 => told(
+            present,
+            number::is_less(counted(a, DECIMAL), counted(b, DECIMAL)),
+        ),
+        4 => told(true, number::is_less(a.number, b.number)),
+        _ => told(true, text_before(a, b, tables::BYTES)),
     }
 }

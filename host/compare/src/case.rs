@@ -145,9 +145,9 @@ impl<'a> Case<'a> {
         if let Watch::Print = self.watch {
             print!("{}", crate::replay::describe(&made, label, self.engines));
         }
-        let (why, asked) = (self.engines[0].why(), self.engines[0].asked());
+        let (why, notes) = (self.engines[0].why(), self.engines[0].notes());
         let exact = self.history.once.is_some() && !self.history.tampered && tampering.is_none();
-        self.coverage.call(&Met { call, tamper: label, answer: &made.answers[0], why, exact, asked });
+        self.coverage.call(&Met { call, tamper: label, answer: &made.answers[0], why, exact, notes });
         judge(&made, tampering.is_some(), &mut self.history).map_err(|difference| {
             let names = self.engines.map(|engine| engine.name());
             let what = format!("{} {label}: {} and {}: {}", call.name(), names[0], names[1], difference.what);

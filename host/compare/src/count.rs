@@ -7,6 +7,7 @@ pub use coverage::Coverage;
 
 use crate::call::{Answer, Call};
 use crate::draw::is_block;
+use second::note::Note;
 use second::script::Script;
 use willetcoffer::page::records;
 use willetcoffer::{SavedRun, State};
@@ -23,15 +24,17 @@ pub struct Met<'a> {
     pub why: &'a str,
     /// Whether its steps are held to the total of a script without an each block.
     pub exact: bool,
-    /// The sorts of tags that it asked `*` about.
-    pub asked: Vec<&'static str>,
+    /// What it met on its way.
+    pub notes: Vec<Note>,
 }
 
 impl Coverage {
     /// Counts a call.
-    pub fn call(&mut self, Met { call, tamper, answer, why, exact, asked }: &Met) {
+    pub fn call(&mut self, Met { call, tamper, answer, why, exact, notes }: &Met) {
         self.add(call.name(), format!("{:02}", answer.code));
-        asked.iter().for_each(|sort| self.add("under *", *sort));
+        for (section, key) in notes.iter().map(|note| note.name()) {
+            self.add(section, key);
+        }
         if answer.code != 0 {
             self.add("reasons", format!("{} {} {why}", call.name(), answer.code));
         }

@@ -7,15 +7,16 @@ use compare::count::Coverage;
 use compare::draw::is_block;
 use second::arcs;
 use second::check::read;
-use second::eval::Fault;
+use second::eval::{Bindings, Fault, Store};
 use second::lang::LangRange;
 use second::pattern::Pattern;
 use second::refusal::{refuse, Refusal};
 use second::rules::Env;
-use second::script::{Cond, Expr, Kind, Query, Script};
+use second::script::{Block, Cond, Expr, Kind, Query, Script};
 use second::search::{Search, Task, Tuple};
 use second::seek::Seek;
 use second::terms::Terms;
+use second::truth::Truth;
 use second::types::{Datatype, Type};
 use willetcoffer::limits::{FETCHED_OFFSET, ITEMS_OFFSET, ITEM_WIDTH, SAVED_WIDTH};
 use willetcoffer::page::records;
@@ -140,6 +141,93 @@ fn wrong_searches_are_found() {
     for search in [one_too_many, from_the_start, without_types, a_quad_fewer, star_of_all, star_of_letters] {
         assert!(difference(&with("wrong", [arcs::solve; 2], Wrong(search)), 500).is_some());
     }
+}
+
+/// A search with truth tables of its own.
+struct Tables {
+    /// What a comparison or a test on no value comes to.
+    none: Truth,
+    not: fn(Truth) -> Truth,
+    and: fn(Truth, Truth) -> Truth,
+    or: fn(Truth, Truth) -> Truth,
+    /// Whether a filter holds.
+    holds: fn(Truth) -> bool,
+}
+
+/// As document 02, Ask 5, has them.
+const RIGHT: Tables =
+    Tables { none: Truth::Unknown, not: Truth::not, and: Truth::and, or: Truth::or, holds: Truth::holds };
+
+/// Tuples that it tries; past these it goes by the right tables.
+const TRIED: usize = 2_000;
+
+impl Tables {
+    fn cond(&self, store: &Store, cond: &Cond, bindings: &Bindings) -> Result<Truth, Fault> {
+        let part = |cond: &Cond| self.cond(store, cond, bindings);
+        match cond {
+            Cond::Or(a, b) => Ok((self.or)(part(a)?, part(b)?)),
+            Cond::And(a, b) => Ok((self.and)(part(a)?, part(b)?)),
+            Cond::Not(a) => Ok((self.not)(part(a)?)),
+            test => Ok(match store.cond(test, bindings)? {
+                Truth::Unknown => self.none,
+                known => known,
+            }),
+        }
+    }
+
+    fn query(&self, store: &Store, query: &Query, bindings: &Bindings) -> Result<bool, Fault> {
+        let part = |query: &Query| self.query(store, query, bindings);
+        match query {
+            Query::Both(a, b) => Ok(part(a)? & part(b)?),
+            Query::Union(a, b) => Ok(part(a)? | part(b)?),
+            Query::Filter(cond, _) => self.cond(store, cond, bindings).map(self.holds),
+            Query::Pattern(_) | Query::Empty => store.query(query, bindings),
+        }
+    }
+}
+
+impl Search for Tables {
+    fn first(&self, task: &Task) -> Result<Option<Tuple>, Fault> {
+        let any = Block { query: Query::Empty, ..task.block.clone() };
+        let mut last = task.last.map(<[u16]>::to_vec);
+        for _ in 0..TRIED {
+            let next = Seek.first(&Task { block: &any, last: last.as_deref(), ..*task })?;
+            let Some(tuple) = next else { return Ok(None) };
+            let mut bindings = *task.bindings;
+            for ((variable, _), number) in any.pairs.iter().zip(&tuple) {
+                bindings[usize::from(*variable)] = Some(*number);
+            }
+            if self.query(&task.store, &task.block.query, &bindings)? {
+                return Ok(Some(tuple));
+            }
+            last = Some(tuple);
+        }
+        Seek.first(task)
+    }
+}
+
+impl Counts for Tables {}
+
+#[test]
+fn wrong_truth_tables_are_found() {
+    let found = |tables: Tables| difference(&with("tables", [arcs::solve; 2], tables), 500).is_some();
+    assert!(!found(RIGHT));
+    // Document 01's two values: what holds no value is false.
+    assert!(found(Tables { none: Truth::False, ..RIGHT }));
+    // A filter holds unless its boolean is false.
+    assert!(found(Tables { holds: |truth| truth != Truth::False, ..RIGHT }));
+    // Not of unknown is true.
+    assert!(found(Tables { not: |truth| Truth::from(truth != Truth::True), ..RIGHT }));
+    // An unknown side makes them unknown whatever the other is.
+    fn unknown_first(a: Truth, b: Truth, known: Truth) -> Truth {
+        if [a, b].contains(&Truth::Unknown) {
+            Truth::Unknown
+        } else {
+            known
+        }
+    }
+    assert!(found(Tables { or: |a, b| unknown_first(a, b, a.or(b)), ..RIGHT }));
+    assert!(found(Tables { and: |a, b| unknown_first(a, b, a.and(b)), ..RIGHT }));
 }
 
 /// Calls that are wrong.

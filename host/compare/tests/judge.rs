@@ -33,9 +33,8 @@ fn a_refused_call_that_changes_a_table() {
 
 #[test]
 fn a_fault() {
-    // A run of no steps, which changes nothing.
     let faulty: Turn = |_, call, code, _| {
-        if let (Call::Run { budget: 0, .. }, 0) = (call, *code) {
+        if let (Call::Run { .. }, 0) = (call, *code) {
             *code = second::calls::FAULT + 3;
         }
     };
@@ -45,7 +44,7 @@ fn a_fault() {
 #[test]
 fn refusal_10_of_what_nobody_tampered_with() {
     let distrustful: Turn = |_, call, code, _| {
-        if let (Call::Run { budget: 0, .. }, 0) = (call, *code) {
+        if let (Call::Run { .. }, 0) = (call, *code) {
             *code = 10;
         }
     };

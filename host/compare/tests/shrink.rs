@@ -150,7 +150,7 @@ fn a_panic_is_cut_down() {
 #[test]
 fn the_smaller_case_is_told() {
     let wrong = Wrong(|station, call, code, _| {
-        if *call == Call::Load && kinds(&station.card.script, 0x72) > 0 && *code == 0 {
+        if *call == Call::Load && kinds(&station.card.script, 0x74) > 0 && *code == 0 {
             *code = 7;
         }
     });
@@ -170,7 +170,7 @@ fn the_smaller_case_is_told() {
         lines[0].starts_with("smaller, ") && lines[0].contains("code: 0") && lines[0].contains("code: 7"),
         "{text}"
     );
-    assert!(lines.contains(&"load") && lines.contains(&"script 7232000071"), "{text}");
+    assert!(lines.contains(&"load") && lines.contains(&"script 747171"), "{text}");
 }
 
 /// Trees are read and written back byte for byte; what is no tree is none.

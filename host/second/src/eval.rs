@@ -1,8 +1,10 @@
-//! The untyped evaluation of a query for one tuple: a boolean or one of the eight faults. All parts are evaluated.
+//! The untyped evaluation of a query for one tuple: whether it holds, or one of the eight faults. All parts are evaluated.
 
+use crate::note::{note, Note};
 use crate::script::{Cond, Expr, Name, Query};
 use crate::term::trim;
 use crate::terms::Terms;
+use crate::truth::Truth;
 use crate::types::Type;
 use crate::value::Value;
 use std::cmp::Ordering;
@@ -79,25 +81,40 @@ impl Store<'_> {
         a.compare(&b).ok_or(Fault::Comparison)
     }
 
-    /// Whether a boolean holds.
-    pub fn cond(&self, cond: &Cond, bindings: &Bindings) -> Result<bool, Fault> {
+    /// What a boolean comes to.
+    pub fn cond(&self, cond: &Cond, bindings: &Bindings) -> Result<Truth, Fault> {
+        let part = |cond: &Cond, above: Note| self.part(cond, above, bindings);
         match cond {
-            Cond::False => Ok(false),
-            Cond::True => Ok(true),
-            Cond::Or(a, b) => Ok(self.cond(a, bindings)? | self.cond(b, bindings)?),
-            Cond::And(a, b) => Ok(self.cond(a, bindings)? & self.cond(b, bindings)?),
-            Cond::Not(a) => Ok(!self.cond(a, bindings)?),
+            Cond::False => Ok(Truth::False),
+            Cond::True => Ok(Truth::True),
+            Cond::Or(a, b) => Ok(part(a, Note::Or)?.or(part(b, Note::Or)?)),
+            Cond::And(a, b) => Ok(part(a, Note::And)?.and(part(b, Note::And)?)),
+            Cond::Not(a) => Ok(part(a, Note::Not)?.not()),
             Cond::Regex(pattern, e) => match self.expr(e, bindings)? {
-                Value::Str(string) => Ok(string.is_some_and(|(_, text)| pattern.accepts(trim(&text)))),
+                Value::Str(string) => Ok(string.map(|(_, text)| pattern.accepts(trim(&text))).into()),
                 _ => Err(Fault::NoString),
             },
             Cond::LangMatches(range, e) => match self.expr(e, bindings)? {
-                Value::Str(string) => Ok(string.is_some_and(|(tag, _)| range.accepts(&tag))),
+                Value::Str(string) => Ok(string.map(|(tag, _)| range.accepts(&tag)).into()),
                 _ => Err(Fault::NoString),
             },
-            Cond::Equal(a, b) => Ok(self.compare(a, b, bindings)? == Some(Ordering::Equal)),
-            Cond::Less(a, b) => Ok(self.compare(a, b, bindings)? == Some(Ordering::Less)),
+            Cond::Equal(a, b) => Ok(self.compare(a, b, bindings)?.map(Ordering::is_eq).into()),
+            Cond::Less(a, b) => Ok(self.compare(a, b, bindings)?.map(Ordering::is_lt).into()),
         }
+    }
+
+    /// What a part comes to; unknown is noted by what stands above it.
+    fn part(&self, cond: &Cond, above: Note, bindings: &Bindings) -> Result<Truth, Fault> {
+        let truth = self.cond(cond, bindings)?;
+        if truth == Truth::Unknown {
+            note(above);
+        }
+        Ok(truth)
+    }
+
+    /// Whether a filter holds.
+    pub fn filter(&self, cond: &Cond, bindings: &Bindings) -> Result<bool, Fault> {
+        Ok(self.part(cond, Note::Filter, bindings)?.holds())
     }
 
     /// Whether a pattern's quad is stored.
@@ -123,7 +140,7 @@ impl Store<'_> {
             Query::Pattern(names) => self.pattern(names, bindings),
             Query::Both(a, b) => Ok(self.query(a, bindings)? & self.query(b, bindings)?),
             Query::Union(a, b) => Ok(self.query(a, bindings)? | self.query(b, bindings)?),
-            Query::Filter(cond, _) => self.cond(cond, bindings),
+            Query::Filter(cond, _) => self.filter(cond, bindings),
             Query::Empty => Ok(true),
         }
     }

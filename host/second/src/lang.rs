@@ -1,8 +1,8 @@
 //! Language ranges: what `langMatches` looks for in a tag.
 
 use crate::limits::TAG;
+use crate::note::{note, Note};
 use crate::term::{filled, tag_byte, trim};
-use std::cell::Cell;
 
 /// A good language range.
 #[derive(Clone, PartialEq, Eq, Debug)]
@@ -31,7 +31,7 @@ impl LangRange {
         match self {
             LangRange::AnyTag => {
                 let tag = trim(tag);
-                note(tag);
+                note(sort(tag));
                 !tag.is_empty()
             }
             LangRange::Tag(range) => match trim(tag).strip_prefix(range.as_slice()) {
@@ -42,29 +42,21 @@ impl LangRange {
     }
 }
 
-/// The sorts of tags that `*` is asked about: the empty one, one with a letter, one of hyphens only.
-pub const TAG_SORTS: [&str; 3] = ["untagged", "tagged", "hyphens only"];
-
-thread_local! {
-    /// For each sort whether `*` was asked about such a tag.
-    static ASKED: Cell<[bool; 3]> = const { Cell::new([false; 3]) };
-}
-
-fn note(tag: &[u8]) {
-    let hyphens = tag.iter().all(|b| *b == b'-');
-    let mut asked = ASKED.get();
-    asked[if tag.is_empty() { 0 } else { 1 + usize::from(hyphens) }] = true;
-    ASKED.set(asked);
-}
-
-/// The sorts of tags that `*` was asked about on this thread since this was called last, for a comparison to count.
-pub fn take_asked() -> Vec<&'static str> {
-    TAG_SORTS.into_iter().zip(ASKED.take()).filter_map(|(sort, asked)| asked.then_some(sort)).collect()
+/// The note of what `*` is asked about.
+fn sort(tag: &[u8]) -> Note {
+    if tag.is_empty() {
+        Note::Untagged
+    } else if tag.iter().all(|b| *b == b'-') {
+        Note::HyphensOnly
+    } else {
+        Note::Tagged
+    }
 }
 
 #[cfg(test)]
 mod tests {
     use super::*;
+    use crate::note::take_notes;
     use crate::term::fill;
 
     #[test]
@@ -79,19 +71,18 @@ mod tests {
     }
 
     #[test]
-    fn asked_sorts() {
+    fn sorts_of_tags() {
         let accepts = |range: &str, tag: &str| {
             let range = LangRange::read(&fill(range.as_bytes())).unwrap();
             range.accepts(&fill::<TAG>(tag.as_bytes()))
         };
-        take_asked();
+        take_notes();
         accepts("*", "--");
         accepts("*", "");
         accepts("en", "-en");
-        assert_eq!(take_asked(), ["untagged", "hyphens only"]);
+        assert_eq!(take_notes(), [Note::Untagged, Note::HyphensOnly]);
         accepts("*", "-e");
-        assert_eq!(take_asked(), ["tagged"]);
-        assert!(take_asked().is_empty());
+        assert_eq!(take_notes(), [Note::Tagged]);
     }
 
     #[test]

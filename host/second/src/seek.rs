@@ -2,8 +2,9 @@
 //!
 //! The variables are chosen in order. For each, the query is asked for the least term number, from a given one on, for
 //! which it could still hold: a pattern looks through the quads that agree with what is chosen, `both` asks its parts one
-//! after the other, `union` takes the smaller, and a filter is evaluated once all its variables are chosen. What is skipped
-//! cannot hold. Before going deeper, the variables after the next are asked too, so that a hopeless choice ends early.
+//! after the other, `union` takes the smaller, and a filter is evaluated once all its variables are chosen: it holds then or,
+//! false or unknown, never. What is skipped cannot hold. Before going deeper, the variables after the next are asked too, so
+//! that a hopeless choice ends early.
 //!
 //! It gives the same first answer as [`crate::search::Naive`] wherever that meets no fault. A fault counts as not holding.
 
@@ -103,7 +104,7 @@ impl Seeker<'_> {
             },
             Query::Filter(cond, variables) => {
                 let missing = (0..16).any(|v| variables >> v & 1 == 1 && self.chosen[v].is_none());
-                if missing || self.task.store.cond(cond, &self.chosen).unwrap_or(false) {
+                if missing || self.task.store.filter(cond, &self.chosen).unwrap_or(false) {
                     from
                 } else {
                     self.end

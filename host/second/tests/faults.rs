@@ -17,14 +17,16 @@ use second::write::*;
 
 const URI: u8 = 1;
 const INTEGER: u8 = 5;
-/// Terms: 0 is 3, 1 is u:a, 2 is "s", then p:speed 3, p:addr 4, p:name 5.
+/// Terms: 0 is 3, 1 is u:a, 2 is "s", 3 is 10^12, then p:speed 4, p:addr 5, p:name 6.
 const THREE: usize = 0;
 const A: usize = 1;
-const SPEED: usize = 3;
-const NAME: usize = 5;
+const S: usize = 2;
+const BIG: usize = 3;
+const SPEED: usize = 4;
+const NAME: usize = 6;
 
 fn listed() -> Vec<Term> {
-    vec![Term::Int(3), uri("u:a"), string("s")]
+    vec![Term::Int(3), uri("u:a"), string("s"), Term::Int(1_000_000_000_000)]
 }
 
 /// Runs an ill-typed script with its written types on the untyped machine.
@@ -86,7 +88,26 @@ fn all_parts_are_evaluated() {
     assert_eq!(where_(filter(equal(abs(con(A)), con(A)))), Err(Fault::NoNumber));
     assert_eq!(where_(pattern(con(0), con(0), con(0), con(0))), Err(Fault::Graph));
     assert_eq!(where_(pattern(con(A), con(0), con(0), con(0))), Err(Fault::Subject));
-    assert_eq!(where_(pattern(con(A), con(A), con(0), con(2))), Err(Fault::Property));
+    assert_eq!(where_(pattern(con(A), con(A), con(0), con(S))), Err(Fault::Property));
+}
+
+/// Faults go by kind and come first: no value of the wrong kind is a fault, and unknown hides none.
+#[test]
+fn faults_come_before_unknown() {
+    let over = || plus(con(BIG), con(BIG));
+    let unknown = || less(over(), con(THREE));
+    assert_eq!(where_(filter(unknown())), Ok((0, State::Waiting)));
+    assert_eq!(where_(filter(regex("", over()))), Err(Fault::NoString));
+    assert_eq!(where_(filter(lang_matches("*", over()))), Err(Fault::NoString));
+    assert_eq!(where_(filter(equal(abs(str(over())), over()))), Err(Fault::NoNumber));
+    assert_eq!(where_(filter(equal(over(), str(over())))), Err(Fault::Comparison));
+    assert_eq!(where_(filter(less(over(), con(A)))), Err(Fault::Comparison));
+    for kind in [0x52, 0x53] {
+        let parts = [unknown(), regex("", con(THREE))];
+        assert_eq!(where_(filter(node(kind, &parts))), Err(Fault::NoString));
+        let [first, second] = parts;
+        assert_eq!(where_(filter(node(kind, &[second, not(first)]))), Err(Fault::NoString));
+    }
 }
 
 /// Only tuples whose terms have the variables' types are tried, so no candidate means no fault; and a step taken before.

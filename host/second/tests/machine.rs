@@ -135,28 +135,95 @@ fn tuples_in_order_over_all_terms_in_use() {
 }
 
 #[test]
-fn now_and_no_value() {
-    let holds = |query: Bytes, now: i64| {
-        let mut s = Station::loaded(
-            terms(&[Term::Time(5), Term::Int(1_000_000_000_000), string("x")]),
-            stock(),
-            once(&[], query, success()),
-        );
-        s.run(9, now).unwrap().1 == ENDED
+fn now_is_lent() {
+    let holds = |now_is: i64| {
+        let query = filter(less(con(0), now()));
+        let mut s = Station::loaded(terms(&[Term::Time(5)]), stock(), once(&[], query, success()));
+        s.run(9, now_is).unwrap().1 == ENDED
     };
-    assert!(holds(filter(less(con(0), now())), 6) && !holds(filter(less(con(0), now())), 5));
-    let over = plus(con(1), con(1));
+    assert!(holds(6) && !holds(5));
+}
+
+fn or(a: Bytes, b: Bytes) -> Bytes {
+    node(0x52, &[a, b])
+}
+
+fn and(a: Bytes, b: Bytes) -> Bytes {
+    node(0x53, &[a, b])
+}
+
+/// Document 02, Ask 5: a comparison, a pattern or a range on no value is unknown; so is its negation, and a filter holds
+/// only on true. Terms: 0 is 10^12, 1 is "x".
+#[test]
+fn booleans_of_no_value() {
+    let holds = |cond: Bytes| {
+        let listed = terms(&[Term::Int(1_000_000_000_000), string("x")]);
+        let mut s = Station::loaded(listed, stock(), once(&[], filter(cond), success()));
+        s.run(9, 0).unwrap().1 == ENDED
+    };
+    let over = plus(con(0), con(0));
     let none = str(over.clone());
-    for cond in [
+    let (yes, no) = (|| vec![0x51], || vec![0x50]);
+    for unknown in [
         equal(over.clone(), over.clone()),
-        less(con(1), over.clone()),
+        equal(abs(over.clone()), con(0)),
+        less(con(0), over.clone()),
+        less(over.clone(), con(0)),
+        equal(minus(over.clone(), over), con(0)),
         regex("", none.clone()),
+        regex("^$", none.clone()),
         lang_matches("*", none.clone()),
-        equal(none, con(2)),
+        lang_matches("en", none.clone()),
+        equal(none.clone(), con(1)),
+        less(con(1), none),
     ] {
-        assert!(!holds(filter(cond.clone()), 0) && holds(filter(not(cond)), 0));
+        let u = || unknown.clone();
+        for cond in [u(), not(u()), not(not(u())), and(u(), yes()), and(yes(), u()), or(u(), no()), or(no(), u())] {
+            assert!(!holds(cond.clone()) && !holds(not(cond)));
+        }
+        assert!(!holds(and(u(), u())) && !holds(or(u(), u())) && !holds(or(u(), not(u()))));
+        assert!(holds(or(u(), yes())) && holds(or(yes(), u())));
+        assert!(holds(not(and(u(), no()))) && holds(not(and(no(), u()))));
     }
-    assert!(!holds(filter(equal(minus(over.clone(), over), con(1))), 0));
+}
+
+/// Locomotives by their p:addr; with 10^12 added: 10^12 + 1, 10^12, 0, 5, 4 and 2 * 10^12.
+const LOCOS: [(&str, i64); 6] = [
+    ("l:over", 1),
+    ("l:at", 0),
+    ("l:low", -1_000_000_000_000),
+    ("l:five", -999_999_999_995),
+    ("l:four", -999_999_999_996),
+    ("l:far", 1_000_000_000_000),
+];
+
+/// The locomotives whose p:addr $1 meets this. Terms: 0 g:stock, 1 is 10^12, 2 is 5, 3 is 1; then p:speed 4, p:addr 5.
+fn selected(cond: Bytes) -> Vec<&'static str> {
+    let listed = [uri("g:stock"), Term::Int(1_000_000_000_000), Term::Int(5), Term::Int(1)];
+    let query = both(pattern(con(0), var(0), con(5), var(1)), filter(cond));
+    let script = from_named(con(0), each(&[(0, 0), (1, 0)], query, success()));
+    let mut s = Station::loaded(terms(&listed), stock(), script);
+    let page = LOCOS.map(|(loco, n)| triple(&fill(loco.as_bytes()), &fill(b"p:addr"), &Term::Int(n)));
+    assert_eq!(s.page(0, &page.concat()), Ok(0));
+    assert_eq!(s.run(1, 0), Ok((1, SPENT, 0)));
+    let in_use = s.terms_in_use();
+    let name = |number: u16| LOCOS.into_iter().find(|(loco, _)| uri(loco) == in_use[usize::from(number)]).unwrap().0;
+    answers(s, 0).into_iter().map(name).collect()
+}
+
+/// Document 02, Ask 5: a negated comparison selects no locomotive whose sum went past the limit.
+#[test]
+fn a_sum_that_overflows() {
+    let sum = || plus(var(1), con(1));
+    let under_five = || less(sum(), con(2));
+    assert_eq!(selected(under_five()), ["l:low", "l:four"]);
+    assert_eq!(selected(not(under_five())), ["l:at", "l:five"]);
+    assert_eq!(selected(or(under_five(), not(under_five()))), ["l:at", "l:low", "l:five", "l:four"]);
+    let is_one = || equal(var(1), con(3));
+    assert_eq!(selected(or(not(under_five()), is_one())), ["l:over", "l:at", "l:five"]);
+    assert_eq!(selected(not(and(under_five(), is_one()))), ["l:at", "l:low", "l:five", "l:four", "l:far"]);
+    assert_eq!(selected(not(regex("^1", str(sum())))), ["l:low", "l:five", "l:four"]);
+    assert_eq!(selected(not(lang_matches("*", str(sum())))), ["l:at", "l:low", "l:five", "l:four"]);
 }
 
 /// Document 02, Ask 2: `*` stands for any tag that is there, and what it refuses are the untagged names.
@@ -169,11 +236,9 @@ fn the_star_and_untagged_names() {
     let star = lang_matches("*", var(0));
     assert_eq!(holds(star.clone()), [1, 2, 4, 5]);
     assert_eq!(holds(not(star.clone())), [0, 3]);
-    assert_eq!(holds(node(0x53, &[star, not(lang_matches("en", var(0)))])), [2, 4, 5]);
+    assert_eq!(holds(and(star, not(lang_matches("en", var(0))))), [2, 4, 5]);
     // str gives a text without a tag.
-    let of_str = lang_matches("*", str(var(0)));
-    let tested = node(0x53, &[regex("", var(0)), of_str]);
-    assert_eq!(holds(tested), []);
+    assert_eq!(holds(and(regex("", var(0)), lang_matches("*", str(var(0))))), []);
 }
 
 #[test]

@@ -72,6 +72,29 @@ fn sums_and_limits() {
     }
 }
 
+/// A result past a limit of its kind, by one or by as much as can be, is no value of that kind; at the limit it is a value.
+#[test]
+fn overflow_at_both_limits() {
+    type Kind = fn(Option<i64>) -> Value;
+    let kinds: [(Kind, i64); 2] = [(Value::Int, INTEGER), (Value::Dec, DECIMAL)];
+    let plus = |a: Value, b: Value| a.arithmetic(&b, |a, b| a + b);
+    let minus = |a: Value, b: Value| a.arithmetic(&b, |a, b| a - b);
+    for (kind, limit) in kinds {
+        let value = |n| kind(Some(n));
+        let (none, top, bottom) = (Some(kind(None)), value(limit), value(-limit));
+        assert_eq!([plus(value(limit - 1), value(1)), minus(value(limit - 1), value(-1))], [Some(top); 2]);
+        assert_eq!([plus(value(1 - limit), value(-1)), minus(value(1 - limit), value(1))], [Some(bottom); 2]);
+        assert_eq!([plus(top, value(1)), plus(value(1), top), minus(top, value(-1))], [none; 3]);
+        assert_eq!([plus(bottom, value(-1)), plus(value(-1), bottom), minus(bottom, value(1))], [none; 3]);
+        assert_eq!([plus(top, top), plus(bottom, bottom), minus(top, bottom), minus(bottom, top)], [none; 4]);
+        assert_eq!([plus(top, bottom), minus(top, top), minus(bottom, bottom)], [Some(value(0)); 3]);
+        // str and abs of such a sum, and no way back.
+        let over = kind(None);
+        assert_eq!((over.str(), over.abs(), over.str().str()), (Value::Str(None), none, Value::Str(None)));
+        assert_eq!([minus(over, over), plus(over, bottom), minus(value(0), over)], [none; 3]);
+    }
+}
+
 #[test]
 fn comparisons() {
     let compare = |a: Term, b: Term| Value::from(&a).compare(&Value::from(&b)).map(|o| o.unwrap());
@@ -92,7 +115,7 @@ fn comparisons() {
             assert_eq!(compare(*a, *b).is_some(), i == j);
         }
     }
-    // No value is neither equal nor less, also to itself; the fault comes first.
+    // No value has no order, also with itself; the fault comes first.
     assert_eq!(Value::Int(None).compare(&Value::Dec(None)), Some(None));
     assert_eq!(Value::Str(None).compare(&Value::Str(None)), Some(None));
     assert_eq!(Value::Int(None).compare(&Value::Str(None)), None);

@@ -1,5 +1,6 @@
 //! A card and its calls.
 
+use crate::kinds;
 use crate::limits::{PAGE_REPORT_WIDTH, RUN_REPORT_WIDTH, SAVED_WIDTH, TEXT_WIDTH, TOTAL_REPORT_WIDTH};
 use crate::raw;
 use crate::refusal::Refusal;
@@ -32,7 +33,7 @@ impl Card {
         let terms = terms.iter().flat_map(Term::record).copied().collect();
         let schema = schema.iter().flat_map(|(property, datatype)| {
             let body = property.uri_body().unwrap_or(&[0; TEXT_WIDTH]);
-            [&[0x21], body, &[datatype.code()]].concat()
+            [&[kinds::ENTRY], body, &[datatype.code()]].concat()
         });
         Card { terms, schema: schema.collect(), script: script.into_bytes() }
     }

@@ -35,10 +35,11 @@
 //! ```
 //!
 //! What is behind a call is proved, for every input: [`raw`] is the boundary to it, and the only place in this workspace with
-//! `unsafe`. [`limits`] names every width, limit and offset once.
+//! `unsafe`. [`limits`] names every width, limit and offset once, [`kinds`] every kind of record.
 #![deny(unsafe_code)]
 #![warn(missing_docs)]
 
+pub mod kinds;
 pub mod limits;
 pub mod page;
 #[allow(unsafe_code)]

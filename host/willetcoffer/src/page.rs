@@ -1,11 +1,12 @@
 //! Pages: a club's triples, record after record.
 
+use crate::kinds;
 use crate::limits::TEXT_WIDTH;
 use crate::term::{body_width, Term};
 
 /// The bytes of a page record of this kind, 81 to 85: kind, subject, property, and an object's body as its kind fixes it.
 pub fn record_width(kind: u8) -> Option<usize> {
-    let object = body_width(kind.checked_sub(0x70)?)?;
+    let object = body_width(kind.checked_sub(kinds::PAGE)?)?;
     Some(1 + 2 * TEXT_WIDTH + object)
 }
 
@@ -20,7 +21,7 @@ pub fn record_width(kind: u8) -> Option<usize> {
 /// # Ok::<(), Box<dyn std::error::Error>>(())
 /// ```
 pub fn triple(subject: &Term, property: &Term, object: &Term) -> Option<Vec<u8>> {
-    Some([&[object.kind() + 0x70], subject.uri_body()?, property.uri_body()?, object.body()].concat())
+    Some([&[object.kind() + kinds::PAGE], subject.uri_body()?, property.uri_body()?, object.body()].concat())
 }
 
 /// The records of a page, one after the other; at a kind that no page has, or a record that the end cuts off, the rest.

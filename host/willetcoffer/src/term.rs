@@ -1,5 +1,6 @@
 //! Terms and their records.
 
+use crate::kinds::{DATE_TIME, DECIMAL, INTEGER, STRING, URI};
 use crate::limits::{
     DECIMAL_LIMIT, INTEGER_LIMIT, NUMBER_WIDTH, SECONDS_AFTER, SECONDS_BEFORE, SLOT_WIDTH, TAG_WIDTH, TEXT_WIDTH,
 };
@@ -75,12 +76,10 @@ impl fmt::Display for BadTerm {
 
 impl Error for BadTerm {}
 
-/// Kinds of term records.
-const URI: u8 = 0x11;
-const STRING: u8 = 0x12;
-const INTEGER: u8 = 0x13;
-const DECIMAL: u8 = 0x14;
-const DATE_TIME: u8 = 0x15;
+/// Digits that a decimal has after its point, at most.
+pub const PLACES: u32 = 6;
+/// Millionths in one: a decimal counts in these.
+pub const MILLION: i64 = 10_i64.pow(PLACES);
 
 /// The bytes of a term's body that its kind fixes, for kinds 11 to 15.
 pub fn body_width(kind: u8) -> Option<usize> {
@@ -246,8 +245,8 @@ impl fmt::Display for Term {
             Value::Integer(number) => number.fmt(f),
             Value::Decimal(millionths) => {
                 let sign = if millionths < 0 { "-" } else { "" };
-                let amount = millionths.unsigned_abs();
-                let digits = format!("{sign}{}.{:06}", amount / 1_000_000, amount % 1_000_000);
+                let (whole, rest) = (millionths.abs() / MILLION, millionths.abs() % MILLION);
+                let digits = format!("{sign}{whole}.{rest:0width$}", width = PLACES as usize);
                 f.write_str(digits.trim_end_matches('0').trim_end_matches('.'))
             }
             Value::DateTime(seconds) => write!(f, "second {seconds}"),

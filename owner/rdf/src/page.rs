@@ -8,6 +8,7 @@ use std::fmt;
 use terms::{date_time, number, Prefixes};
 use willetcoffer::limits::{TAG_WIDTH, TEXT_WIDTH};
 use willetcoffer::page::triple as record;
+use willetcoffer::term::MILLION;
 use willetcoffer::{BadTerm, Term, Value};
 
 /// A page: records, and what is no record.
@@ -159,7 +160,7 @@ fn decimal(text: &str) -> Result<Term, Reason> {
     };
     let term = number(&full).map_err(Reason::Number)?;
     match term.value() {
-        Value::Integer(value) => Ok(Term::decimal(value * 1_000_000).unwrap_or(term)),
+        Value::Integer(value) => Ok(Term::decimal(value * MILLION).unwrap_or(term)),
         _ => Ok(term),
     }
 }

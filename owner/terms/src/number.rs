@@ -3,12 +3,11 @@
 use std::error::Error;
 use std::fmt;
 use willetcoffer::limits::{DECIMAL_LIMIT, INTEGER_LIMIT};
+use willetcoffer::term::{MILLION, PLACES};
 use willetcoffer::Term;
 
 /// The longest text that is read as a number.
 const LONGEST: usize = 40;
-/// A decimal counts in units of ten to the minus this.
-const PLACES: i32 = 6;
 
 /// Why a text is no number.
 #[derive(Clone, Copy, PartialEq, Eq, Debug)]
@@ -32,7 +31,7 @@ impl fmt::Display for NumberError {
             }
             NumberError::Outside { decimal: false } => write!(f, "an integer is at most {INTEGER_LIMIT} either way"),
             NumberError::Outside { decimal: true } => {
-                write!(f, "a decimal is at most {} either way", DECIMAL_LIMIT / 1_000_000)
+                write!(f, "a decimal is at most {} either way", DECIMAL_LIMIT / MILLION)
             }
             NumberError::Inexact => write!(f, "a decimal has at most {PLACES} digits after the point"),
         }
@@ -117,7 +116,7 @@ pub fn number(text: &str) -> Result<Term, NumberError> {
     if short.is_empty() {
         return if decimal { Term::decimal(0) } else { Term::integer(0) }.map_err(|_| outside);
     }
-    let power = exponent + (significant.len() - short.len()) as i32 + if decimal { PLACES } else { 0 };
+    let power = exponent + (significant.len() - short.len()) as i32 + if decimal { PLACES as i32 } else { 0 };
     if power < 0 {
         return Err(NumberError::Inexact);
     }

@@ -8,6 +8,7 @@ use std::collections::HashSet;
 use std::error::Error;
 use std::fmt;
 use terms::Prefixes;
+use willetcoffer::kinds;
 use willetcoffer::limits::{
     DEPTH_LIMIT, ENTRY_WIDTH, LANGUAGE_RANGE_WIDTH, PAIR_LIMIT, PATTERN_WIDTH, SLOT_WIDTH, TEXT_WIDTH,
 };
@@ -39,7 +40,7 @@ impl Error for BadCard {}
 /// Splits a card's bytes: the terms end before the first kind outside 11 to 15, the schema before the first other than 21.
 pub fn split(bytes: &[u8]) -> Card {
     let (terms, rest) = while_width(bytes, body_width);
-    let (schema, script) = while_width(rest, |kind| (kind == 0x21).then_some(ENTRY_WIDTH - 1));
+    let (schema, script) = while_width(rest, |kind| (kind == kinds::ENTRY).then_some(ENTRY_WIDTH - 1));
     Card { terms: terms.to_vec(), schema: schema.to_vec(), script: script.to_vec() }
 }
 
@@ -126,10 +127,10 @@ fn read_schema(bytes: &[u8]) -> Result<Vec<(Term, Datatype)>, BadCard> {
         let read = || {
             let (kind, rest) = record.split_first().filter(|_| record.len() == ENTRY_WIDTH)?;
             let mut slot = [0; SLOT_WIDTH];
-            slot[0] = 0x11;
+            slot[0] = kinds::URI;
             slot[1..1 + TEXT_WIDTH].copy_from_slice(&rest[..TEXT_WIDTH]);
             let datatype = Datatype::ALL.into_iter().find(|datatype| datatype.code() == rest[TEXT_WIDTH])?;
-            Some((Term::from_slot(&slot).filter(|_| *kind == 0x21)?, datatype))
+            Some((Term::from_slot(&slot).filter(|_| *kind == kinds::ENTRY)?, datatype))
         };
         let offset = place * ENTRY_WIDTH;
         read().ok_or_else(|| BadCard { refusal: 4, part: "schema", offset, message: "bad schema record".to_owned() })
@@ -202,11 +203,11 @@ impl Reader<'_> {
 
     fn name_of_kind(&mut self, kind: u8, start: usize) -> Result<Option<Name>, BadCard> {
         match kind {
-            0x31 => {
+            kinds::VARIABLE => {
                 let number = self.take(1)?[0];
                 Ok(Some(Name::Variable(self.legend.name(number))))
             }
-            0x32 => {
+            kinds::CONSTANT => {
                 let bytes = self.take(2)?;
                 let number = usize::from(u16::from_le_bytes([bytes[0], bytes[1]]));
                 let term = self.numbered.get(number).ok_or_else(|| self.bad(start, "no term has this number"))?;
@@ -223,10 +224,10 @@ impl Reader<'_> {
     fn script(&mut self, depth: usize) -> Read<Script> {
         let start = self.at;
         let kind = match self.kind(depth)? {
-            0x71 => Script::Success,
-            0x72 => Script::FromNamed(self.name(depth + 1)?, Box::new(self.script(depth + 1)?)),
-            0x73 => Script::Block(Box::new(self.block(depth)?)),
-            0x74 => {
+            kinds::SUCCESS => Script::Success,
+            kinds::FROM_NAMED => Script::FromNamed(self.name(depth + 1)?, Box::new(self.script(depth + 1)?)),
+            kinds::BLOCK => Script::Block(Box::new(self.block(depth)?)),
+            kinds::SEQUENCE => {
                 let (first, second) = self.two(depth, Self::script)?;
                 Script::Sequence(first, second)
             }
@@ -260,21 +261,21 @@ impl Reader<'_> {
     fn query(&mut self, depth: usize) -> Read<Query> {
         let start = self.at;
         let kind = match self.kind(depth)? {
-            0x61 => {
+            kinds::PATTERN => {
                 let below = depth + 1;
                 let names = [self.name(below)?, self.name(below)?, self.name(below)?, self.name(below)?];
                 Query::Pattern(Box::new(names))
             }
-            kind @ (0x62 | 0x63) => {
+            kind @ (kinds::BOTH | kinds::UNION) => {
                 let (a, b) = self.two(depth, Self::query)?;
-                if kind == 0x62 {
+                if kind == kinds::BOTH {
                     Query::Both(a, b)
                 } else {
                     Query::Union(a, b)
                 }
             }
-            0x64 => Query::Filter(Box::new(self.boolean(depth + 1)?)),
-            0x65 => Query::Empty,
+            kinds::FILTER => Query::Filter(Box::new(self.boolean(depth + 1)?)),
+            kinds::EMPTY => Query::Empty,
             _ => return Err(self.bad(start, "a query was expected")),
         };
         Ok(self.node(kind, start))
@@ -283,27 +284,27 @@ impl Reader<'_> {
     fn boolean(&mut self, depth: usize) -> Read<Boolean> {
         let start = self.at;
         let kind = match self.kind(depth)? {
-            kind @ (0x50 | 0x51) => Boolean::Constant(kind == 0x51),
-            kind @ (0x52 | 0x53) => {
+            kind @ (kinds::FALSE | kinds::TRUE) => Boolean::Constant(kind == kinds::TRUE),
+            kind @ (kinds::OR | kinds::AND) => {
                 let (a, b) = self.two(depth, Self::boolean)?;
-                if kind == 0x52 {
+                if kind == kinds::OR {
                     Boolean::Or(a, b)
                 } else {
                     Boolean::And(a, b)
                 }
             }
-            0x54 => Boolean::Not(Box::new(self.boolean(depth + 1)?)),
-            0x55 => {
+            kinds::NOT => Boolean::Not(Box::new(self.boolean(depth + 1)?)),
+            kinds::REGEX => {
                 let pattern = self.field(PATTERN_WIDTH)?;
                 Boolean::Regex(Box::new(self.expression(depth + 1)?), pattern)
             }
-            0x56 => {
+            kinds::LANG_MATCHES => {
                 let range = self.field(LANGUAGE_RANGE_WIDTH)?;
                 Boolean::LangMatches(Box::new(self.expression(depth + 1)?), range)
             }
-            kind @ (0x57 | 0x58) => {
+            kind @ (kinds::EQUAL | kinds::LESS) => {
                 let (a, b) = self.two(depth, Self::expression)?;
-                if kind == 0x57 {
+                if kind == kinds::EQUAL {
                     Boolean::Equal(a, b)
                 } else {
                     Boolean::Less(a, b)
@@ -317,12 +318,12 @@ impl Reader<'_> {
     fn expression(&mut self, depth: usize) -> Read<Expression> {
         let start = self.at;
         let kind = match self.kind(depth)? {
-            0x41 => Expression::Now,
-            0x42 => Expression::Str(Box::new(self.expression(depth + 1)?)),
-            0x43 => Expression::Abs(Box::new(self.expression(depth + 1)?)),
-            kind @ (0x44 | 0x45) => {
+            kinds::NOW => Expression::Now,
+            kinds::STR => Expression::Str(Box::new(self.expression(depth + 1)?)),
+            kinds::ABS => Expression::Abs(Box::new(self.expression(depth + 1)?)),
+            kind @ (kinds::PLUS | kinds::MINUS) => {
                 let (a, b) = self.two(depth, Self::expression)?;
-                if kind == 0x44 {
+                if kind == kinds::PLUS {
                     Expression::Plus(a, b)
                 } else {
                     Expression::Minus(a, b)

@@ -221,21 +221,35 @@ impl Printer<'_> {
                 let right = below(b) || matches!(b.kind, Boolean::And(..));
                 format!("{} && {}", self.within(a, below(a)), self.within(b, right))
             }
-            Boolean::Not(a) => {
-                let plain = matches!(
-                    a.kind,
-                    Boolean::Constant(_) | Boolean::Not(_) | Boolean::Regex(..) | Boolean::LangMatches(..)
-                );
-                format!("!{}", self.within(a, !plain))
-            }
+            Boolean::Not(a) => self.not(a),
             Boolean::Regex(e, pattern) => format!("regex({}, {})", self.expression(e), quoted(&pattern.kind)),
             Boolean::LangMatches(e, range) => {
                 let range = if is_bare_range(&range.kind) { range.kind.clone() } else { quoted(&range.kind) };
                 format!("langMatches({}, {range})", self.expression(e))
             }
-            Boolean::Equal(a, b) => format!("{} = {}", self.expression(a), self.expression(b)),
-            Boolean::Less(a, b) => format!("{} < {}", self.expression(a), self.expression(b)),
+            Boolean::Equal(a, b) => self.compared(a, "=", b),
+            Boolean::Less(a, b) => self.compared(a, "<", b),
         }
+    }
+
+    /// A negation; a negated comparison has a sign of its own.
+    fn not(&self, node: &Node<Boolean>) -> String {
+        match &node.kind {
+            Boolean::Equal(a, b) => self.compared(a, "!=", b),
+            Boolean::Less(a, b) => self.compared(a, ">=", b),
+            kind => {
+                let plain = match kind {
+                    Boolean::Constant(_) | Boolean::Regex(..) | Boolean::LangMatches(..) => true,
+                    Boolean::Not(a) => !matches!(a.kind, Boolean::Equal(..) | Boolean::Less(..)),
+                    _ => false,
+                };
+                format!("!{}", self.within(node, !plain))
+            }
+        }
+    }
+
+    fn compared(&self, a: &Node<Expression>, sign: &str, b: &Node<Expression>) -> String {
+        format!("{} {sign} {}", self.expression(a), self.expression(b))
     }
 
     fn within(&self, node: &Node<Boolean>, parentheses: bool) -> String {

@@ -5,9 +5,9 @@ use compare::draw::Draw;
 use text::{check, decode, parse, print, Diagnostic, Legend};
 
 /// Pieces that slips are made of.
-const PIECES: [&str; 24] = [
+const PIECES: [&str; 26] = [
     "{", "}", "(", ")", "$", "$x", "\"", "<", ">", "-", "é", ":", ";", ".", "\\", "@", "#", "&&", "select", "where",
-    "graph", "p:", "1e", "^",
+    "graph", "p:", "1e", "^", "<=", "!=",
 ];
 
 fn places_lie_in(text: &str, error: &Diagnostic) {

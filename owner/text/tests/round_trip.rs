@@ -49,6 +49,31 @@ fn under(legend: &Legend, card: &Card) -> Result<(), String> {
     }
 }
 
+/// Signs that a card does not hold: each with the card's own words for it, and as it is shown.
+#[test]
+fn signs_of_comparison() {
+    let rows = [
+        ("$x > 3", "3 < $x", "3 < $x"),
+        ("$x <= 3", "!(3 < $x)", "3 >= $x"),
+        ("$x >= 3", "!($x < 3)", "$x >= 3"),
+        ("$x != 3", "!($x = 3)", "$x != 3"),
+        ("!($x <= 3)", "!!(3 < $x)", "!(3 >= $x)"),
+        ("!!($x != 3)", "!!!($x = 3)", "!!($x != 3)"),
+        ("!!true", "!!true", "!!true"),
+        ("(-3 >= $x)", "!(-3 < $x)", "(-3 >= $x)"),
+        ("$x + 1 <= abs($x - 2)", "!(abs($x - 2) < $x + 1)", "abs($x - 2) >= $x + 1"),
+        ("$x != 3 && 4 <= $x || $x = 5", "!($x = 3) && !($x < 4) || $x = 5", "$x != 3 && $x >= 4 || $x = 5"),
+    ];
+    for (written, plain, shown) in rows {
+        let script = |filter: &str| parse(&format!("select $x: xsd:integer where {filter}")).expect(filter);
+        let encoded = encode(&script(written)).expect(written);
+        assert_eq!(encoded.card, encode(&script(plain)).expect(plain).card, "{written}");
+        let text = print(&decode(&encoded.card, &encoded.legend).expect("a card"));
+        assert_eq!(text, format!("select $x: xsd:integer\nwhere {shown}\n"));
+        assert_eq!(encode(&parse(&text).expect(&text)).expect(&text).card, encoded.card, "{text}");
+    }
+}
+
 #[test]
 fn text_and_card_of_random_scripts() {
     let legends = legends();

@@ -48,20 +48,55 @@ fn every_m_row_of_filters() {
     assert_eq!(outcome("$x, $y", "$x = $y  $y = 3", &["x", "y"]), types(&["xsd:decimal", "xsd:decimal"]));
 }
 
-/// The rows about values: a filter alone holds, so that the script ends, or does not, so that it waits.
+/// Whether a filter alone holds, so that the script ends, or does not, so that it waits.
+fn holds(filter: &str) -> bool {
+    let card = encode(&parse(&format!("select where {filter}")).expect("a script")).expect("a card").card;
+    let mut tables = Tables::new();
+    let mut saved = card.load(&mut tables).expect("it loads");
+    card.run(&tables, &mut saved, 10, 0).expect("it runs").state == State::Ended
+}
+
 #[test]
 fn the_rows_of_str() {
-    let holds = |filter: &str| {
-        let card = encode(&parse(&format!("select where {filter}")).expect("a script")).expect("a card").card;
-        let mut tables = Tables::new();
-        let mut saved = card.load(&mut tables).expect("it loads");
-        card.run(&tables, &mut saved, 10, 0).expect("it runs").state == State::Ended
-    };
     assert!(holds("str(1969-12-31T23:59:59Z) = \"1969-12-31T23:59:59Z\""));
     assert!(holds("str(2000-02-29T01:00:00+01:00) = \"2000-02-29T00:00:00Z\""));
     assert!(holds("str(now) = \"1970-01-01T00:00:00Z\""));
     assert!(holds("str(-0.50) = \"-0.5\" && str(3e0) = \"3.0\" && str(-3) = \"-3\""));
     assert!(!holds("str(3) = \"3.0\""));
+}
+
+/// Each sign of comparison on something less, equal and greater; and on a sum past its limit, where the comparison is unknown, so
+/// that neither it nor its negation holds (document 02, Ask 5).
+#[test]
+fn the_signs_of_comparison() {
+    let signs = [
+        ("=", [false, true, false]),
+        ("!=", [true, false, true]),
+        ("<", [true, false, false]),
+        ("<=", [true, true, false]),
+        (">", [false, false, true]),
+        (">=", [false, true, true]),
+    ];
+    let values = [
+        ("2", "2.5"),
+        ("-3", "2"),
+        ("\"a\"", "\"b\"@en"),
+        ("<u:a>", "<u:b>"),
+        ("2026-03-01T12:00:00Z", "2026-03-01T12:00:01Z"),
+    ];
+    let over = "1000000000000 + 1";
+    for (sign, expected) in signs {
+        for (less, more) in values {
+            let found = [(less, more), (less, less), (more, less)].map(|(a, b)| holds(&format!("({a} {sign} {b})")));
+            assert_eq!(found, expected, "{less} {sign} {more}");
+        }
+        let texts = format!("str({over}) {sign} \"3\"");
+        for unknown in [format!("{over} {sign} 3"), format!("3 {sign} {over}"), format!("{over} {sign} {over}"), texts]
+        {
+            assert!(!holds(&unknown) && !holds(&format!("!({unknown})")), "{unknown}");
+            assert!(holds(&format!("{unknown} || true")) && holds(&format!("!({unknown} && false)")), "{unknown}");
+        }
+    }
 }
 
 #[test]

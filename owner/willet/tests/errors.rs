@@ -134,9 +134,7 @@ fn refusal_6_form() {
         ("no written type", "select $x: decimal where {}\n".to_owned()),
         ("a value alone", query("$g", "graph $g { $g p:speed 3 } $g")),
         ("a condition as a value", query("$g", "abs($g = 3) < 4")),
-        ("no less or equal", query("$s", "$s <= 3")),
-        ("no greater or equal", query("$s", "$s >= 3")),
-        ("no unequal", query("$s", "$s != 3")),
+        ("two signs of comparison", query("$s", "1 < $s <= 3")),
         ("a pattern without quotes", query("$s", "regex($s, ^Mal)")),
         ("a range of a number", query("$s", "langMatches($s, 3)")),
         ("a variable in a terms line", "terms $x\nsuccess\n".to_owned()),
@@ -207,6 +205,7 @@ fn refusal_8_no_typing() {
     let scripts = [
         ("two patterns", query("$g, $s, $v", "graph $g { $s p:speed $v ;\n    p:name $v }")),
         ("a number and a text", query("$g, $s, $v", "graph $g { $s p:name $v }\n  60 < $v")),
+        ("a number and a text, negated", query("$g, $s, $v", "graph $g { $s p:name $v }\n  $v <= 60")),
         ("three places", query("$g, $s, $a, $b", "graph $g { $s p:name $a }\n  $a = $b\n  abs($b) < 3")),
         ("a page of a text", format!("{HEADER}select $y where langMatches($y, en-*)\nfrom named $y\n")),
         ("a regex on an integer", query("$g", "graph $g { $g p:addr 3 }  regex(3, \"3\")")),

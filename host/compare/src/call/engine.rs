@@ -4,7 +4,7 @@ use super::{Call, Station};
 use second::arcs;
 use second::assignments;
 use second::eval::Fault;
-use second::lang::take_asked;
+use second::note::{take_notes, Note};
 use second::printer::print_with;
 use second::rules::Env;
 use second::script::Script;
@@ -35,8 +35,8 @@ pub trait Engine {
         ""
     }
 
-    /// The sorts of tags that the last call asked `*` about, if it says so.
-    fn asked(&self) -> Vec<&'static str> {
+    /// What the last call met on its way, if it says so.
+    fn notes(&self) -> Vec<Note> {
         Vec::new()
     }
 
@@ -53,13 +53,13 @@ pub struct Second<S> {
     typers: [second::check::Typer; 2],
     search: S,
     why: Cell<&'static str>,
-    asked: RefCell<Vec<&'static str>>,
+    notes: RefCell<Vec<Note>>,
 }
 
 /// An engine with these parts: how types are worked out in loads and by the printer, and in the other calls; and how
 /// answers are found.
 pub fn with<S>(name: &'static str, typers: [second::check::Typer; 2], search: S) -> Second<S> {
-    Second { name, typers, search, why: Cell::new(""), asked: RefCell::default() }
+    Second { name, typers, search, why: Cell::new(""), notes: RefCell::default() }
 }
 
 /// The fast engine.
@@ -118,7 +118,7 @@ impl<S: Search + Counts> Engine for Second<S> {
     fn call(&self, station: &mut Station, call: &Call, report: &mut [u8]) -> u32 {
         let Station { card, term_table: terms, quad_table: quads, saved } = station;
         let inputs = [&card.terms[..], &card.schema, &card.script];
-        take_asked();
+        take_notes();
         let code = self.code(match call {
             Call::Load => self.engine(false).load(inputs, [terms, quads, saved]),
             Call::Run { budget, now, .. } => {
@@ -129,7 +129,7 @@ impl<S: Search + Counts> Engine for Second<S> {
             }
             Call::Total { .. } => self.engine(false).total(inputs, report),
         });
-        self.asked.replace(take_asked());
+        self.notes.replace(take_notes());
         code
     }
 
@@ -141,8 +141,8 @@ impl<S: Search + Counts> Engine for Second<S> {
         self.why.get()
     }
 
-    fn asked(&self) -> Vec<&'static str> {
-        self.asked.borrow().clone()
+    fn notes(&self) -> Vec<Note> {
+        self.notes.borrow().clone()
     }
 
     fn counts(&self) -> Vec<(&'static str, u64)> {

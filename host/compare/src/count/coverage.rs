@@ -1,6 +1,6 @@
 //! What was met, and whether it was met often enough.
 
-use second::lang::TAG_SORTS;
+use second::note::Note;
 use std::collections::BTreeMap;
 use std::fmt::Write;
 
@@ -12,11 +12,11 @@ pub struct Coverage {
 
 /// How often each of what is required is to be met.
 const ENOUGH: u64 = 100;
-/// Each sort of tag is to be met under `*` by one call for so many cases: 1,000 times in the gate's 50,000.
-const CASES_FOR_A_TAG: u64 = 50;
+/// What evaluation notes is to be met by one call for so many cases: each note 1,000 times in the gate's 50,000.
+const CASES_FOR_A_NOTE: u64 = 50;
 
 /// What a long enough run of so many cases has to meet, and how often: each refusal of each call, each script kind, each state, also
-/// where the total is known, each place of each blocks, each type, each sort of tag under `*`.
+/// where the total is known, each place of each blocks, each type, each note.
 fn required(cases: u64) -> Vec<(&'static str, String, u64)> {
     let mut all = Vec::new();
     let mut add = |section, keys: &[u32]| all.extend(keys.iter().map(|k| (section, format!("{k:02}"))));
@@ -36,7 +36,8 @@ fn required(cases: u64) -> Vec<(&'static str, String, u64)> {
     all.extend(willetcoffer::Type::all().map(|t| ("type", t.to_string())));
     all.extend((0x81..=0x85).map(|kind: u32| ("page record", format!("{kind:x}"))));
     let mut all: Vec<_> = all.into_iter().map(|(section, key)| (section, key, ENOUGH)).collect();
-    all.extend(TAG_SORTS.map(|sort| ("under *", sort.to_string(), cases / CASES_FOR_A_TAG)));
+    let notes = Note::ALL.map(Note::name);
+    all.extend(notes.map(|(section, key)| (section, key.to_string(), cases / CASES_FOR_A_NOTE)));
     all
 }
 

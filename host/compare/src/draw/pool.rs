@@ -5,9 +5,7 @@ use second::term::{fill, Term, Uri};
 use second::types::{Datatype, Type};
 use second::write::{entry, tagged, terms};
 use willetcoffer::limits::{DECIMAL_LIMIT, INTEGER_LIMIT, SECONDS_AFTER, SECONDS_BEFORE, TEXT_WIDTH};
-
-/// Millionths in one.
-const MILLION: i64 = 1_000_000;
+use willetcoffer::term::MILLION;
 
 /// How large a case is.
 #[derive(Clone, Copy, PartialEq, Eq, Debug)]
@@ -167,6 +165,16 @@ impl Pool {
         let some: Vec<usize> = (0..self.numbered.len().min(80)).filter(has).collect();
         let few = if rng.one_in(2) { some.len().min(3) } else { some.len() };
         some.get(rng.below(few)).copied()
+    }
+
+    /// The number of the term with the largest amount, if there is one with an amount.
+    pub fn largest(&self) -> Option<usize> {
+        let amount = |number: &usize| match self.numbered[*number] {
+            Term::Int(n) => Some(n.abs() * MILLION),
+            Term::Dec(n) => Some(n.abs()),
+            _ => None,
+        };
+        (0..self.numbered.len()).max_by_key(amount).filter(|number| amount(number).is_some())
     }
 
     /// The number of a property that ranges over a datatype at or above this one.

@@ -3,7 +3,8 @@
 use compare::call::engine::fast;
 use compare::call::{Call, Engine, Station};
 
-/// What is made of a call that the second engine has answered: of all that was lent, its number and its report.
+/// What is made of a call that the second engine has answered: of all that was lent, its number and its report. Where it
+/// makes a refusal of an answer, what was lent is put back.
 pub type Turn = fn(&mut Station, &Call, &mut u32, &mut [u8]);
 
 /// The second engine, with each call turned.
@@ -15,8 +16,13 @@ impl Engine for Wrong {
     }
 
     fn call(&self, station: &mut Station, call: &Call, report: &mut [u8]) -> u32 {
-        let mut code = fast().call(station, call, report);
+        let before = station.clone();
+        let answered = fast().call(station, call, report);
+        let mut code = answered;
         (self.0)(station, call, &mut code, report);
+        if answered == 0 && code != 0 {
+            *station = before;
+        }
         code
     }
 }

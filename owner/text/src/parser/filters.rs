@@ -17,7 +17,7 @@ fn boolean(value: Value) -> Parsed<Box<Node<Boolean>>> {
     match value {
         Value::Boolean(node) => Ok(Box::new(node)),
         Value::Expression(node) => {
-            let help = "compare it with `=`, `<` or `>`, or test it with `regex` or `langMatches`";
+            let help = "compare it with `=`, `!=`, `<`, `<=`, `>` or `>=`, or test it with `regex` or `langMatches`";
             Err(Diagnostic::new(6, node.span, "a value alone is no condition", "expected a condition").help(help))
         }
     }
@@ -92,33 +92,35 @@ impl Parser {
         Ok(Value::Boolean(Node::new(Boolean::Not(inner), span)))
     }
 
-    fn compared(&mut self) -> Parsed<Value> {
-        let left = self.sum()?;
-        let sign = match self.peek() {
-            Token::Sign(sign @ ("=" | "<" | ">")) => *sign,
-            Token::Sign(sign @ ("<=" | ">=" | "!=")) => return Err(self.not_yet(sign)),
-            _ => return Ok(left),
-        };
-        self.advance();
-        let right = self.sum()?;
-        let span = joined(left.span(), right.span());
-        let (left, right) = (expression(left)?, expression(right)?);
-        let kind = match sign {
-            "=" => Boolean::Equal(left, right),
-            "<" => Boolean::Less(left, right),
-            _ => Boolean::Less(right, left),
-        };
-        Ok(Value::Boolean(Node::new(kind, span)))
+    /// The sign of comparison that stands here.
+    fn comparison(&self) -> Option<&'static str> {
+        match self.peek() {
+            Token::Sign(sign @ ("=" | "!=" | "<" | "<=" | ">" | ">=")) => Some(sign),
+            _ => None,
+        }
     }
 
-    fn not_yet(&self, sign: &str) -> Diagnostic {
-        let instead = match sign {
-            "<=" => "`!(b < a)` for `a <= b`",
-            ">=" => "`!(a < b)` for `a >= b`",
-            _ => "`!(a = b)` for `a != b`",
+    fn compared(&mut self) -> Parsed<Value> {
+        let left = self.sum()?;
+        let Some(sign) = self.comparison() else { return Ok(left) };
+        self.advance();
+        let right = self.sum()?;
+        if self.comparison().is_some() {
+            let error = Diagnostic::new(6, self.span(), "a comparison has two sides", "not expected here");
+            return Err(error.help("join two comparisons by `&&`, as in `1 < $x && $x <= 3`"));
+        }
+        let span = joined(left.span(), right.span());
+        let (left, right) = (expression(left)?, expression(right)?);
+        let not = |kind| Boolean::Not(Box::new(Node::new(kind, span.clone())));
+        let kind = match sign {
+            "=" => Boolean::Equal(left, right),
+            "!=" => not(Boolean::Equal(left, right)),
+            "<" => Boolean::Less(left, right),
+            "<=" => not(Boolean::Less(right, left)),
+            ">" => Boolean::Less(right, left),
+            _ => not(Boolean::Less(left, right)),
         };
-        Diagnostic::new(6, self.span(), format!("there is no `{sign}` yet"), "expected `=`, `<` or `>`")
-            .help(format!("write {instead}; it is true also where a sum passes its limit"))
+        Ok(Value::Boolean(Node::new(kind, span)))
     }
 
     fn sum(&mut self) -> Parsed<Value> {

@@ -4,12 +4,16 @@ use Rattle.laws.proofs.Walked.{leaf-walked}
 use Rattle.laws.proofs.Productions.{CondAt, cond-at}
 use Rattle.query.proofs.EvalLaws.{good-value, no-truth, yes-truth, not-truth, or-truth, and-truth, regex-truth, language-truth, equal-truth, less-truth}
 use Prim.Native.Nat.{ℕ, _<_}
+use borrow.Author.Needs.{needs}
 use borrow.Fn.Kinds.{In}
 use borrow.Fn.PlainCycle.{Measures, is, falls, and}
 use Rattle.query.proofs.eval.eval_cond.Reads as eval-cond
 use Rattle.query.proofs.eval.eval_cond.Kinds as eval-cond-kinds
 use Rattle.query.proofs.eval.+eval_cond.Lts-eval_cond as lts
 use Rattle.query.proofs.eval.eval_expr.Reads as eval-expr
+use Rattle.truth.proofs.or_of.Reads as or-of
+use Rattle.truth.proofs.and_of.Reads as and-of
+use Rattle.truth.proofs.not_of.Reads as not-of
 use Rattle.values.proofs.tests.lang_matches.Reads as lang-matches
 use Rattle.values.proofs.tests.regex.Reads as regex
 use Rattle.values.proofs.comparison.equal.Reads as equal
@@ -30,6 +34,12 @@ abbrev calls : ℕ → lts.Claims
 calls t = (
   eval-cond-below t,
   eval-cond.Post,
+  or-of.Asked,
+  or-of.Learnt,
+  and-of.Asked,
+  and-of.Learnt,
+  not-of.Asked,
+  not-of.Learnt,
   eval-expr.Asked,
   eval-expr.Learnt,
   regex.Asked,
@@ -56,14 +66,23 @@ module _ (t : ℕ) where
   eval-cond-requires-2 : lts.Need-eval-cond-requires-2 (calls t) (eval-cond-at t) eval-cond.Post
   eval-cond-requires-2 c κs = let n = here (c .before .before) .or (c .before .match .keys3) in (n .falls, (n .second (c .eval-cond .ensures), start (c .before .before) .pre .1 .1))
 
+  or-of-requires : lts.Need-or-of-requires (calls t) (eval-cond-at t) eval-cond.Post
+  or-of-requires c κs = search needs
+
   eval-cond-requires-3 : lts.Need-eval-cond-requires-3 (calls t) (eval-cond-at t) eval-cond.Post
   eval-cond-requires-3 c κs = let n = here (c .before) .and (c .match .keys4) in (n .falls, (n .first, start (c .before) .pre .1 .1))
 
   eval-cond-requires-4 : lts.Need-eval-cond-requires-4 (calls t) (eval-cond-at t) eval-cond.Post
   eval-cond-requires-4 c κs = let n = here (c .before .before) .and (c .before .match .keys4) in (n .falls, (n .second (c .eval-cond3 .ensures), start (c .before .before) .pre .1 .1))
 
+  and-of-requires : lts.Need-and-of-requires (calls t) (eval-cond-at t) eval-cond.Post
+  and-of-requires c κs = search needs
+
   eval-cond-requires-5 : lts.Need-eval-cond-requires-5 (calls t) (eval-cond-at t) eval-cond.Post
   eval-cond-requires-5 c κs = let n = here (c .before) .not (c .match .keys5) in (n .falls, (n .child, start (c .before) .pre .1 .1))
+
+  not-of-requires : lts.Need-not-of-requires (calls t) (eval-cond-at t) eval-cond.Post
+  not-of-requires c κs = search needs
 
   add-text : lts.Need-add-text (calls t) (eval-cond-at t) eval-cond.Post
   add-text c = omega (arith, here (c .before) .regex (c .match .keys6) .room)
@@ -110,16 +129,16 @@ module _ (t : ℕ) where
 
   returns-3 : lts.Need-returns-3 (calls t) (eval-cond-at t) eval-cond.Post
   returns-3 c =
-      here (c .before .before .before .before .before) .or (c .before .before .before .before .match .keys3) .node (c .before .before .before .eval-cond .ensures)
-      (c .before .before .eval-cond2 .ensures) (λ a b h k. or-truth _ _ _ a h b k)
+      here (c .before .before .before .before) .or (c .before .before .before .match .keys3) .node (c .before .before .eval-cond .ensures)
+      (c .before .eval-cond2 .ensures) (λ a b h k. or-truth _ _ _ a h b k (c .or-of .ensures))
 
   returns-4 : lts.Need-returns-4 (calls t) (eval-cond-at t) eval-cond.Post
   returns-4 c =
-      here (c .before .before .before .before .before) .and (c .before .before .before .before .match .keys4) .node (c .before .before .before .eval-cond3 .ensures)
-      (c .before .before .eval-cond4 .ensures) (λ a b h k. and-truth _ _ _ a h b k)
+      here (c .before .before .before .before) .and (c .before .before .before .match .keys4) .node (c .before .before .eval-cond3 .ensures)
+      (c .before .eval-cond4 .ensures) (λ a b h k. and-truth _ _ _ a h b k (c .and-of .ensures))
 
   returns-5 : lts.Need-returns-5 (calls t) (eval-cond-at t) eval-cond.Post
-  returns-5 c = here (c .before .before .before) .not (c .before .before .match .keys5) .node (c .before .eval-cond5 .ensures) (λ a h. not-truth _ _ _ a h)
+  returns-5 c = here (c .before .before .before) .not (c .before .before .match .keys5) .node (c .before .eval-cond5 .ensures) (λ a h. not-truth _ _ _ a h (c .not-of .ensures))
 
   returns-6 : lts.Need-returns-6 (calls t) (eval-cond-at t) eval-cond.Post
   returns-6 c =
@@ -142,8 +161,8 @@ module _ (t : ℕ) where
       (λ e f h k. less-truth _ _ _ e h f k (c .less .ensures))
 
   closed : {M : Type 1} → lts.Closed (calls t) (eval-cond-at t) eval-cond.Post M
-  closed = lts.spec (calls t) (eval-cond-at t) eval-cond.Post (λ c. here c .inside) (λ c. omega (arith, here c .inside)) (λ c. here c .pos) eval-cond-requires eval-cond-requires-2
-      eval-cond-requires-3 eval-cond-requires-4 eval-cond-requires-5 add-text eval-expr-requires regex-requires add-text-2 eval-expr-requires-2 lang-matches-requires
+  closed = lts.spec (calls t) (eval-cond-at t) eval-cond.Post (λ c. here c .inside) (λ c. omega (arith, here c .inside)) (λ c. here c .pos) eval-cond-requires eval-cond-requires-2 or-of-requires
+      eval-cond-requires-3 eval-cond-requires-4 and-of-requires eval-cond-requires-5 not-of-requires add-text eval-expr-requires regex-requires add-text-2 eval-expr-requires-2 lang-matches-requires
       eval-expr-requires-3 eval-expr-requires-4 equal-requires eval-expr-requires-5 eval-expr-requires-6 less-requires returns returns-2 returns-3 returns-4 returns-5 returns-6
       returns-7 returns-8 returns-9
 

@@ -2,14 +2,14 @@
 use native.Mathlib.Omega.{arith}
 use Rattle.laws.proofs.Walked.{leaf-walked, walked-as, walked-more}
 use Rattle.laws.proofs.Productions.{QueryAt, query-at}
-use Rattle.query.proofs.EvalLaws.{pattern-holds, both-holds, union-holds, filter-holds, empty-holds}
+use Rattle.query.proofs.EvalLaws.{pattern-holds, both-holds, union-holds, empty-holds}
 use Prim.Native.Nat.{ℕ, _<_}
 use borrow.Fn.Kinds.{In}
 use borrow.Fn.PlainCycle.{Measures, is, falls, and}
 use Rattle.query.proofs.eval.eval_query.Reads as eval-query
 use Rattle.query.proofs.eval.eval_query.Kinds as eval-query-kinds
 use Rattle.query.proofs.eval.+eval_query.Lts-eval_query as lts
-use Rattle.query.proofs.eval.eval_cond.Reads as eval-cond
+use Rattle.query.proofs.eval.eval_filter.Reads as eval-filter
 use Rattle.query.proofs.names.names_at.Reads as names-at
 use Rattle.query.proofs.scan.scan.Reads as scan
 use Rattle.query.proofs.eval.+eval_query.{statement}
@@ -25,7 +25,7 @@ abbrev eval-query-below : ℕ → In 4 eval-query-kinds.ps
 eval-query-below t = and 4 eval-query-kinds.ps (falls 4 eval-query-kinds.ps _<_ μ-eval-query t) eval-query.Pre
 
 abbrev calls : ℕ → lts.Claims
-calls t = (names-at.Asked, names-at.Learnt, scan.Asked, scan.Learnt, eval-query-below t, eval-query.Post, eval-cond.Asked, eval-cond.Learnt)
+calls t = (names-at.Asked, names-at.Learnt, scan.Asked, scan.Learnt, eval-query-below t, eval-query.Post, eval-filter.Asked, eval-filter.Learnt)
 
 module _ (t : ℕ) where
   abbrev start : lts.After-shared-slice-known5 (calls t) (eval-query-at t) eval-query.Post → lts.Start (calls t) (eval-query-at t) eval-query.Post
@@ -53,8 +53,8 @@ module _ (t : ℕ) where
   eval-query-requires-4 : lts.Need-eval-query-requires-4 (calls t) (eval-query-at t) eval-query.Post
   eval-query-requires-4 c κs = let n = here (c .before .before) .union (c .before .match .keys3) in (n .falls, (n .second (c .eval-query3 .ensures), start (c .before .before) .pre .1 .1))
 
-  eval-cond-requires : lts.Need-eval-cond-requires (calls t) (eval-query-at t) eval-query.Post
-  eval-cond-requires c κs = (here (c .before) .filter (c .match .keys4) .child, start (c .before) .pre .1 .1 .0)
+  eval-filter-requires : lts.Need-eval-filter-requires (calls t) (eval-query-at t) eval-query.Post
+  eval-filter-requires c κs = (here (c .before) .filter (c .match .keys4) .child, start (c .before) .pre .1 .1 .0)
 
   returns : lts.Need-returns (calls t) (eval-query-at t) eval-query.Post
   returns c =
@@ -72,14 +72,14 @@ module _ (t : ℕ) where
       (c .before .before .eval-query4 .ensures) (λ q r h k. union-holds _ _ _ _ q r h k)
 
   returns-4 : lts.Need-returns-4 (calls t) (eval-query-at t) eval-query.Post
-  returns-4 c = here (c .before .before) .filter (c .before .match .keys4) .node (c .eval-cond .ensures) (λ d h. filter-holds _ _ _ _ d h)
+  returns-4 c = here (c .before .before) .filter (c .before .match .keys4) .node (c .eval-filter .ensures) (λ d h. h _)
 
   returns-5 : lts.Need-returns-5 (calls t) (eval-query-at t) eval-query.Post
   returns-5 c = leaf-walked (here (c .before) .empty (c .match .rest)) (empty-holds _ _ _ _)
 
   closed : {M : Type 1} → lts.Closed (calls t) (eval-query-at t) eval-query.Post M
   closed = lts.spec (calls t) (eval-query-at t) eval-query.Post (λ c. here c .inside) (λ c. omega (arith, here c .inside)) (λ c. here c .pos) names-at-requires scan-requires
-      eval-query-requires eval-query-requires-2 eval-query-requires-3 eval-query-requires-4 eval-cond-requires returns returns-2 returns-3 returns-4 returns-5
+      eval-query-requires eval-query-requires-2 eval-query-requires-3 eval-query-requires-4 eval-filter-requires returns returns-2 returns-3 returns-4 returns-5
 
 pub +eval-query-spec : {M : Type 1} → statement M
 +eval-query-spec = close μ-eval-query λ t. closed t

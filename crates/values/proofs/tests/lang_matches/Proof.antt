@@ -26,11 +26,15 @@ slice-aggregate-accepts c = search needs
 accepts-requires : tie.Need-accepts-requires
 accepts-requires c κs = (part-long _ (c .before .before .before .before .args .at) languageRangeWidth (c .before .before .before .before .pre .1), c .before .before .before .before .pre .0 .tag .size)
 
+told-requires : tie.Need-told-requires
+told-requires c κs = search needs
+
 returns : tie.Need-returns
 returns c =
-    let c₁ = c .before .before .before .before .before in
-    λ q e. tells-text (λ s. matches q (s .tag)) (c₁ .args .v) (c .accepts .result)
-    (c .accepts .ensures q (ap languageRangeOf (some-part (c₁ .args .script .now) (c₁ .args .at) languageRangeWidth) ∙ e))
+    let d = c .before in
+    let c₁ = d .before .before .before .before .before in
+    λ q e. tells-text (λ s. matches q (s .tag)) (c₁ .args .v) (d .accepts .result)
+    (d .accepts .ensures q (ap languageRangeOf (some-part (c₁ .args .script .now) (c₁ .args .at) languageRangeWidth) ∙ e)) (c .told .ensures)
 
 pub lang-matches-spec : {M : Type 1} → statement M
 lang-matches-spec =
@@ -42,4 +46,5 @@ lang-matches-spec =
     part-accepts-end
     slice-aggregate-accepts
     accepts-requires
+    told-requires
     returns)

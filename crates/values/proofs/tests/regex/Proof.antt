@@ -26,11 +26,15 @@ slice-aggregate-accepts c = search needs
 accepts-requires : tie.Need-accepts-requires
 accepts-requires c κs = part-long _ (c .before .before .before .before .args .at) patternWidth (c .before .before .before .before .pre .1)
 
+told-requires : tie.Need-told-requires
+told-requires c κs = search needs
+
 returns : tie.Need-returns
 returns c =
-    let c₁ = c .before .before .before .before .before in
-    λ q e. tells-text (λ s. accepts q (s .text)) (c₁ .args .v) (c .accepts .result)
-    (c .accepts .ensures q (ap patternOf (some-part (c₁ .args .script .now) (c₁ .args .at) patternWidth) ∙ e))
+    let d = c .before in
+    let c₁ = d .before .before .before .before .before in
+    λ q e. tells-text (λ s. accepts q (s .text)) (c₁ .args .v) (d .accepts .result)
+    (d .accepts .ensures q (ap patternOf (some-part (c₁ .args .script .now) (c₁ .args .at) patternWidth) ∙ e)) (c .told .ensures)
 
 pub regex-spec : {M : Type 1} → statement M
 regex-spec =
@@ -42,4 +46,5 @@ regex-spec =
     part-accepts-end
     slice-aggregate-accepts
     accepts-requires
+    told-requires
     returns)
