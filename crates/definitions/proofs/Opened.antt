@@ -13,6 +13,7 @@ use Rattle.definitions.specs.Outcome as Outcome
 use Rattle.definitions.specs.Truth as Truth
 use Rattle.definitions.specs.Values as Values
 use Rattle.definitions.specs.Evaluate as Evaluate
+use Rattle.definitions.specs.Evaluated as Evaluated
 use Rattle.definitions.specs.Search as Search
 use Rattle.definitions.specs.Machine as Machine
 use Rattle.definitions.specs.Saved as Saved
@@ -82,6 +83,10 @@ unfoldable pub openEvaluate : Unit {0}
 unfolding Evaluate.stored Evaluate.named Evaluate.propertyDatatype Evaluate.expression Evaluate.condition Evaluate.query
 openEvaluate = tt
 
+unfoldable pub openEvaluated : Unit {0}
+unfolding Evaluated.condRecords Evaluated.queryRecords
+openEvaluated = tt
+
 unfoldable pub openSearch : Unit {0}
 unfolding Search.fitting Search.eachInFront Search.tuples Search.after Search.first Search.bind Search.answer
 openSearch = tt
@@ -125,6 +130,6 @@ unfolding Printer.entryBody Printer.endFrom Printer.termsEnd Printer.schemaEnd P
 openPrinter = tt
 
 unfoldable pub opened : Unit {0}
-unfolding openBytes openAscii openTerms openText openReading openScope openTotal openTyping openCalendar openOutcome openTruth openValues openEvaluate openSearch openMachine
-    openSaved openSound openResult openCalls openCallList openExports openPrinter
+unfolding openBytes openAscii openTerms openText openReading openScope openTotal openTyping openCalendar openOutcome openTruth openValues openEvaluate openEvaluated openSearch
+    openMachine openSaved openSound openResult openCalls openCallList openExports openPrinter
 opened = tt

@@ -15,6 +15,7 @@ pub mod Outcome
 pub mod Truth
 pub mod Values
 pub mod Evaluate
+pub mod Evaluated
 pub mod Search
 pub mod Machine
 pub mod Saved

@@ -6,7 +6,8 @@ use mathlib.Core.Bool.{Bool, true, false, _&&_}
 use lib.Dec.{T, leb, leb→le}
 use lib.IntN.{ℤ}
 use lib.ListN.{length}
-use Rattle.definitions.specs.Limits.{budgetLimit, depthLimit, graphLimit, variableLimit}
+use Rattle.definitions.specs.Limits.{budgetLimit, depthLimit, graphLimit, variableLimit, scriptLimit}
+use Rattle.laws.proofs.Check.{check-passed, sizes}
 use Rattle.definitions.specs.Bytes.{signed}
 use Rattle.definitions.specs.Terms.{isDateTime}
 use Rattle.definitions.specs.Typing.{typeAt}
@@ -104,6 +105,9 @@ module _ (terms schema script table store : List ℕ) (saved : SavedRun)
   lends =
       lends-held l saved x tested clean e kept q sixteen places levels (sym (f .loaded))
       (record { clocked = andRight (leb budget budgetLimit) (isDateTime (signed clock)) in-range }) (f .lent clock)
+
+  pub script-short : length script ≤ scriptLimit
+  script-short = sizes terms schema script (x .checked) (check-passed terms schema script (x .checked) (tested .loads)) .2
 
   pub budget-small : budget ≤ budgetLimit
   budget-small = leb→le budget budgetLimit (andLeft (leb budget budgetLimit) (isDateTime (signed clock)) in-range)

@@ -198,7 +198,7 @@ placed-to lo hi hi′ (sequence at c d) l h = (h .0, (h .1 .0, h .1 .1, placed-t
 
 module _ (terms schema script : List ℕ) (c : Checked) (p : Passed terms schema script c) where
   -- refusal 6's limits, and the script that was read
-  sizes : (length (c .terms) ≤ termLimit) × (length (c .schema) ≤ entryLimit) × (length script ≤ scriptLimit)
+  pub sizes : (length (c .terms) ≤ termLimit) × (length (c .schema) ≤ entryLimit) × (length script ≤ scriptLimit)
   unfolding sizesFit
   sizes =
       let terms-test = leb (length (c .terms)) termLimit in

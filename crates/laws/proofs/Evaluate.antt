@@ -265,7 +265,7 @@ module _ (σ : Setting) (Γ : Typing) (loaded terms : List Term) (extends : Exte
       fine-then (expression-fine f (r .0) k₂ (in-right β (λ v. inExpr v e) (λ v. inExpr v f) i) (andRight has₁ has₂ (r .1))) λ b q.
       fine-then (paired-fine (r .0) a b p q) λ x y. fine tt
 
-  condition-fine : (c : Cond) → CondBounded (length loaded) c → BoundIn β (λ v. inCond v c) → T (condTyped constants Γ c)
+  pub condition-fine : (c : Cond) → CondBounded (length loaded) c → BoundIn β (λ v. inCond v c) → T (condTyped constants Γ c)
       → Fine Any (condition σ terms quads β c)
   unfolding condition inCond condTyped
   condition-fine Cond.no k i h = fine tt

@@ -42,6 +42,7 @@ pub mod Reported
 pub mod SoundIn
 pub mod Walked
 pub mod Productions
+pub mod Ends
 pub mod RecordsAt
 pub mod Fields
 pub mod SlotAt

@@ -28,31 +28,31 @@ abbrev pub Reads : {A : Type 0} → (A → ℕ → Type 0) → Got A → Type 0
 Reads {A} P o = (a : A) (n : ℕ) → o ≡ some (a, n) → P a n
 
 module _ {A : Type 0} (P : A → ℕ → Type 0) where
-  none-reads : Reads P none
+  pub none-reads : Reads P none
   none-reads a n e = absurd (some-not-none e refl)
 
-  leaf-reads : (a : A) (n : ℕ) → P a n → Reads P (some (a, n))
+  pub leaf-reads : (a : A) (n : ℕ) → P a n → Reads P (some (a, n))
   leaf-reads a n h b m e = subst (λ (p : A × ℕ). P (p .0) (p .1)) (some-is e) h
 
-  provided-reads : (t : Bool) (o : Got A) → (T t → Reads P o) → Reads P (provided t o)
+  pub provided-reads : (t : Bool) (o : Got A) → (T t → Reads P o) → Reads P (provided t o)
   provided-reads t o h a n e = let i = provided-inv t o e in h (i .0) a n (i .1)
 
-  onward-reads : {B : Type 0} (o : Option B) (f : B → Got A) → ((b : B) → o ≡ some b → Reads P (f b)) → Reads P (onward o f)
+  pub onward-reads : {B : Type 0} (o : Option B) (f : B → Got A) → ((b : B) → o ≡ some b → Reads P (f b)) → Reads P (onward o f)
   onward-reads o f h a n e = let i = onward-inv o f e in h (i .0) (i .1) a n (i .2)
 
 module _ {A B : Type 0} (P : A → ℕ → Type 0) (Q : B → ℕ → Type 0) where
-  then-reads : (o : Got A) (f : A → ℕ → Got B) → Reads P o → ((a : A) (n : ℕ) → P a n → Reads Q (f a n)) → Reads Q (andThen o f)
+  pub then-reads : (o : Got A) (f : A → ℕ → Got B) → Reads P o → ((a : A) (n : ℕ) → P a n → Reads Q (f a n)) → Reads Q (andThen o f)
   unfolding andThen
   then-reads none f h k = none-reads Q
   then-reads (some p) f h k = k (p .0) (p .1) (h (p .0) (p .1) refl)
 
-  one-reads : (f : A → B) (o : Got A) → Reads P o → ((a : A) (n : ℕ) → P a n → Q (f a) n) → Reads Q (oneOf f o)
+  pub one-reads : (f : A → B) (o : Got A) → Reads P o → ((a : A) (n : ℕ) → P a n → Q (f a) n) → Reads Q (oneOf f o)
   unfolding oneOf
   one-reads f o h k = then-reads o (λ a n. some (f a, n)) h (λ a n x. leaf-reads Q (f a) n (k a n x))
 
 -- the second child begins where the first ends
 module _ {A B C : Type 0} (P : A → ℕ → Type 0) (R : ℕ → B → ℕ → Type 0) (Q : C → ℕ → Type 0) (q : ℕ → Got B) (hq : (m : ℕ) → Reads (R m) (q m)) where
-  two-reads : (f : A → B → C) (p : ℕ → Got A) (at : ℕ) → Reads P (p at)
+  pub two-reads : (f : A → B → C) (p : ℕ → Got A) (at : ℕ) → Reads P (p at)
       → ((a : A) (m : ℕ) (b : B) (n : ℕ) → P a m → R m b n → Q (f a b) n) → Reads Q (twoOf f p q at)
   unfolding twoOf
   two-reads f p at h k = then-reads P Q (p at) (λ a m. oneOf (f a) (q m)) h (λ a m x. one-reads (R m) Q (f a) (q m) (hq m) (λ b n y. k a m b n x y))
@@ -112,7 +112,7 @@ module _ (terms : ℕ) where
 -- ── names, expressions, booleans, queries ───────────────────────────────────────────────────
 
 -- past the end nothing is read
-inside : {A S : Type 0} (P : A → ℕ → Type 0) (s : List ℕ) (at : ℕ) (rows : List (ℕ × S)) (other : S) (f : S → Got A)
+pub inside : {A S : Type 0} (P : A → ℕ → Type 0) (s : List ℕ) (at : ℕ) (rows : List (ℕ × S)) (other : S) (f : S → Got A)
     → f (row 0 rows other) ≡ none → (at < length s → Reads P (f (row (byte s at) rows other))) → Reads P (f (row (byte s at) rows other))
 inside P s at rows other f nothing h = ⊎-elim (λ l. rw (byte-out s at l, nothing) (none-reads P)) h (split (length s) at)
 

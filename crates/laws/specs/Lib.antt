@@ -6,6 +6,7 @@ pub mod Quads
 pub mod Valid
 pub mod Typings
 pub mod Walks
+pub mod Ends
 pub mod ReadAnswers
 pub mod Records
 pub mod ScriptReads

@@ -1,4 +1,4 @@
--- Laws of a block's answer: what the search is given stands for the block on top, and what it finds is the machine's answer.
+-- Laws of a block's answer: what the search is given stands for the block on top, what it finds is the machine's answer, and a tuple tried comes to the machine's outcome.
 use Prim.Native.Nat.{ℕ, zero, suc, _+_, _-_, _*_, _≤_, _<_}
 use native.Mathlib.Omega.{arith}
 use mathlib.Core.Path.{_≡_, refl, ap, sym, subst, fun-ext, _∙_}
@@ -7,10 +7,10 @@ use mathlib.Core.Bool.{Bool, true, false, cond, _&&_}
 use mathlib.Core.Option.{Option, none, some}
 use mathlib.Core.Logic.{⊎-elim}
 use lib.Dec.{T, eqb, eqb→eq, eqb-refl, ltb, ltb→lt}
-use lib.ListN.{length, getD, take, replicate, List·getD-eq-default}
+use lib.ListN.{length, getD, take, replicate, List·getD-eq-default, length-map}
 use borrow.Author.Tests.{lt-ltb, le-ltb}
 use Rattle.definitions.specs.Limits.{variableLimit, pairLimit, termLimit}
-use Rattle.definitions.specs.Lists.{every, isIn}
+use Rattle.definitions.specs.Lists.{every, isIn, distinct}
 use Rattle.definitions.specs.Bytes.{byte, filled, onward}
 use Rattle.definitions.specs.Types.{typeOfCode}
 use Rattle.definitions.specs.Terms.{Term, Schema}
@@ -19,8 +19,9 @@ use Rattle.definitions.specs.Reading.{readQuery, binderAt, bindersAt, writtenOf
 use Rattle.definitions.specs.Scope.{variables, variablesOf}
 use Rattle.definitions.specs.Typing.{typeAt}
 use Rattle.definitions.specs.Outcome.{ok}
-use Rattle.definitions.specs.Evaluate.{Setting, Bindings, Quad}
-use Rattle.definitions.specs.Search.{Typing, Tuple, answer}
+use Rattle.definitions.specs.Evaluate.{Setting, Bindings, Quad, query}
+use Rattle.definitions.specs.Evaluated.{queryRecords}
+use Rattle.definitions.specs.Search.{Typing, Tuple, answer, bind}
 use Rattle.definitions.specs.Machine.{Control, State, answerNow}
 use Rattle.definitions.specs.Saved.{isBound, numberOrZero, savedItem, savedControl, hasTuple, lastNumbers}
 use Rattle.definitions.specs.Sound.{lastSound}
@@ -43,16 +44,19 @@ use Rattle.laws.proofs.Levels.{query-more}
 use Rattle.laws.proofs.SoundMeans.{ItemFacts, Facts, facts}
 use Rattle.query.specs.Codes.{soughtCode, freeCode, numberAt, bindingsOf}
 use Rattle.query.specs.declared.Context.{Context}
+use Rattle.query.specs.StoreLent.{settingIn}
 use Rattle.search.specs.Ready.{Ready}
-use Rattle.search.proofs.AtBlock.{block-ready, world, answer-now}
+use Rattle.search.proofs.AtBlock.{block-apart, block-ready, world, answer-now}
 use Rattle.search.specs.Finding.{numbersFrom, tupleOf, lastOf, World, AnswerOf}
+use Rattle.search.specs.Trying.{tupleFits, TriedOf}
+use Rattle.search.specs.declared.Tried.{Tried}
 use Rattle.search.specs.declared.Block.{Block}
 use Rattle.search.specs.declared.Found.{Found}
 use Rattle.laws.specs.Pairs.{pairVariables}
 use Rattle.store.specs.Stack.{topOf}
 use Rattle.machine.specs.Steps.{answerOf}
 use Rattle.machine.specs.Answers.{knownCode, knownOf, pairNumbers, typesOf, fourOf, blockOf, shortNumber, shortNumbers}
-use Rattle.machine.specs.Running.{Lends, Top, onTop, setting, typing, AnswersNow}
+use Rattle.machine.specs.Running.{Lends, Top, onTop, setting, typing, AnswersNow, TriesNow}
 use Rattle.store.proofs.ControlStates.{saved-top}
 use Rattle.machine.proofs.StepLaws.{run-is, room, item-facts, Blocked, blocked}
 use Rattle.laws.proofs.Reported.{type-reported}
@@ -198,6 +202,36 @@ last-is terms at size true bs q c (some t) h e =
     let n : size ≡ length t = e ∙ sym (eqb→eq (length t) (length bs) (andLeft sized (every (λ i. ltb i terms) t) h)) in
     ap some (ap (λ (m : ℕ). numbersFrom m (t ++ replicate (pairLimit - length t) 0) 0) n ∙ numbers-front t (replicate (pairLimit - length t) 0))
 
+-- ── a tuple to try ──────────────────────────────────────────────────────────────────────────
+
+four-is : (l : List ℕ) → length l ≡ 4 → fourOf l ≡ l
+four-is [] e = absurd (omega arith)
+four-is (a ∷ []) e = absurd (omega arith)
+four-is (a ∷ b ∷ []) e = absurd (omega arith)
+four-is (a ∷ b ∷ c ∷ []) e = absurd (omega arith)
+four-is (a ∷ b ∷ c ∷ d ∷ []) e = refl
+four-is (a ∷ b ∷ c ∷ d ∷ x ∷ l) e = absurd (omega arith)
+
+-- of four numbers those past the variables do not matter
+bind-front : (l vs : List ℕ) → length vs ≤ 4 → (β : Bindings) → bind vs (numbersFrom (length vs) (fourOf l) 0) β ≡ bind vs (fourOf l) β
+unfolding bind numbersFrom
+bind-front l [] h β = refl
+bind-front l (v ∷ []) h β = refl
+bind-front l (v ∷ w ∷ []) h β = refl
+bind-front l (v ∷ w ∷ x ∷ []) h β = refl
+bind-front l (v ∷ w ∷ x ∷ y ∷ []) h β = refl
+bind-front l (v ∷ w ∷ x ∷ y ∷ z ∷ vs) h β = absurd (omega arith)
+
+fits-front : (S : Schema) (Γ : Typing) (terms : List Term) (l vs : List ℕ) → length vs ≤ 4
+    → tupleFits S Γ terms vs (numbersFrom (length vs) (fourOf l) 0) ≡ tupleFits S Γ terms vs (fourOf l)
+unfolding tupleFits numbersFrom
+fits-front S Γ terms l [] h = refl
+fits-front S Γ terms l (v ∷ []) h = refl
+fits-front S Γ terms l (v ∷ w ∷ []) h = refl
+fits-front S Γ terms l (v ∷ w ∷ x ∷ []) h = refl
+fits-front S Γ terms l (v ∷ w ∷ x ∷ y ∷ []) h = refl
+fits-front S Γ terms l (v ∷ w ∷ x ∷ y ∷ z ∷ vs) h = absurd (omega arith)
+
 -- ── the numbers found ───────────────────────────────────────────────────────────────────────
 
 fits-low : (S : Schema) (Γ : Typing) (terms : List Term) → length terms ≤ termLimit → (vs t : List ℕ) → Fits S Γ terms vs t → All (λ i. i < soughtCode) t
@@ -342,6 +376,37 @@ module _ {script table quads leasts : List ℕ} {x : Context} {run : SavedContro
           answer-now c (w .here .accepted) s (w .here .sound) (w .scope) (t .stack) is script (w .told) (w .lent) seen (b .reads .reads .next) read-here (b .four) block-small typed-here
           free started r vars-are known-now
 
+      -- what trying promises, in the machine's terms
+      tried : (r : Tried) → length used ≡ 4 → TriedOf world-here free (fourOf used) 0 r
+          → let β = bind (variablesOf bs) used (s .control .bindings) in
+          (r .fits ≡ tupleFits (c .schema) (typeAt (c .types)) (s .store .terms) (variablesOf bs) used)
+          × (r .fits ≡ true → (query (setting w) (s .store .terms) (s .store .quads) β q ≡ ok (r .holds)) × (r .records ≡ queryRecords (setting w) (s .store .terms) (s .store .quads) β q))
+      unfolding settingIn
+      tried r four h =
+          let vs = variablesOf bs in
+          let β = s .control .bindings in
+          let all : n - 0 ≡ n = omega arith in
+          let size : n ≡ length vs = size-is ∙ sym (length-map bs (λ (b : Binder). b .variable)) in
+          let few : length vs ≤ 4 = omega (arith, b .four, size) in
+          let vars : numbersFrom (n - 0) (pairNumbers script at) 0 ≡ vs = ap (λ (m : ℕ). numbersFrom m (pairNumbers script at) 0) all ∙ vars-are in
+          let numbers : numbersFrom (n - 0) (fourOf used) 0 ≡ numbersFrom (length vs) (fourOf used) 0 = ap (λ (m : ℕ). numbersFrom m (fourOf used) 0) (all ∙ size) in
+          let whole = four-is used four in
+          let bound : bind vs (numbersFrom (length vs) (fourOf used) 0) β ≡ bind vs used β = bind-front used vs few β ∙ ap (λ (l : List ℕ). bind vs l β) whole in
+          let fit = fits-front (c .schema) (typeAt (c .types)) (s .store .terms) used vs few ∙ ap (tupleFits (c .schema) (typeAt (c .types)) (s .store .terms) vs) whole in
+          let g₁ : Given vs (bindingsOf free) (numbersFrom (n - 0) (fourOf used) 0) = subst (λ (y : List ℕ). Given y (bindingsOf free) (numbersFrom (n - 0) (fourOf used) 0)) vars h in
+          let g₂ : Given vs β (numbersFrom (n - 0) (fourOf used) 0) = subst (λ (δ : Bindings). Given vs δ (numbersFrom (n - 0) (fourOf used) 0)) known-now g₁ in
+          let g = subst (Given vs β) numbers g₂ (block-apart (w .scope) (item-here .inRoot)) ready in
+          (g .0 ∙ fit, λ e. subst Comes bound (g .1 e))
+        where
+          Comes : Bindings → Type 0
+          Comes δ =
+              (query (setting w) (s .store .terms) (s .store .quads) δ q ≡ ok (r .holds)) × (r .records ≡ queryRecords (setting w) (s .store .terms) (s .store .quads) δ q)
+
+          Given : List ℕ → Bindings → Tuple → Type 0
+          Given vs δ t =
+              T (distinct eqb vs) → Ready (c .schema) (typeAt (c .types)) (s .store .terms) δ vs q
+              → (r .fits ≡ tupleFits (c .schema) (typeAt (c .types)) (s .store .terms) vs t) × (r .fits ≡ true → Comes (bind vs t δ))
+
     pub answers-now : (started : Bool) (item : SavedItem) → item ≡ topOf run → started ≡ item .started → used ≡ item .last
         → (r : Found) → ((y : World script table quads leasts x seen) → AnswerOf y free started r)
         → (tuple : List ℕ) → tuple ≡ shortNumbers (r .tuple) → AnswersNow w t (r .found) tuple
@@ -372,3 +437,11 @@ module _ {script table quads leasts : List ℕ} {x : Context} {run : SavedContro
           answers-now started item i f g r
           (subst (λ (k : List ℕ). (y : World script table quads leasts x seen) → AnswerOf y k started r) e
           (subst (λ (z : Block). (y : World script table quads leasts x z) → AnswerOf y known started r) made h))
+
+      pub tries-given : length used ≡ 4 → (known : List ℕ) → known ≡ free → (numbers : List ℕ) → numbers ≡ fourOf used
+          → (r : Tried) → ((y : World script table quads leasts x block) → TriedOf y known numbers 0 r) → TriesNow w t used r
+      tries-given four known e numbers f r h each bs q d is =
+          tried each bs q d is r four
+          (subst (λ (k : List ℕ). (y : World script table quads leasts x seen) → TriedOf y k (fourOf used) 0 r) e
+          (subst (λ (l : List ℕ). (y : World script table quads leasts x seen) → TriedOf y known l 0 r) f
+          (subst (λ (z : Block). (y : World script table quads leasts x z) → TriedOf y known numbers 0 r) made h)) (world-here each bs q d is))

@@ -2,7 +2,7 @@
 use Prim.Native.Nat.{ℕ, _+_}
 use mathlib.Core.Path.{_≡_}
 use mathlib.Core.List.{List, [], _∷_}
-use mathlib.Core.Bool.{Bool, false}
+use mathlib.Core.Bool.{Bool, true, false}
 use lib.Dec.{T}
 use lib.ListN.{length}
 use Rattle.definitions.specs.Limits.{variableLimit}
@@ -11,8 +11,9 @@ use Rattle.definitions.specs.Tree.{Script, block, Binder, Query}
 use Rattle.definitions.specs.Scope.{variablesOf, inScope}
 use Rattle.definitions.specs.Typing.{typeAt}
 use Rattle.definitions.specs.Outcome.{ok}
-use Rattle.definitions.specs.Evaluate.{Setting}
-use Rattle.definitions.specs.Search.{Typing}
+use Rattle.definitions.specs.Evaluate.{Setting, query}
+use Rattle.definitions.specs.Evaluated.{queryRecords}
+use Rattle.definitions.specs.Search.{Typing, Tuple, bind}
 use Rattle.definitions.specs.Machine.{Item, Next, Run, act, answerNow, isEachBlock, lastOf, look, next}
 use Rattle.definitions.specs.Machine as Machine
 use Rattle.definitions.specs.Saved.{offsetOf, savedControl, savedStore}
@@ -22,6 +23,8 @@ use Rattle.definitions.specs.declared.SavedControl.{SavedControl}
 use Rattle.definitions.specs.declared.SavedStore.{SavedStore}
 use Rattle.query.specs.declared.Context.{Context}
 use Rattle.query.specs.StoreLent.{Told, StoreLent}
+use Rattle.search.specs.Trying.{tupleFits}
+use Rattle.search.specs.declared.Tried.{Tried}
 use Rattle.machine.specs.declared.Stepped.{Stepped}
 use Rattle.machine.specs.declared.Stopped.{Stopped}
 use Rattle.machine.specs.Steps.{Standing, OnTop, answerOf, steppedOf}
@@ -74,6 +77,16 @@ module _ {script table quads leasts : List ℕ} {x : Context} {run : SavedContro
       (each : Bool) (bs : List Binder) (q : Query) (c : Script) → t .item .script ≡ block at each bs q c
       → answerNow setting typing (w .here .state) (variablesOf bs) q (t .item .last)
       ≡ ok (answerOf found (byte script (at + 2)) tuple)
+
+  -- a tuple tried on the query of the block on top: whether it fits the block's variables, and what the query then comes to
+  abbrev pub TriesNow : {at : ℕ} → Top (w .here) at → Tuple → Tried → Type 0
+  TriesNow {at} t tuple r =
+      (each : Bool) (bs : List Binder) (q : Query) (c : Script) → t .item .script ≡ block at each bs q c
+      → let s = w .here .state in
+      let β = bind (variablesOf bs) tuple (s .control .bindings) in
+      (r .fits ≡ tupleFits (w .here .checked .schema) typing (s .store .terms) (variablesOf bs) tuple)
+      × (r .fits ≡ true → (query setting (s .store .terms) (s .store .quads) β q ≡ ok (r .holds))
+      × (r .records ≡ queryRecords setting (s .store .terms) (s .store .quads) β q))
 
   -- the machine meets no fault, and its step is this
   pub record StepOf (r : Stepped) : Type 0 where

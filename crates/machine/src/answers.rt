@@ -1,4 +1,4 @@
-// A block's answer: what the search is given, and what it finds.
+// A block's answer: what the search is given, and what it finds; and one tuple tried on a block's query.
 use crate::Answered;
 use definitions::SavedControl;
 use fields::numbers::index;
@@ -6,15 +6,18 @@ use fields::numbers::number_index;
 use query::Context;
 use query::FREE;
 use search::Block;
+use search::Tried;
 use search::answer::answer;
+use search::trying::try_tuple;
 use store::stack::top;
 ghost use mathlib.Core.Path.{_≡_};
+ghost use Rattle.laws.specs.Ends.{EndsLent};
 ghost use mathlib.Core.Bool.{cond};
 ghost use Prim.Native.Nat.{ℕ, _+_, _≤_, _<_};
 ghost use lib.ListN.{length, getD};
 ghost use Rattle.definitions.specs.Bytes.{byte, past};
 ghost use Rattle.machine.specs.Answers.{knownOf, pairNumbers, typesOf, fourOf, blockOf, shortNumber, shortNumbers};
-ghost use Rattle.machine.specs.Running.{Lends, Top, AnswersNow};
+ghost use Rattle.machine.specs.Running.{Lends, Top, AnswersNow, TriesNow};
 ghost use Rattle.definitions.specs.Limits.{blockWidth, variableLimit};
 use definitions::DEPTH_LIMIT;
 use definitions::PAIR_LIMIT;
@@ -136,6 +139,7 @@ fn block_of(
 pub fn block_answer(
     run: SavedControl,
     script: &[u8],
+    ends: &[u16],
     context: Context,
     at: usize,
     table: &[u8],
@@ -144,6 +148,7 @@ pub fn block_answer(
 ) -> Answered
     requires { ⌜ ((w : Lends (now script) (now table) (now quads) (now leasts) context run) × Top (w .here) at) ⌝ }
     requires { ⌜ byte (now script) at ≡ 0x73 ⌝ }
+    requires { ⌜ EndsLent (now script) (now ends) ⌝ }
     ensures { λ r. ⌜ ((w : Lends (now (script .entry)) (now (table .entry)) (now (quads .entry)) (now (leasts .entry)) context run) (t : Top (w .here) at) → AnswersNow w t (r .found) (r .tuple)) ⌝ }
 {
     let item = top(run);
@@ -154,11 +159,59 @@ pub fn block_answer(
     let used = item.last;
     let block = block_of(script, at, reported, used);
     let free = known_of(bound, bindings);
-    let found = answer(script, context, block, table, quads, leasts, free, started);
+    let found = answer(
+        script,
+        ends,
+        context,
+        block,
+        table,
+        quads,
+        leasts,
+        free,
+        started,
+    );
     let numbers = found.tuple;
     let tuple = short_numbers(numbers);
     Answered {
         found: found.found,
         tuple,
     }
+}
+
+// One tuple tried on the query of the block on top, with the run's other bindings; numbers past the block's count are passed over.
+// Ruled out: the first variable kept as it was bound; a variable that is not bound taken for bound.
+pub fn try_top(
+    run: SavedControl,
+    script: &[u8],
+    ends: &[u16],
+    context: Context,
+    at: usize,
+    table: &[u8],
+    quads: &[u16],
+    leasts: &[u8],
+    tuple: [u16; PAIR_LIMIT],
+) -> Tried
+    requires { ⌜ ((w : Lends (now script) (now table) (now quads) (now leasts) context run) × Top (w .here) at) ⌝ }
+    requires { ⌜ byte (now script) at ≡ 0x73 ⌝ }
+    requires { ⌜ EndsLent (now script) (now ends) ⌝ }
+    ensures { λ r. ⌜ ((w : Lends (now (script .entry)) (now (table .entry)) (now (quads .entry)) (now (leasts .entry)) context run) (t : Top (w .here) at) → TriesNow w t tuple r) ⌝ }
+{
+    let reported = run.types;
+    let bound = run.bound;
+    let bindings = run.bindings;
+    let block = block_of(script, at, reported, tuple);
+    let known = known_of(bound, bindings);
+    let numbers = wide_numbers(tuple);
+    try_tuple(
+        script,
+        ends,
+        context,
+        block,
+        table,
+        quads,
+        leasts,
+        known,
+        numbers,
+        0,
+    )
 }

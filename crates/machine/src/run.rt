@@ -10,11 +10,17 @@ use crate::acts::enter_sequence;
 use crate::acts::stands;
 use crate::answers::block_answer;
 use definitions::RunState;
+use definitions::SCRIPT_LIMIT;
 use definitions::SavedControl;
 use definitions::SavedStore;
+use ends::fill_ends;
 use query::Context;
 use store::stack::top;
 ghost use mathlib.Core.Path.{_≡_};
+ghost use Prim.Native.Nat.{_≤_};
+ghost use lib.ListN.{length};
+ghost use Rattle.definitions.specs.Limits.{scriptLimit};
+ghost use Rattle.laws.specs.Ends.{EndsLent};
 ghost use Rattle.definitions.specs.Bytes.{byte};
 ghost use Rattle.machine.specs.Steps.{Standing};
 ghost use Rattle.machine.specs.Running.{Lends, LendsStore, Top, ActsNow, StepOf, LookOf, RunOf, eachOn};
@@ -23,6 +29,7 @@ ghost use Rattle.machine.specs.Running.{Lends, LendsStore, Top, ActsNow,
 fn enter_block(
     run: SavedControl,
     script: &[u8],
+    ends: &[u16],
     context: Context,
     at: usize,
     table: &[u8],
@@ -31,10 +38,11 @@ fn enter_block(
 ) -> Stepped
     requires { ⌜ ((w : Lends (now script) (now table) (now quads) (now leasts) context run) × Top (w .here) at) ⌝ }
     requires { ⌜ byte (now script) at ≡ 0x73 ⌝ }
+    requires { ⌜ EndsLent (now script) (now ends) ⌝ }
     ensures { λ r. ⌜ ((w : Lends (now (script .entry)) (now (table .entry)) (now (quads .entry)) (now (leasts .entry)) context run) (t : Top (w .here) at) → ActsNow w t r) ⌝ }
 {
     let loaded = context.loaded;
-    let answer = block_answer(run, script, context, at, table, quads, leasts);
+    let answer = block_answer(run, script, ends, context, at, table, quads, leasts);
     let found = answer.found;
     let tuple = answer.tuple;
     let body = block_body(script, loaded, at);
@@ -52,12 +60,14 @@ pub fn step(
     run: SavedControl,
     store: SavedStore,
     script: &[u8],
+    ends: &[u16],
     context: Context,
     table: &[u8],
     quads: &[u16],
     leasts: &[u8],
 ) -> Stepped
     requires { ⌜ LendsStore (now script) (now table) (now quads) (now leasts) context run store ⌝ }
+    requires { ⌜ EndsLent (now script) (now ends) ⌝ }
     ensures { λ r. ⌜ ((w : LendsStore (now (script .entry)) (now (table .entry)) (now (quads .entry)) (now (leasts .entry)) context run store) → StepOf (w .lends) r) ⌝ }
 {
     if run.height == 0 {
@@ -77,7 +87,7 @@ pub fn step(
     if kind == 0x74 {
         return enter_sequence(run, script, loaded, at);
     }
-    enter_block(run, script, context, at, table, quads, leasts)
+    enter_block(run, script, ends, context, at, table, quads, leasts)
 }
 
 // Whether an each block is on top.
@@ -106,27 +116,30 @@ pub fn look(
     run: SavedControl,
     store: SavedStore,
     script: &[u8],
+    ends: &[u16],
     context: Context,
     table: &[u8],
     quads: &[u16],
     leasts: &[u8],
 ) -> RunState
     requires { ⌜ LendsStore (now script) (now table) (now quads) (now leasts) context run store ⌝ }
+    requires { ⌜ EndsLent (now script) (now ends) ⌝ }
     ensures { λ r. ⌜ ((w : LendsStore (now (script .entry)) (now (table .entry)) (now (quads .entry)) (now (leasts .entry)) context run store) → LookOf (w .lends) r) ⌝ }
 {
     if each_on_top(run, script, context.loaded) {
         return RunState::Spent;
     }
-    let next = step(run, store, script, context, table, quads, leasts);
+    let next = step(run, store, script, ends, context, table, quads, leasts);
     next.ending
 }
 
 // Step after step until the machine stands or the budget is spent.
 // Ruled out: a run that counts a step it did not take; one that stops before the budget is spent while the machine has a step to take.
-pub fn run_steps(
+fn take_steps(
     run: SavedControl,
     store: SavedStore,
     script: &[u8],
+    ends: &[u16],
     context: Context,
     table: &[u8],
     quads: &[u16],
@@ -134,12 +147,13 @@ pub fn run_steps(
     budget: u32,
 ) -> Stopped
     requires { ⌜ LendsStore (now script) (now table) (now quads) (now leasts) context run store ⌝ }
+    requires { ⌜ EndsLent (now script) (now ends) ⌝ }
     ensures { λ r. ⌜ ((w : LendsStore (now (script .entry)) (now (table .entry)) (now (quads .entry)) (now (leasts .entry)) context run store) → RunOf (w .lends) budget r) ⌝ }
 {
     let mut control = run;
     let mut steps = 0;
     while steps < budget {
-        let next = step(control, store, script, context, table, quads, leasts);
+        let next = step(control, store, script, ends, context, table, quads, leasts);
         if !next.moved {
             let why = next.ending;
             return Stopped {
@@ -151,10 +165,41 @@ pub fn run_steps(
         control = next.control;
         steps += 1;
     }
-    let ending = look(control, store, script, context, table, quads, leasts);
+    let ending = look(control, store, script, ends, context, table, quads, leasts);
     Stopped {
         steps,
         ending,
         control,
     }
+}
+
+// A run, over a table of the script's ends that is made once.
+// Ruled out: a run whose records end where another script's do; one of half its budget.
+pub fn run_steps(
+    run: SavedControl,
+    store: SavedStore,
+    script: &[u8],
+    context: Context,
+    table: &[u8],
+    quads: &[u16],
+    leasts: &[u8],
+    budget: u32,
+) -> Stopped
+    requires { ⌜ LendsStore (now script) (now table) (now quads) (now leasts) context run store ⌝ }
+    requires { ⌜ length (now script) ≤ scriptLimit ⌝ }
+    ensures { λ r. ⌜ ((w : LendsStore (now (script .entry)) (now (table .entry)) (now (quads .entry)) (now (leasts .entry)) context run store) → RunOf (w .lends) budget r) ⌝ }
+{
+    let mut ends = [0u16; SCRIPT_LIMIT];
+    fill_ends(script, &mut ends);
+    take_steps(
+        run,
+        store,
+        script,
+        &ends,
+        context,
+        table,
+        quads,
+        leasts,
+        budget,
+    )
 }

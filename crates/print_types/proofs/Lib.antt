@@ -1,6 +1,5 @@
--- In this order: where the parts of the input end, the parts, what writing leaves, the texts by their codes, and last all that is printed.
+-- In this order: where the parts of the input end, the parts, the texts by their codes, and last all that is printed.
 pub mod EndLaws
 pub mod PartLaws
-pub mod Writing
 pub mod Texts
 pub mod Printed

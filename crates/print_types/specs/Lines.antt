@@ -1,10 +1,8 @@
--- The printer's lines by the codes of the reported types, 0 for a variable that no pair binds; and what writing a text leaves.
+-- The printer's lines by the codes of the reported types, 0 for a variable that no pair binds.
 use Prim.Native.Nat.{ℕ, zero, suc, _+_, _-_, _*_}
-use mathlib.Core.Path.{_≡_}
 use mathlib.Core.List.{List, [], _∷_, _++_}
 use mathlib.Core.Bool.{true, false}
 use lib.Dec.{ltb}
-use lib.ListN.{length, take, drop}
 use Rattle.definitions.specs.Limits.{variableLimit}
 use Rattle.definitions.specs.Ascii.{ascii}
 use Rattle.definitions.specs.Bytes.{row}
@@ -32,11 +30,6 @@ firstRoom = 9 + numberRoom + 1
 
 abbrev pub outputRoom : ℕ
 outputRoom = firstRoom + linesRoom
-
--- a text stands from an offset on, and nothing else has changed; r is the offset after it
-pub record Written (text old new : List ℕ) (at r : ℕ) : Type 0 where
-  pub end : r ≡ at + length text
-  pub list : new ≡ take at old ++ (text ++ drop r old)
 
 abbrev pub datatypeNames : List (ℕ × List ℕ)
 datatypeNames =

@@ -1,13 +1,16 @@
 // The printer's lines, written one after the other.
 use definitions::VARIABLE_LIMIT;
+use output::put_byte;
+use output::put_text;
 ghost use mathlib.Core.Path.{_≡_};
 ghost use mathlib.Core.List.{[], _∷_};
 ghost use Prim.Native.Nat.{_+_, _*_, _≤_, _<_};
 ghost use lib.ListN.{length};
 ghost use Rattle.definitions.specs.Limits.{variableLimit};
 ghost use Rattle.definitions.specs.Values.{naturalText};
+ghost use Rattle.output.specs.Written.{Written};
 ghost use Rattle.print_types.specs.Lines.{numberRoom, datatypeRoom, typeRoom, lineRoom, linesRoom, outputRoom};
-ghost use Rattle.print_types.specs.Lines.{Written, datatypeText, typeText, variableLine, boundLine, boundLines, counts, boundOnes, cardText};
+ghost use Rattle.print_types.specs.Lines.{datatypeText, typeText, variableLine, boundLine, boundLines, counts, boundOnes, cardText};
 
 // The most bytes that a number takes, a datatype, a type, a variable's line, the first line, and all that is printed.
 const NUMBER_ROOM: usize = 3;
@@ -21,23 +24,6 @@ const LINE_ROOM: usize = NUMBER_ROOM + 1 + TYPE_ROOM + 1;
 const FIRST_ROOM: usize = 9 + NUMBER_ROOM + 1;
 
 pub const OUTPUT_ROOM: usize = FIRST_ROOM + VARIABLE_LIMIT * LINE_ROOM;
-
-fn put_text(text: &[u8], out: &mut [u8], at: usize) -> usize
-    requires { ⌜ at + length (now text) ≤ length (now out) ⌝ }
-    ensures { λ r. ⌜ Written (now (text .entry)) (now (out .entry)) (now (out .exit)) at r ⌝ }
-{
-    let end = at + text.len();
-    bytes::copy(text, &mut out[at..end]);
-    end
-}
-
-fn put_byte(b: u8, out: &mut [u8], at: usize) -> usize
-    requires { ⌜ at + 1 ≤ length (now out) ⌝ }
-    ensures { λ r. ⌜ Written (b ∷ []) (now (out .entry)) (now (out .exit)) at r ⌝ }
-{
-    out[at] = b;
-    at + 1
-}
 
 // A number's digits, with no zero in front.
 fn put_number(n: u8, out: &mut [u8], at: usize) -> usize

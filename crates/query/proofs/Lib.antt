@@ -5,4 +5,5 @@ pub mod CodeLaws
 pub mod RowLaws
 pub mod FixedScan
 pub mod EvalLaws
+pub mod MayLaws
 pub mod TermLaws

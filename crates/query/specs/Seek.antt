@@ -2,19 +2,24 @@
 -- `end`, the number of terms, stands for "none".
 use Prim.Native.Nat.{ℕ, zero, suc, _-_, min}
 use mathlib.Core.List.{List, [], _∷_}
-use mathlib.Core.Bool.{Bool, true, false, cond, _&&_}
+use mathlib.Core.Bool.{Bool, true, false, not, cond, _&&_, _||_}
 use mathlib.Core.Option.{Option, none, some}
-use lib.Dec.{eqb, leb, ltb}
+use lib.Dec.{T, eqb, leb, ltb}
 use lib.ListN.{length}
 use Rattle.definitions.specs.Lists.{isIn}
 use Rattle.definitions.specs.Types.{Ty}
 use Rattle.definitions.specs.Terms.{Term, Schema}
 use Rattle.definitions.specs.Tree.{Name, var, const, Expr, Cond, Query}
 use Rattle.definitions.specs.Outcome.{Outcome, ok, fault}
-use Rattle.definitions.specs.Evaluate.{Setting, Bindings, Quad, query}
+use Rattle.definitions.specs.Evaluate.{Setting, Bindings, Quad, condition, query}
+use Rattle.definitions.specs.Evaluated.{gives}
+use Rattle.definitions.specs.Truth.{notTruth, isTrue}
+use Rattle.definitions.specs.declared.Truth.{Truth}
 use Rattle.definitions.specs.Search.{Typing, Tuple}
 use Rattle.definitions.specs.Saved.{isBound}
 use Rattle.definitions.specs.Sound.{numberHas}
+use Rattle.laws.specs.Outcomes.{Fine, Any}
+use Rattle.laws.specs.ReadAnswers.{isSome}
 
 -- whether a test holds, a fault being no pass
 abbrev pub passes : Outcome Bool → Bool
@@ -79,7 +84,7 @@ module _ (P : Places) (lo : ℕ) where
   scan best [] = best
   scan best (r ∷ rs) = scan (better best r) rs
 
--- ── filters whose variables are all known ───────────────────────────────────────────────────
+-- ── expressions whose variables are all known ───────────────────────────────────────────────
 
 module _ (γ : Bindings) where
   unfoldable pub nameKnown : Name → Bool
@@ -94,16 +99,43 @@ module _ (γ : Bindings) where
   exprKnown (Expr.plus e f) = exprKnown e && exprKnown f
   exprKnown (Expr.minus e f) = exprKnown e && exprKnown f
 
-  unfoldable pub condKnown : Cond → Bool
-  condKnown Cond.no = true
-  condKnown Cond.yes = true
-  condKnown (Cond.or c d) = condKnown c && condKnown d
-  condKnown (Cond.and c d) = condKnown c && condKnown d
-  condKnown (Cond.not c) = condKnown c
-  condKnown (Cond.regex p e) = exprKnown e
-  condKnown (Cond.langMatches r e) = exprKnown e
-  condKnown (Cond.equal e f) = exprKnown e && exprKnown f
-  condKnown (Cond.less e f) = exprKnown e && exprKnown f
+-- ── what a boolean may come to, some of its variables being known ───────────────────────────
+
+-- a truth is the one that is wanted
+unfoldable pub comesTo : (want : Bool) → Truth → Bool
+comesTo want t = isTrue (cond want t (notTruth t))
+
+-- of two parts one is enough, or both are needed
+abbrev pub joined : (one : Bool) → Bool → Bool → Bool
+joined one a b = cond one (a || b) (a && b)
+
+module _ (σ : Setting) (terms : List Term) (quads : List Quad) (γ : Bindings) where
+  -- a test whose variables are all known comes to what it does; of another nothing is known
+  abbrev pub mayTest : (known want : Bool) → Cond → Bool
+  mayTest known want c = not known || gives (comesTo want) (condition σ terms quads γ c)
+
+  unfoldable pub may : (want : Bool) → Cond → Bool
+  may want Cond.no = not want
+  may want Cond.yes = want
+  may want (Cond.or c d) = joined want (may want c) (may want d)
+  may want (Cond.and c d) = joined (not want) (may want c) (may want d)
+  may want (Cond.not c) = may (not want) c
+  may want (Cond.regex p e) = mayTest (exprKnown γ e) want (Cond.regex p e)
+  may want (Cond.langMatches r e) = mayTest (exprKnown γ e) want (Cond.langMatches r e)
+  may want (Cond.equal e f) = mayTest (exprKnown γ e && exprKnown γ f) want (Cond.equal e f)
+  may want (Cond.less e f) = mayTest (exprKnown γ e && exprKnown γ f) want (Cond.less e f)
+
+  -- every test whose variables are all known meets no fault
+  abbrev pub SureTests : Cond → Type 0
+  SureTests Cond.no = Unit {0}
+  SureTests Cond.yes = Unit {0}
+  SureTests (Cond.or c d) = SureTests c × SureTests d
+  SureTests (Cond.and c d) = SureTests c × SureTests d
+  SureTests (Cond.not c) = SureTests c
+  SureTests (Cond.regex p e) = T (exprKnown γ e) → Fine Any (condition σ terms quads γ (Cond.regex p e))
+  SureTests (Cond.langMatches r e) = T (exprKnown γ e) → Fine Any (condition σ terms quads γ (Cond.langMatches r e))
+  SureTests (Cond.equal e f) = T (exprKnown γ e && exprKnown γ f) → Fine Any (condition σ terms quads γ (Cond.equal e f))
+  SureTests (Cond.less e f) = T (exprKnown γ e && exprKnown γ f) → Fine Any (condition σ terms quads γ (Cond.less e f))
 
 -- ── the query: the least number from lo on that the variable v can have ─────────────────────
 
@@ -112,7 +144,7 @@ module _ (σ : Setting) (terms : List Term) (quads : List Quad) (γ : Bindings) 
   seek (Query.pattern g s p o) lo = scan (placesOf γ v g s p o) lo (length terms) quads
   seek (Query.both q r) lo = seek r (seek q lo)
   seek (Query.union q r) lo = min (seek q lo) (seek r lo)
-  seek (Query.filter c) lo = cond (condKnown γ c) (cond (passes (query σ terms quads γ (Query.filter c))) lo (length terms)) lo
+  seek (Query.filter c) lo = cond (may σ terms quads γ true c) lo (length terms)
   seek Query.empty lo = lo
 
 -- ── terms of the variable's type ────────────────────────────────────────────────────────────
@@ -169,9 +201,13 @@ module _ (σ : Setting) (Γ : Typing) (terms : List Term) (quads : List Quad) (q
   unfoldable pub next : Bindings → (v lo : ℕ) → ℕ
   next γ v lo = skip (σ .schema) (Γ v) terms (length terms - least γ v lo) (least γ v lo)
 
-  -- a variable still has a number: two passes
-  abbrev pub hopeAt : Bindings → (w : ℕ) → Bool
-  hopeAt γ w = ltb (least γ w (least γ w zero)) (length terms)
+  -- with number i for a variable the query may hold
+  abbrev pub mayHold : Bindings → (w i : ℕ) → Bool
+  mayHold γ w i = eqb (least (set w i γ) w i) i
+
+  -- a variable still has a number with which it may
+  unfoldable pub hopeAt : Bindings → (w : ℕ) → Bool
+  hopeAt γ w = isSome (tries (λ i. cond (mayHold γ w i) (some []) none) (next γ w) (length terms) (length terms) zero)
 
   unfoldable pub hopeful : Bindings → List ℕ → Bool
   hopeful γ [] = true

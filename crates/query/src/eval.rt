@@ -7,20 +7,29 @@ ghost use Rattle.definitions.specs.Outcome.{ok};
 ghost use Rattle.definitions.specs.Values.{Value as Meant};
 ghost use Rattle.values.specs.Meaning.{Gives};
 ghost use Rattle.definitions.specs.Reading.{readExpr, readCond, readQuery};
+ghost use Prim.Native.Nat.{_+_, _≤_};
+ghost use Rattle.laws.specs.Ends.{EndsLent};
 ghost use Rattle.laws.specs.Walks.{Loads};
 ghost use Rattle.laws.specs.Walks.{Walked};
 ghost use Rattle.query.specs.StoreLent.{Told, Tabled, Stored, rowsOf};
-ghost use Rattle.query.specs.Eval.{Lent, NumberGives, ValueOf, TruthOf, FilterHolds, HoldsOf};
+ghost use mathlib.Core.Path.{_≡_};
+ghost use Rattle.query.specs.Codes.{bindingsOf};
+ghost use Rattle.query.specs.Seek.{exprKnown};
+ghost use Rattle.query.specs.Eval.{Lent, NumberGives, ValueOf, TruthOf, HoldsOf};
 use crate::Context;
+use crate::Held;
 use crate::Judged;
-use crate::Test;
+use crate::SOUGHT;
 use crate::Valued;
 use crate::names::name_at;
 use crate::names::names_at;
 use crate::scan::scan;
+use definitions::LANG_MATCHES_TEXT_OFFSET;
+use definitions::REGEX_TEXT_OFFSET;
 use definitions::SLOT_WIDTH;
 use definitions::Truth;
 use definitions::VARIABLE_LIMIT;
+use ends::after;
 use fields::numbers;
 use truth::and_of;
 use truth::is_true;
@@ -51,7 +60,7 @@ fn term_value(table: &[u8], context: Context, code: usize) -> Value
     slot::value_at(table, from)
 }
 
-// The value of the expression at an offset. Ruled out: the second summand left out; now as a number that is not the clock's.
+// The value of the expression at an offset; where not all its variables are known, any. Ruled out: the second summand left out; a free variable taken for a known one.
 pub fn eval_expr(
     script: &[u8],
     context: Context,
@@ -63,6 +72,7 @@ pub fn eval_expr(
     requires { ⌜ Loads (readExpr (now script) (context .loaded) left at) ⌝ }
     requires { ⌜ Lent (now table) (now known) context ⌝ }
     ensures { λ r. ⌜ Walked (ValueOf (now (table .entry)) (now (known .entry)) context (r .value)) (readExpr (now (script .entry)) (context .loaded) left at) (r .next) ⌝ }
+    ensures { λ r. ⌜ Walked (λ e. r .known ≡ exprKnown (bindingsOf (now (known .entry))) e) (readExpr (now (script .entry)) (context .loaded) left at) (r .next) ⌝ }
 {
     let kind = script[at];
     let first = at + 1;
@@ -73,53 +83,85 @@ pub fn eval_expr(
         return Valued {
             next: n.next,
             value,
+            known: n.code < SOUGHT,
         };
     }
     match kind {
         0x41 => {
             let value = clock_value(context.clock);
-            Valued { next: first, value }
+            Valued {
+                next: first,
+                value,
+                known: true,
+            }
         }
         0x42 => {
             let a = eval_expr(script, context, first, below, table, known);
+            if !a.known {
+                return a;
+            }
             let value = values::text::text_of(a.value);
             Valued {
                 next: a.next,
                 value,
+                known: true,
             }
         }
         0x43 => {
             let a = eval_expr(script, context, first, below, table, known);
+            if !a.known {
+                return a;
+            }
             let value = values::arithmetic::abs(a.value);
             Valued {
                 next: a.next,
                 value,
+                known: true,
             }
         }
         0x44 => {
             let a = eval_expr(script, context, first, below, table, known);
             let b = eval_expr(script, context, a.next, below, table, known);
+            if !(a.known & b.known) {
+                let value = a.value;
+                return Valued {
+                    next: b.next,
+                    value,
+                    known: false,
+                };
+            }
             let value = values::arithmetic::plus(a.value, b.value);
             Valued {
                 next: b.next,
                 value,
+                known: true,
             }
         }
         _ => {
             let a = eval_expr(script, context, first, below, table, known);
             let b = eval_expr(script, context, a.next, below, table, known);
+            if !(a.known & b.known) {
+                let value = a.value;
+                return Valued {
+                    next: b.next,
+                    value,
+                    known: false,
+                };
+            }
             let value = values::arithmetic::minus(a.value, b.value);
             Valued {
                 next: b.next,
                 value,
+                known: true,
             }
         }
     }
 }
 
-// The truth of the boolean at an offset. Ruled out: and by its first part alone; the pattern one byte off.
+// The truth of the boolean at an offset. Ruled out: and by its first part alone; a count one short where the second part is left out.
 pub fn eval_cond(
     script: &[u8],
+    ends: &[u16],
     context: Context,
     at: usize,
     left: u8,
@@ -128,7 +170,9 @@ pub fn eval_cond(
 ) -> Judged
     requires { ⌜ Loads (readCond (now script) (context .loaded) left at) ⌝ }
     requires { ⌜ Lent (now table) (now known) context ⌝ }
-    ensures { λ r. ⌜ Walked (TruthOf (now (table .entry)) (now (known .entry)) context (r .truth)) (readCond (now (script .entry)) (context .loaded) left at) (r .next) ⌝ }
+    requires { ⌜ EndsLent (now script) (now ends) ⌝ }
+    ensures { λ r. ⌜ Walked (TruthOf (now (table .entry)) (now (known .entry)) context (r .truth) (r .records)) (readCond (now (script .entry)) (context .loaded) left at) (r .next) ⌝ }
+    ensures { λ r. ⌜ at + r .records ≤ r .next ⌝ }
 {
     let kind = script[at];
     let first = at + 1;
@@ -137,58 +181,87 @@ pub fn eval_cond(
         0x50 => Judged {
             next: first,
             truth: Truth::False,
+            records: 1,
         },
         0x51 => Judged {
             next: first,
             truth: Truth::True,
+            records: 1,
         },
         0x52 => {
-            let a = eval_cond(script, context, first, below, table, known);
-            let b = eval_cond(script, context, a.next, below, table, known);
+            let a = eval_cond(script, ends, context, first, below, table, known);
             let one = a.truth;
+            let counted = a.records + 1;
+            if is_true(one) {
+                let next = after(ends, script.len(), at);
+                return Judged {
+                    next,
+                    truth: Truth::True,
+                    records: counted, // the second part is left out
+                };
+            }
+            let b = eval_cond(script, ends, context, a.next, below, table, known);
             let other = b.truth;
             let truth = or_of(one, other);
+            let records = counted + b.records;
             Judged {
                 next: b.next,
                 truth,
+                records,
             }
         }
         0x53 => {
-            let a = eval_cond(script, context, first, below, table, known);
-            let b = eval_cond(script, context, a.next, below, table, known);
+            let a = eval_cond(script, ends, context, first, below, table, known);
             let one = a.truth;
+            let counted = a.records + 1;
+            let against = not_of(one);
+            if is_true(against) {
+                let next = after(ends, script.len(), at);
+                return Judged {
+                    next,
+                    truth: Truth::False,
+                    records: counted,
+                };
+            }
+            let b = eval_cond(script, ends, context, a.next, below, table, known);
             let other = b.truth;
             let truth = and_of(one, other);
+            let records = counted + b.records;
             Judged {
                 next: b.next,
                 truth,
+                records,
             }
         }
         0x54 => {
-            let a = eval_cond(script, context, first, below, table, known);
+            let a = eval_cond(script, ends, context, first, below, table, known);
             let one = a.truth;
             let truth = not_of(one);
+            let records = a.records + 1;
             Judged {
                 next: a.next,
                 truth,
+                records,
             }
         }
         0x55 => {
-            let text = at + 17;
+            let text = at + REGEX_TEXT_OFFSET;
             let a = eval_expr(script, context, text, below, table, known);
             let truth = values::tests::regex(a.value, script, first);
             Judged {
                 next: a.next,
                 truth,
+                records: 1,
             }
         }
         0x56 => {
-            let text = at + 9;
+            let text = at + LANG_MATCHES_TEXT_OFFSET;
             let a = eval_expr(script, context, text, below, table, known);
             let truth = values::tests::lang_matches(a.value, script, first);
             Judged {
                 next: a.next,
                 truth,
+                records: 1,
             }
         }
         0x57 => {
@@ -198,6 +271,7 @@ pub fn eval_cond(
             Judged {
                 next: b.next,
                 truth,
+                records: 1,
             }
         }
         _ => {
@@ -207,48 +281,30 @@ pub fn eval_cond(
             Judged {
                 next: b.next,
                 truth,
+                records: 1,
             }
         }
-    }
-}
-
-// Whether a filter holds, by its boolean at an offset. Ruled out: one that holds on unknown; one that holds where its boolean is false.
-pub fn eval_filter(
-    script: &[u8],
-    context: Context,
-    at: usize,
-    left: u8,
-    table: &[u8],
-    known: &[usize],
-) -> Test
-    requires { ⌜ Loads (readCond (now script) (context .loaded) left at) ⌝ }
-    requires { ⌜ Lent (now table) (now known) context ⌝ }
-    ensures { λ r. ⌜ Walked (FilterHolds (now (table .entry)) (now (known .entry)) context (r .holds)) (readCond (now (script .entry)) (context .loaded) left at) (r .next) ⌝ }
-{
-    let a = eval_cond(script, context, at, left, table, known);
-    let truth = a.truth;
-    let holds = is_true(truth);
-    Test {
-        next: a.next,
-        holds,
     }
 }
 
 // Whether the query at an offset holds, where all its variables are known. Ruled out: the last quad left out; a union of its first part only.
 pub fn eval_query(
     script: &[u8],
+    ends: &[u16],
     context: Context,
     at: usize,
     left: u8,
     table: &[u8],
     known: &[usize],
     quads: &[u16],
-) -> Test
+) -> Held
     requires { ⌜ Loads (readQuery (now script) (context .loaded) left at) ⌝ }
     requires { ⌜ Lent (now table) (now known) context ⌝ }
+    requires { ⌜ EndsLent (now script) (now ends) ⌝ }
     requires { ⌜ Stored (now quads) context ⌝ }
-    ensures { λ r. ⌜ Walked (HoldsOf (now (table .entry)) (now (known .entry)) context (rowsOf (now (quads .entry)) context) (r .holds))
+    ensures { λ r. ⌜ Walked (HoldsOf (now (table .entry)) (now (known .entry)) context (rowsOf (now (quads .entry)) context) (r .holds) (r .records))
         (readQuery (now (script .entry)) (context .loaded) left at) (r .next) ⌝ }
+    ensures { λ r. ⌜ at + r .records ≤ r .next ⌝ }
 {
     let kind = script[at];
     let first = at + 1;
@@ -257,31 +313,65 @@ pub fn eval_query(
         0x61 => {
             let names = names_at(script, context.loaded, first, below, known, VARIABLE_LIMIT);
             let least = scan(quads, context.quads, names.codes, 0, 1);
-            Test {
+            Held {
                 next: names.next,
                 holds: least == 0,
+                records: 1,
             }
         }
         0x62 => {
-            let a = eval_query(script, context, first, below, table, known, quads);
-            let b = eval_query(script, context, a.next, below, table, known, quads);
-            Test {
+            let a = eval_query(script, ends, context, first, below, table, known, quads);
+            let counted = a.records + 1;
+            if !a.holds {
+                let next = after(ends, script.len(), at);
+                return Held {
+                    next,
+                    holds: false,
+                    records: counted,
+                };
+            }
+            let b = eval_query(script, ends, context, a.next, below, table, known, quads);
+            let records = counted + b.records;
+            Held {
                 next: b.next,
-                holds: a.holds & b.holds,
+                holds: b.holds,
+                records,
             }
         }
         0x63 => {
-            let a = eval_query(script, context, first, below, table, known, quads);
-            let b = eval_query(script, context, a.next, below, table, known, quads);
-            Test {
+            let a = eval_query(script, ends, context, first, below, table, known, quads);
+            let counted = a.records + 1;
+            if a.holds {
+                let next = after(ends, script.len(), at);
+                return Held {
+                    next,
+                    holds: true,
+                    records: counted,
+                };
+            }
+            let b = eval_query(script, ends, context, a.next, below, table, known, quads);
+            let records = counted + b.records;
+            Held {
                 next: b.next,
-                holds: a.holds | b.holds,
+                holds: b.holds,
+                records,
             }
         }
-        0x64 => eval_filter(script, context, first, below, table, known),
-        _ => Test {
+        0x64 => {
+            let a = eval_cond(script, ends, context, first, below, table, known);
+            let truth = a.truth;
+            let holds = is_true(truth);
+            let records = a.records + 1;
+            Held {
+                next: a.next,
+                holds,
+                records,
+            }
+        }
+        _ => Held {
             next: first,
             holds: true,
+            records: 1,
         },
     }
 }

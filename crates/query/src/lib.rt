@@ -1,5 +1,6 @@
 // Evaluating a query for one tuple, and finding a block's first answer after a tuple without trying them all.
 pub mod eval;
+pub mod may; // may.rt: what a boolean may come to
 pub mod names;
 pub mod scan;
 
@@ -45,14 +46,23 @@ pub struct Test {
     pub holds: bool,
 }
 
-// A boolean's truth.
+// A boolean's truth, and how many records were evaluated for it.
 pub struct Judged {
     pub next: usize,
     pub truth: Truth,
+    pub records: usize,
 }
 
-// An expression's value.
+// Whether a query holds, and how many records were evaluated for it.
+pub struct Held {
+    pub next: usize,
+    pub holds: bool,
+    pub records: usize,
+}
+
+// An expression's value, and whether all its variables are known.
 pub struct Valued {
     pub next: usize,
     pub value: Value,
+    pub known: bool,
 }

@@ -1,21 +1,19 @@
-// Names in the script's bytes: their codes, and whether all those of an expression or a boolean are known.
+// Names in the script's bytes, and their codes.
 ghost use mathlib.Core.Path.{_≡_};
 ghost use lib.ListN.{length};
 ghost use Prim.Native.Nat.{_<_};
 ghost use Rattle.definitions.specs.Tree.{var, Query};
-ghost use Rattle.definitions.specs.Reading.{fourOf, readName, readExpr, readCond};
+ghost use Rattle.definitions.specs.Reading.{fourOf, readName};
 ghost use Rattle.laws.specs.Walks.{Loads};
 ghost use Rattle.laws.specs.Walks.{Walked};
 ghost use Rattle.laws.specs.Sound.{NameBounded};
-ghost use Rattle.query.specs.Seek.{exprKnown, condKnown};
-ghost use Rattle.query.specs.Codes.{bindingsOf, codeOf, Coded};
+ghost use Rattle.query.specs.Codes.{codeOf, Coded};
 ghost use Rattle.definitions.specs.Limits.{variableLimit};
 use crate::FREE;
 use crate::Four;
 use crate::NameRead;
 use crate::NamesRead;
 use crate::SOUGHT;
-use crate::Test;
 use definitions::VARIABLE_LIMIT;
 use fields::numbers;
 
@@ -86,109 +84,5 @@ pub fn names_at(
     NamesRead {
         next: o.next,
         codes,
-    }
-}
-
-// Whether all variables of an expression are known. Ruled out: the second part left out; a free variable taken for a known one.
-pub fn known_expr(script: &[u8], loaded: usize, at: usize, left: u8, known: &[usize]) -> Test
-    requires { ⌜ Loads (readExpr (now script) loaded left at) ⌝ }
-    requires { ⌜ length (now known) ≡ variableLimit ⌝ }
-    ensures { λ r. ⌜ Walked (λ e. r .holds ≡ exprKnown (bindingsOf (now (known .entry))) e) (readExpr (now (script .entry)) loaded left at) (r .next) ⌝ }
-{
-    let kind = script[at];
-    let first = at + 1;
-    let below = left - 1;
-    if kind < 0x41 {
-        let n = name_at(script, loaded, at, left, known, VARIABLE_LIMIT);
-        return Test {
-            next: n.next,
-            holds: n.code < SOUGHT,
-        };
-    }
-    match kind {
-        0x41 => Test {
-            next: first,
-            holds: true,
-        },
-        0x42 => known_expr(script, loaded, first, below, known),
-        0x43 => known_expr(script, loaded, first, below, known),
-        0x44 => {
-            let a = known_expr(script, loaded, first, below, known);
-            let b = known_expr(script, loaded, a.next, below, known);
-            Test {
-                next: b.next,
-                holds: a.holds & b.holds,
-            }
-        }
-        _ => {
-            let a = known_expr(script, loaded, first, below, known);
-            let b = known_expr(script, loaded, a.next, below, known);
-            Test {
-                next: b.next,
-                holds: a.holds & b.holds,
-            }
-        }
-    }
-}
-
-// Whether all variables of a boolean are known. Ruled out: the second part left out; not counted as known whatever it negates.
-pub fn known_cond(script: &[u8], loaded: usize, at: usize, left: u8, known: &[usize]) -> Test
-    requires { ⌜ Loads (readCond (now script) loaded left at) ⌝ }
-    requires { ⌜ length (now known) ≡ variableLimit ⌝ }
-    ensures { λ r. ⌜ Walked (λ c. r .holds ≡ condKnown (bindingsOf (now (known .entry))) c) (readCond (now (script .entry)) loaded left at) (r .next) ⌝ }
-{
-    let kind = script[at];
-    let first = at + 1;
-    let below = left - 1;
-    match kind {
-        0x50 => Test {
-            next: first,
-            holds: true,
-        },
-        0x51 => Test {
-            next: first,
-            holds: true,
-        },
-        0x52 => {
-            let a = known_cond(script, loaded, first, below, known);
-            let b = known_cond(script, loaded, a.next, below, known);
-            Test {
-                next: b.next,
-                holds: a.holds & b.holds,
-            }
-        }
-        0x53 => {
-            let a = known_cond(script, loaded, first, below, known);
-            let b = known_cond(script, loaded, a.next, below, known);
-            Test {
-                next: b.next,
-                holds: a.holds & b.holds,
-            }
-        }
-        0x54 => known_cond(script, loaded, first, below, known),
-        0x55 => {
-            let text = at + 17;
-            known_expr(script, loaded, text, below, known)
-        }
-        0x56 => {
-            let text = at + 9;
-            known_expr(script, loaded, text, below, known)
-        }
-        0x57 => {
-            let a = known_expr(script, loaded, first, below, known);
-            let b = known_expr(script, loaded, a.next, below, known);
-            Test {
-                next: b.next,
-                holds: a.holds & b.holds,
-            }
-        }
-        _ => {
-            let a = known_expr(script, loaded, first, below, known);
-            let b = known_expr(script, loaded, a.next, below, known);
-            Test {
-                next: b.next,
-                holds: a.holds & b.holds,
-            }
-        }
     }
 }

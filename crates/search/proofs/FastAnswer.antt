@@ -6,7 +6,7 @@ use mathlib.Core.List.{List, [], _∷_}
 use mathlib.Core.Logic.{⊎-elim}
 use mathlib.Core.Bool.{Bool, true, false, cond, not, _||_}
 use mathlib.Core.Option.{Option, none, some}
-use lib.Dec.{T, eqb, ltb, eqb→eq, eqb-refl, lt→ltb, T-not}
+use lib.Dec.{T, eqb, eqb→eq, eqb-refl, T-not}
 use lib.ListN.{length}
 use Rattle.definitions.specs.Lists.{isIn, every, distinct}
 use Rattle.definitions.specs.Terms.{Term, Schema}
@@ -19,13 +19,13 @@ use Rattle.laws.proofs.Tests.{andLeft, andRight, andMake, orLeft, orRight, orCa
 use Rattle.laws.proofs.Options.{some-not-none}
 use Rattle.laws.specs.Bindings.{Holds, Fits}
 use Rattle.laws.proofs.Bindings.{test-holds, holds-test, is-below}
-use Rattle.query.specs.Seek.{passes, seek, set, clear, startAt, restOf, ahead, next, hopeful, find, fastAnswer}
+use Rattle.query.specs.Seek.{passes, seek, set, clear, startAt, restOf, ahead, next, mayHold, hopeAt, hopeful, find, fastAnswer}
 use Rattle.search.specs.Ready.{Ready}
 use Rattle.search.proofs.TupleOrder.{isAfter}
 use Rattle.search.proofs.FirstTuple.{First, first-map, Good as GoodAnswer, answer-first}
 use Rattle.search.proofs.Filters.{Under}
 use Rattle.search.proofs.Reaches.{seek-floor, seek-reaches}
-use Rattle.search.proofs.TryLaws.{skip-floor, skip-reaches, skip-typed, after-start, after-rest, after-both, tries-first}
+use Rattle.search.proofs.TryLaws.{skip-floor, skip-reaches, skip-typed, after-start, after-rest, after-both, tries-some, tries-first}
 
 -- ── bindings ────────────────────────────────────────────────────────────────────────────────
 
@@ -55,8 +55,15 @@ under-bind (v ∷ vs) (j ∷ t) γ c x i e = go (eqb x v) (λ b. c x b) (under-b
     go true n k = absurd (some-not-none e (n tt))
     go false n k = k
 
+set-under : (w j : ℕ) (γ δ : Bindings) → Under γ δ → δ w ≡ some j → Under (set w j γ) δ
+set-under w j γ δ u is x i e = go (eqb x w) (eqb→eq x w) e
+  where
+    go : (b : Bool) → (T b → x ≡ w) → cond b (some j) (γ x) ≡ some i → δ x ≡ some i
+    go true s e = subst⁻¹ (λ y. δ y ≡ some i) (s tt) (is ∙ e)
+    go false s e = u x i e
+
 -- a variable set now or bound with the others, where it is none of them
-set-bind-at : (v i : ℕ) (vs : List ℕ) (t : Tuple) (γ : Bindings) → (T (isIn v vs) → ⊥)
+pub set-bind-at : (v i : ℕ) (vs : List ℕ) (t : Tuple) (γ : Bindings) → (T (isIn v vs) → ⊥)
     → (x : ℕ) → cond (eqb x v) (some i) (bind vs t γ x) ≡ bind vs t (set v i γ) x
 unfolding bind
 set-bind-at v i [] t γ d x = refl
@@ -88,22 +95,22 @@ module _ (S : Schema) (Γ : Typing) (terms : List Term) where
       go true k r = refl
       go false k r = r k
 
-  -- a variable of the tuple has a number of the table
+  -- a variable of the tuple has a number of its type
   record Has (δ : Bindings) (w : ℕ) : Type 0 where
     number : ℕ
     is : δ w ≡ some number
-    small : number < length terms
+    typed : Holds S terms number (Γ w)
 
   tuple-has : (vs : List ℕ) (t : Tuple) (γ : Bindings) → Fits S Γ terms vs t → (w : ℕ) → T (isIn w vs) → Has (bind vs t γ) w
   unfolding bind
   tuple-has [] t γ h w m = absurd m
   tuple-has (v ∷ vs) [] γ h w m = absurd h
-  tuple-has (v ∷ vs) (i ∷ t) γ h w m = go (eqb w v) m (tuple-has vs t γ (h .1) w) refl
+  tuple-has (v ∷ vs) (i ∷ t) γ h w m = go (eqb w v) (eqb→eq w v) m (tuple-has vs t γ (h .1) w) refl
     where
-      go : (b : Bool) → T (b || isIn w vs) → (T (isIn w vs) → Has (bind vs t γ) w) → eqb w v ≡ b → Has (bind (v ∷ vs) (i ∷ t) γ) w
-      go true m k e =
-          record { number = i; is = ap (λ c. cond c (some i) (bind vs t γ w)) e; small = is-below terms i (h .0 .term) (h .0 .there) }
-      go false m k e = let r = k m in record { number = r .number; is = ap (λ c. cond c (some i) (bind vs t γ w)) e ∙ r .is; small = r .small }
+      go : (b : Bool) → (T b → w ≡ v) → T (b || isIn w vs) → (T (isIn w vs) → Has (bind vs t γ) w) → eqb w v ≡ b → Has (bind (v ∷ vs) (i ∷ t) γ) w
+      go true s m k e =
+          record { number = i; is = ap (λ c. cond c (some i) (bind vs t γ w)) e; typed = subst⁻¹ (λ x. Holds S terms i (Γ x)) (s tt) (h .0) }
+      go false s m k e = let r = k m in record { number = r .number; is = ap (λ c. cond c (some i) (bind vs t γ w)) e ∙ r .is; typed = r .typed }
 
 -- ── one level ───────────────────────────────────────────────────────────────────────────────
 
@@ -116,28 +123,6 @@ module _ (σ : Setting) (Γ : Typing) (terms : List Term) (quads : List Quad) (q
 
   abbrev Good : List ℕ → Bindings → Option Tuple → Tuple → Type 0
   Good vs γ last t = Fits (σ .schema) Γ terms vs t × T (isAfter last t) × T (holds (bind vs t γ))
-
-  -- where a variable has a number that passes, two passes of the seek stay below the end
-  module _ (γ δ : Bindings) (u : Under γ δ) (p : T (holds δ)) where
-    seek-has : (w : ℕ) → Has (σ .schema) Γ terms δ w → T (ltb (least γ w (least γ w zero)) (length terms))
-    seek-has w h =
-        let j = h .number in
-        let a : least γ w zero ≤ j = seek-reaches σ terms quads γ w δ u j (h .is) q zero (omega arith) p in
-        let b : least γ w (least γ w zero) ≤ j = seek-reaches σ terms quads γ w δ u j (h .is) q (least γ w zero) a p in
-        let l = h .small in
-        lt→ltb (least γ w (least γ w zero)) (length terms) (omega arith)
-
-    hopeful-true : (ws : List ℕ) → ((w : ℕ) → T (isIn w ws) → Has (σ .schema) Γ terms δ w) → T (hopeful σ Γ terms quads q γ ws)
-    unfolding hopeful
-    hopeful-true [] h = tt
-    hopeful-true (w ∷ ws) h =
-        andMake (ltb (least γ w (least γ w zero)) (length terms)) (hopeful σ Γ terms quads q γ ws)
-        (seek-has w (h w (orLeft (eqb w w) (isIn w ws) (eqb-refl w)))) (hopeful-true ws (λ x m. h x (orRight (eqb x w) (isIn x ws) m)))
-
-  ahead-in : (w : ℕ) (last : Option Tuple) (vs : List ℕ) → T (isIn w (ahead last vs)) → T (isIn w vs)
-  ahead-in w none [] m = m
-  ahead-in w none (v ∷ vs) m = orRight (eqb w v) (isIn w vs) m
-  ahead-in w (some l) vs m = absurd m
 
   module _ (γ : Bindings) (v : ℕ) where
     abbrev step : ℕ → ℕ
@@ -155,6 +140,43 @@ module _ (σ : Setting) (Γ : Typing) (terms : List Term) (quads : List Quad) (q
     unfolding next
     next-holds lo h = test-holds (σ .schema) terms (Γ v) _ (skip-typed (σ .schema) (Γ v) terms (length terms - least γ v lo) (least γ v lo) (omega arith) h)
 
+  -- where the query holds, a variable's number is not passed over, and with it the query may hold
+  module _ (γ δ : Bindings) (u : Under γ δ) (p : T (holds δ)) where
+    module _ (w j : ℕ) (is : δ w ≡ some j) (typed : Holds (σ .schema) terms j (Γ w)) where
+      small : j < length terms
+      small = is-below terms j (typed .term) (typed .there)
+
+      next-to : (lo : ℕ) → lo ≤ j → step γ w lo ≤ j
+      unfolding next
+      next-to lo l =
+          skip-reaches (σ .schema) (Γ w) terms _ (least γ w lo) j (seek-reaches σ terms quads γ w δ u j is q lo l p) (holds-test (σ .schema) terms (Γ w) j typed)
+
+      may-here : mayHold σ Γ terms quads q γ w j ≡ true
+      may-here =
+          let below = seek-reaches σ terms quads (set w j γ) w δ (set-under w j γ δ u is) j is q j (omega arith) p in
+          let above = seek-floor σ terms quads (set w j γ) w j (omega (arith, small)) q j (omega arith) in
+          let same : least (set w j γ) w j ≡ j = omega arith in
+          ap (λ i. eqb i j) same ∙ isTrue (eqb j j) (eqb-refl j)
+
+      hope-here : T (hopeAt σ Γ terms quads q γ w)
+      unfolding hopeAt
+      hope-here =
+          tries-some (λ i. cond (mayHold σ Γ terms quads q γ w i) (some []) none) (step γ w) (length terms) (next-floor γ w) j small next-to
+          (ap (λ b. cond b (some []) none) may-here) (length terms) zero (omega arith) (omega arith)
+
+    hopeful-true : (ws : List ℕ) → ((w : ℕ) → T (isIn w ws) → Has (σ .schema) Γ terms δ w) → T (hopeful σ Γ terms quads q γ ws)
+    unfolding hopeful
+    hopeful-true [] h = tt
+    hopeful-true (w ∷ ws) h =
+        let k = h w (orLeft (eqb w w) (isIn w ws) (eqb-refl w)) in
+        andMake (hopeAt σ Γ terms quads q γ w) (hopeful σ Γ terms quads q γ ws)
+        (hope-here w (k .number) (k .is) (k .typed)) (hopeful-true ws (λ x m. h x (orRight (eqb x w) (isIn x ws) m)))
+
+  ahead-in : (w : ℕ) (last : Option Tuple) (vs : List ℕ) → T (isIn w (ahead last vs)) → T (isIn w vs)
+  ahead-in w none [] m = m
+  ahead-in w none (v ∷ vs) m = orRight (eqb w v) (isIn w vs) m
+  ahead-in w (some l) vs m = absurd m
+
   module _ (v : ℕ) (vs : List ℕ) (d : T (isIn v vs) → ⊥) (γ : Bindings) (c : Cleared (v ∷ vs) γ) (last : Option Tuple) where
     bound-here : (j : ℕ) (t : Tuple) → bind (v ∷ vs) (j ∷ t) γ v ≡ some j
     unfolding bind
@@ -171,11 +193,7 @@ module _ (σ : Setting) (Γ : Typing) (terms : List Term) (quads : List Quad) (q
     widen i h l t g = ((h, g .0), after-both last i t l (g .1), subst⁻¹ (λ δ. T (holds δ)) (later i t) (g .2))
 
     next-reaches : (lo j : ℕ) (t : Tuple) → lo ≤ j → Good (v ∷ vs) γ last (j ∷ t) → step γ v lo ≤ j
-    unfolding next
-    next-reaches lo j t l g =
-        skip-reaches (σ .schema) (Γ v) terms _ (least γ v lo) j
-        (seek-reaches σ terms quads γ v (bind (v ∷ vs) (j ∷ t) γ) (under-bind (v ∷ vs) (j ∷ t) γ c) j (bound-here j t) q lo l (g .2))
-        (holds-test (σ .schema) terms (Γ v) j (g .0 .0))
+    next-reaches lo j t l g = next-to γ (bind (v ∷ vs) (j ∷ t) γ) (under-bind (v ∷ vs) (j ∷ t) γ c) (g .2) v j (bound-here j t) (g .0 .0) lo l
 
     abbrev asked : ℕ → List ℕ
     asked i = ahead (restOf last i) vs

@@ -9,7 +9,7 @@ use mathlib.Core.Option.{Option, none, some}
 use lib.Dec.{T, eqb, ltb, eqb→eq}
 use lib.ListN.{length, getD, set}
 use lib.Seq.{getD-set-same, getD-set-other}
-use borrow.Author.Tests.{lt-ltb, le-ltb}
+use borrow.Author.Tests.{lt-ltb, eq-eqb, ne-eqb}
 use Rattle.definitions.specs.Limits.{variableLimit}
 use Rattle.definitions.specs.Tree.{Query}
 use Rattle.definitions.specs.Reading.{readQuery}
@@ -20,7 +20,8 @@ use Rattle.laws.proofs.Reading.{same-read}
 use Rattle.laws.specs.Walks.{Loads, Walked}
 use Rattle.laws.proofs.NoFault.{fine-ok}
 use Rattle.laws.specs.Bindings.{Holds}
-use Rattle.query.specs.Seek.{passes, seek, skip, set as bindTo, restOf, tries, ahead, next, hopeful, find}
+use Rattle.laws.specs.ReadAnswers.{isSome}
+use Rattle.query.specs.Seek.{passes, seek, skip, set as bindTo, restOf, tries, ahead, next, mayHold, hopeAt, hopeful, find}
 use Rattle.query.specs.Codes.{soughtCode, freeCode, numberAt, bindingsOf}
 use Rattle.query.specs.declared.Context.{Context}
 use Rattle.query.specs.StoreLent.{settingIn, rowsOf}
@@ -33,8 +34,7 @@ use Rattle.search.specs.declared.Found.{Found}
 use Rattle.query.proofs.Outcomes.{ok-passes}
 use Rattle.query.proofs.TermLaws.{few}
 use Rattle.search.proofs.TypeLaws.{skip-is, skip-low}
-use Rattle.search.proofs.ReadyLaws.{ready-sure, ready-fine, ready-set}
-use Rattle.search.proofs.Reaches.{seek-floor}
+use Rattle.search.proofs.ReadyLaws.{ready-sure, ready-fine, ready-set, ready-more}
 use Rattle.search.proofs.FastAnswer.{next-floor, next-holds}
 use Rattle.search.proofs.LevelLaws.{level-past, level-none, level-found, level-on, numbers-none, numbers-more, start-of, rest-of, ahead-of, tuple-set}
 
@@ -116,23 +116,10 @@ module _ {script table quads leasts : List ℕ} {x : Context} {block : Block} (w
       unfolding next settingIn
       next-is lo {a} s e = (
         omega (arith, s .holds .0, skip-low leasts (getD (block .types) k 0) (x .count - a) a),
-        λ r.
-            let i = seek-is v lo s (later block k) r in
+        λ vs r.
+            let i = seek-is v lo s vs r in
             e ∙ (skipped a ∙ ap (λ j. skip (w .schema) (w .typing v) (w .terms) (length (w .terms) - j) j) i),
       )
-
-      pub hope-is : {a b m n : ℕ} → Sought (SeekOf table known x (rowsOf quads x) v 0 a) m → Sought (SeekOf table known x (rowsOf quads x) v a b) n
-          → HopeAt w known k (ltb b (x .count))
-      hope-is {a} p q vs r = ap₂ ltb (seek-is v a q vs r ∙ ap (seekAt v) (seek-is v 0 p vs r)) counted
-
-      -- the first pass finds none, so the second finds none
-      pub hope-none : {a m : ℕ} → Sought (SeekOf table known x (rowsOf quads x) v 0 a) m → x .count ≤ a → HopeAt w known k false
-      hope-none {a} p h vs r =
-          let e = seek-is v 0 p vs r in
-          let n = counted in
-          let i = seekAt v 0 in
-          let f = seek-floor (setting w) (w .terms) (w .rows) γ v (length (w .terms)) (omega arith) (w .tree) i (omega arith) in
-          sym (le-ltb (seekAt v i) (length (w .terms)) f)
 
     -- ── the later variables ───────────────────────────────────────────────────────────────────
 
@@ -163,17 +150,17 @@ module _ {script table quads leasts : List ℕ} {x : Context} {block : Block} (w
         unfolding find
         find-tight e r = rw (numbers-none vars size k over, e) refl
 
-        pub find-test : tight ≡ false → {b : Bool} {n : ℕ} → Sought (HoldsOf table known x (rowsOf quads x) b) n
+        pub find-test : tight ≡ false → {b : Bool} {m n : ℕ} → Sought (HoldsOf table known x (rowsOf quads x) b m) n
             → FindOf w known k tight (record { found = b; tuple = t })
         unfolding find numbersFrom settingIn
-        find-test e {b} s r =
-            let h : HoldsOf table known x (w .rows) b (w .tree) =
-            subst (λ (rows : List Quad). HoldsOf table known x rows b (w .tree)) (w .lent .quadsAre)
-            (subst (HoldsOf table known x (rowsOf quads x) b) (same-read (s .read) (w .read) .0) (s .holds)) in
+        find-test e {b} {m} s r =
+            let h : HoldsOf table known x (w .rows) b m (w .tree) =
+            subst (λ (rows : List Quad). HoldsOf table known x rows b m (w .tree)) (w .lent .quadsAre)
+            (subst (HoldsOf table known x (rowsOf quads x) b m) (same-read (s .read) (w .read) .0) (s .holds)) in
             let r₀ : ReadyFor w known [] = subst (ReadyFor w known) (numbers-none vars size k over) r in
             let f = fine-ok (ready-fine (setting w) (w .typing) (w .terms) (w .rows) γ (w .tree) r₀) in
             let p : b ≡ passes (query (setting w) (w .terms) (w .rows) γ (w .tree)) =
-            h (w .schema) (w .terms) (w .lent .tabled .reads) (f .0) (f .1) ∙ sym (ok-passes (f .1)) in
+            h (w .schema) (w .terms) (w .lent .tabled .reads) (f .0) (f .1) .0 ∙ sym (ok-passes (f .1)) in
             rw (none-left, e) (ap (λ c. cond c (some []) none) p)
 
       -- ── a level's loop ──────────────────────────────────────────────────────────────────────
@@ -210,7 +197,7 @@ module _ {script table quads leasts : List ℕ} {x : Context} {block : Block} (w
           module _ (i : ℕ) (ei : NextOf w known k lo i) where
             pub find-none : x .count ≤ i → FindOf w known k tight (record { found = false; tuple = t })
             find-none h r =
-                level-none body (nextAt (getD vars k 0)) (length (w .terms)) floor lo (findFrom w known k tight) (so-far r) i (ei .1 r) (omega (arith, counted))
+                level-none body (nextAt (getD vars k 0)) (length (w .terms)) floor lo (findFrom w known k tight) (so-far r) i (ei .1 (later block k) r) (omega (arith, counted))
 
             module _ (small : i < x .count) (inside : getD vars k 0 < length known) where
               abbrev with : List ℕ
@@ -227,14 +214,14 @@ module _ {script table quads leasts : List ℕ} {x : Context} {block : Block} (w
               ready-rest r =
                   let r₁ : ReadyFor w known (getD vars k 0 ∷ rest) = subst (ReadyFor w known) (numbers-more vars size k below) r in
                   let h = next-holds (setting w) (w .typing) (w .terms) (w .rows) (w .tree) γ (getD vars k 0) lo
-                  (subst (λ x. x < length (w .terms)) (ei .1 r) (omega (arith, counted))) in
+                  (subst (λ x. x < length (w .terms)) (ei .1 (later block k) r) (omega (arith, counted))) in
                   subst⁻¹ (λ (δ : Bindings). Ready (w .schema) (w .typing) (w .terms) δ rest (w .tree)) with-is
                   (ready-set (w .schema) (w .typing) (w .terms) γ (w .tree) (getD vars k 0) i rest r₁
-                  (subst⁻¹ (λ x. Holds (w .schema) (w .terms) x (w .typing (getD vars k 0))) (ei .1 r) h))
+                  (subst⁻¹ (λ x. Holds (w .schema) (w .terms) x (w .typing (getD vars k 0))) (ei .1 (later block k) r) h))
 
               turn : ReadyFor w known (later block k) → body i ≡ none → findFrom w known k tight ≡ level (i + 1)
               turn r b =
-                  level-on body (nextAt (getD vars k 0)) (length (w .terms)) floor lo (findFrom w known k tight) (so-far r) i (ei .1 r) (omega (arith, counted)) b
+                  level-on body (nextAt (getD vars k 0)) (length (w .terms)) floor lo (findFrom w known k tight) (so-far r) i (ei .1 (later block k) r) (omega (arith, counted)) b
 
               -- where the numbers so far are the last tuple's, no variable is asked
               module _ (still : Bool) (es : still ≡ tight && eqb i (getD (block .last) k 0)) (from : ℕ) (ea : from ≡ cond still size (k + 2))
@@ -261,5 +248,73 @@ module _ {script table quads leasts : List ℕ} {x : Context} {block : Block} (w
                   pub find-hit : y .found ≡ true → k < length (y .tuple) → FindOf w known k tight (record { found = true; tuple = set (y .tuple) k i })
                   find-hit g h r =
                       ap some (tuple-set y size k i below h)
-                      ∙ level-found body (nextAt (getD vars k 0)) (length (w .terms)) floor lo (findFrom w known k tight) (so-far r) i (ei .1 r) (omega (arith, counted))
+                      ∙ level-found body (nextAt (getD vars k 0)) (length (w .terms)) floor lo (findFrom w known k tight) (so-far r) i (ei .1 (later block k) r) (omega (arith, counted))
                       (numbersFrom (size - (k + 1)) (y .tuple) (k + 1)) (rest-is r ∙ rw g refl)
+
+  -- ── a variable that still has a number ──────────────────────────────────────────────────────
+
+  module _ (known : List ℕ) (j : ℕ) where
+    abbrev here : ℕ
+    here = getD vars j 0
+
+    abbrev may : ℕ → Option Tuple
+    may i = cond (mayHold (setting w) (w .typing) (w .terms) (w .rows) (w .tree) (bindingsOf known) here i) (some []) none
+
+    -- the numbers from lo on decide
+    abbrev pub HopeFrom : ℕ → Type 0
+    HopeFrom lo = (vs : List ℕ) → ReadyFor w known vs
+        → hopeAt (setting w) (w .typing) (w .terms) (w .rows) (w .tree) (bindingsOf known) here
+        ≡ isSome (tries may (nextAt known here) (length (w .terms)) (length (w .terms)) lo)
+
+    pub hope-starts : HopeFrom 0
+    unfolding hopeAt
+    hope-starts vs r = refl
+
+    floor-here : (lo : ℕ) → nextAt known here lo < length (w .terms) → lo ≤ nextAt known here lo
+    floor-here lo h = next-floor (setting w) (w .typing) (w .terms) (w .rows) (w .tree) (bindingsOf known) here lo h
+
+    module _ (lo : ℕ) (so-far : HopeFrom lo) where
+      abbrev whole : Option Tuple
+      whole = tries may (nextAt known here) (length (w .terms)) (length (w .terms)) lo
+
+      pub hope-past : x .count ≤ lo → HopeAt w known j false
+      hope-past h vs r =
+          sym (so-far vs r ∙ ap isSome (sym (level-past may (nextAt known here) (length (w .terms)) floor-here lo whole refl (omega (arith, counted)))))
+
+      module _ (i : ℕ) (ei : NextOf w known j lo i) where
+        pub hope-none : x .count ≤ i → HopeAt w known j false
+        hope-none h vs r =
+            sym (so-far vs r ∙ ap isSome (sym (level-none may (nextAt known here) (length (w .terms)) floor-here lo whole refl i (ei .1 vs r) (omega (arith, counted)))))
+
+        module _ (small : i < x .count) (inside : here < length known) {a n : ℕ}
+            (s : Sought (set known here i) (SeekOf table (set known here i) x (rowsOf quads x) here i a) n) where
+          with-here : bindingsOf (set known here i) ≡ bindTo here i (bindingsOf known)
+          with-here = set-bindings known here i inside (omega (arith, few table x (w .terms) (w .lent .tabled)))
+
+          ready-here : (vs : List ℕ) → ReadyFor w known vs → ReadyFor w (set known here i) vs
+          unfolding settingIn
+          ready-here vs r =
+              let h = next-holds (setting w) (w .typing) (w .terms) (w .rows) (w .tree) (bindingsOf known) here lo
+              (subst (λ x. x < length (w .terms)) (ei .1 vs r) (omega (arith, counted))) in
+              subst⁻¹ (λ (δ : Bindings). Ready (w .schema) (w .typing) (w .terms) δ vs (w .tree)) with-here
+              (ready-set (w .schema) (w .typing) (w .terms) (bindingsOf known) (w .tree) here i vs
+              (ready-more (w .schema) (w .typing) (w .terms) (bindingsOf known) (w .tree) here vs r)
+              (subst⁻¹ (λ x. Holds (w .schema) (w .terms) x (w .typing here)) (ei .1 vs r) h))
+
+          may-is : (vs : List ℕ) → ReadyFor w known vs → may i ≡ cond (eqb a i) (some []) none
+          may-is vs r =
+              let e = seek-is (set known here i) here i s vs (ready-here vs r) in
+              ap (λ (b : ℕ). cond (eqb b i) (some []) none)
+              (sym (e ∙ ap (λ (δ : Bindings). seek (setting w) (w .terms) (w .rows) δ here (w .tree) i) with-here))
+
+          pub hope-hit : a ≡ i → HopeAt w known j true
+          hope-hit h vs r =
+              let e = eq-eqb a i h in
+              sym (so-far vs r ∙ ap isSome (sym (level-found may (nextAt known here) (length (w .terms)) floor-here lo whole refl i (ei .1 vs r) (omega (arith, counted)) []
+              (may-is vs r ∙ rw e refl))))
+
+          pub hope-on : (a ≡ i → ⊥) → HopeFrom (i + 1)
+          hope-on h vs r =
+              let e = ne-eqb a i h in
+              so-far vs r ∙ ap isSome (level-on may (nextAt known here) (length (w .terms)) floor-here lo whole refl i (ei .1 vs r) (omega (arith, counted))
+              (may-is vs r ∙ rw e refl))

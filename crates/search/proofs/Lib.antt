@@ -12,3 +12,4 @@ pub mod LevelLaws
 pub mod FindLaws
 pub mod AnswerLaws
 pub mod AtBlock
+pub mod TriedLaws

@@ -1,7 +1,7 @@
 -- What is skipped cannot hold: where the query holds with number j for the variable, and j is not below the floor, the seek stops at j or before.
 use Prim.Native.Nat.{ℕ, _≤_, min}
 use native.Mathlib.Omega.{arith}
-use mathlib.Core.Path.{_≡_, refl, subst⁻¹}
+use mathlib.Core.Path.{_≡_, refl, ap, _∙_}
 use mathlib.Core.List.{List}
 use mathlib.Core.Bool.{Bool, true, false, cond, _&&_, _||_}
 use mathlib.Core.Option.{Option, none, some}
@@ -9,17 +9,17 @@ use lib.Dec.{T, eqb, eqb→eq, T-not}
 use lib.ListN.{length}
 use Rattle.definitions.specs.Terms.{Term}
 use Rattle.definitions.specs.Tree.{Name, var, const, Query}
-use Rattle.definitions.specs.Scope.{inCond}
 use Rattle.definitions.specs.Outcome.{Outcome, ok, fault, _>>=_}
-use Rattle.definitions.specs.Evaluate.{Setting, Bindings, Quad, stored, numberOf, query}
+use Rattle.definitions.specs.Evaluate.{Setting, Bindings, Quad, stored, numberOf, condition, query}
 use Rattle.definitions.specs.Truth.{isTrue}
 use Rattle.laws.proofs.Tests.{andLeft, andRight, by-test, trueIs}
-use Rattle.query.specs.Seek.{passes, sought, known, placeOf, placesOf, condKnown, seek}
-use Rattle.search.proofs.OnlyNamed.{condition-agrees}
+use Rattle.query.specs.Seek.{passes, sought, known, placeOf, placesOf, comesTo, may, seek}
+use Rattle.definitions.specs.Evaluated.{gives}
+use Rattle.definitions.specs.declared.Truth.{Truth}
 use Rattle.query.proofs.Outcomes.{passes-ok}
 use Rattle.query.proofs.Patterns.{pattern-ok}
-use Rattle.query.proofs.ScanLaws.{Meets, Matches, row-top, row-fits, scan-floor, scan-here}
-use Rattle.search.proofs.Filters.{Under, bound-agrees, cond-bound}
+use Rattle.query.proofs.ScanLaws.{Meets, Matches, row-top, row-fits, scan-top, scan-floor, scan-here}
+use Rattle.search.proofs.Filters.{Under, may-come}
 
 -- ── a name's place ──────────────────────────────────────────────────────────────────────────
 
@@ -48,6 +48,11 @@ union-pass (ok a) (fault x) P f g h = absurd h
 union-pass (ok true) (ok b) P f g h = f tt
 union-pass (ok false) (ok b) P f g h = g h
 
+filter-pass : (m : Outcome Truth) → T (passes (m >>= λ a. ok (isTrue a))) → T (gives (comesTo true) m)
+unfolding _>>=_ comesTo
+filter-pass (fault x) h = absurd h
+filter-pass (ok a) h = h
+
 -- ── the seek ────────────────────────────────────────────────────────────────────────────────
 
 module _ (σ : Setting) (terms : List Term) (quads : List Quad) (γ : Bindings) (v : ℕ) where
@@ -60,9 +65,19 @@ module _ (σ : Setting) (terms : List Term) (quads : List Quad) (γ : Bindings) 
   seek-floor m h (Query.both q r) lo l = seek-floor m h r (seek σ terms quads γ v q lo) (seek-floor m h q lo l)
   seek-floor m h (Query.union q r) lo l = omega (arith, seek-floor m h q lo l, seek-floor m h r lo l)
   seek-floor m h (Query.filter c) lo l =
-      by-test (λ x. m ≤ x) (condKnown γ c) _ lo
-      (λ k. by-test (λ x. m ≤ x) (test γ (Query.filter c)) lo (length terms) (λ k. l) (λ k. h)) (λ k. l)
+      by-test (λ x. m ≤ x) (may σ terms quads γ true c) lo (length terms) (λ k. l) (λ k. h)
   seek-floor m h Query.empty lo l = l
+
+  -- with nothing left to find nothing is found
+  pub seek-end : (q : Query) → seek σ terms quads γ v q (length terms) ≡ length terms
+  unfolding seek
+  seek-end (Query.pattern g s p o) =
+      let n = length terms in
+      omega (arith, scan-top (placesOf γ v g s p o) n n quads, scan-floor (placesOf γ v g s p o) n n n quads (omega arith) (omega arith))
+  seek-end (Query.both q r) = ap (seek σ terms quads γ v r) (seek-end q) ∙ seek-end r
+  seek-end (Query.union q r) = omega (arith, seek-end q, seek-end r)
+  seek-end (Query.filter c) = by-test (λ x. x ≡ length terms) (may σ terms quads γ true c) (length terms) (length terms) (λ k. refl) (λ k. refl)
+  seek-end Query.empty = refl
 
   module _ (δ : Bindings) (u : Under γ δ) (j : ℕ) (is : δ v ≡ some j) where
     pub seek-reaches : (q : Query) (lo : ℕ) → lo ≤ j → T (test δ q) → seek σ terms quads γ v q lo ≤ j
@@ -87,11 +102,6 @@ module _ (σ : Setting) (terms : List Term) (quads : List Quad) (γ : Bindings) 
         union-pass (query σ terms quads δ q) (query σ terms quads δ r) (min a b ≤ j)
         (λ k. omega (arith, seek-reaches q lo l k)) (λ k. omega (arith, seek-reaches r lo l k)) h
     seek-reaches (Query.filter c) lo l h =
-        by-test (λ x. x ≤ j) (condKnown γ c) _ lo
-        (λ k.
-        let same = condition-agrees σ terms quads γ δ c (bound-agrees γ δ u (λ x. inCond x c) (cond-bound γ c k)) in
-        let p : T (test γ (Query.filter c)) = subst⁻¹ (λ m. T (passes (m >>= λ a. ok (isTrue a)))) same h in
-        by-test (λ x. x ≤ j) (test γ (Query.filter c)) lo (length terms) (λ t. l)
-        (λ t. absurd (T-not (test γ (Query.filter c)) t p)))
-        (λ k. l)
+        by-test (λ x. x ≤ j) (may σ terms quads γ true c) lo (length terms) (λ t. l)
+        (λ t. absurd (T-not (may σ terms quads γ true c) t (may-come σ terms quads γ δ u true c (filter-pass (condition σ terms quads δ c) h))))
     seek-reaches Query.empty lo l h = l

@@ -8,9 +8,9 @@ use lib.Dec.{T, eqb, eqb→eq}
 use lib.ListN.{length}
 use Rattle.definitions.specs.Lists.{isIn}
 use Rattle.definitions.specs.Terms.{Term, Schema}
-use Rattle.definitions.specs.Tree.{Query}
-use Rattle.definitions.specs.Scope.{inQuery}
-use Rattle.definitions.specs.Typing.{queryTyped}
+use Rattle.definitions.specs.Tree.{Cond, Query}
+use Rattle.definitions.specs.Scope.{inCond, inQuery}
+use Rattle.definitions.specs.Typing.{condTyped, queryTyped}
 use Rattle.definitions.specs.Evaluate.{Setting, Bindings, Quad, query}
 use Rattle.definitions.specs.Search.{Typing}
 use Rattle.definitions.specs.Calls.{constantsOf}
@@ -18,15 +18,34 @@ use Rattle.laws.proofs.Tests.{andLeft, andRight}
 use Rattle.laws.proofs.Options.{some-is, some-not-none}
 use Rattle.laws.specs.Outcomes.{Fine, Any}
 use Rattle.laws.specs.Bindings.{Extends, Holds, Bound, WellBound}
-use Rattle.laws.proofs.Evaluate.{query-fine}
-use Rattle.laws.specs.Sound.{QueryBounded}
-use Rattle.query.specs.Seek.{set, clear}
+use Rattle.laws.proofs.Evaluate.{condition-fine, query-fine}
+use Rattle.laws.specs.Sound.{CondBounded, QueryBounded}
+use Rattle.query.specs.Seek.{SureTests, set, clear}
 use Rattle.search.specs.Seeking.{Sure}
 use Rattle.search.specs.Ready.{Ready}
-use Rattle.search.proofs.Filters.{cond-bound}
+use Rattle.search.proofs.Filters.{expr-bound, pair-bound}
 
 module _ (σ : Setting) (Γ : Typing) (terms : List Term) (quads : List Quad) where
   module _ (loaded : List Term) (extends : Extends loaded terms) (γ : Bindings) (wellBound : WellBound (σ .schema) Γ terms γ) where
+    -- every test that is known
+    tests-sure : (c : Cond) → CondBounded (length loaded) c → T (condTyped (constantsOf (σ .schema) loaded) Γ c) → SureTests σ terms quads γ c
+    unfolding condTyped inCond
+    tests-sure Cond.no b t = tt
+    tests-sure Cond.yes b t = tt
+    tests-sure (Cond.or c d) b t =
+        let first = condTyped (constantsOf (σ .schema) loaded) Γ c in
+        let second = condTyped (constantsOf (σ .schema) loaded) Γ d in
+        (tests-sure c (b .0) (andLeft first second t), tests-sure d (b .1) (andRight first second t))
+    tests-sure (Cond.and c d) b t =
+        let first = condTyped (constantsOf (σ .schema) loaded) Γ c in
+        let second = condTyped (constantsOf (σ .schema) loaded) Γ d in
+        (tests-sure c (b .0) (andLeft first second t), tests-sure d (b .1) (andRight first second t))
+    tests-sure (Cond.not c) b t = tests-sure c b t
+    tests-sure (Cond.regex p e) b t = λ k. condition-fine σ Γ loaded terms extends quads γ wellBound (Cond.regex p e) b (expr-bound γ e k) t
+    tests-sure (Cond.langMatches r e) b t = λ k. condition-fine σ Γ loaded terms extends quads γ wellBound (Cond.langMatches r e) b (expr-bound γ e k) t
+    tests-sure (Cond.equal e f) b t = λ k. condition-fine σ Γ loaded terms extends quads γ wellBound (Cond.equal e f) b (pair-bound γ e f k) t
+    tests-sure (Cond.less e f) b t = λ k. condition-fine σ Γ loaded terms extends quads γ wellBound (Cond.less e f) b (pair-bound γ e f k) t
+
     sure : (q : Query) → QueryBounded (length loaded) q → T (queryTyped (constantsOf (σ .schema) loaded) Γ q) → Sure σ terms quads γ q
     unfolding query queryTyped inQuery
     sure (Query.pattern g s p o) b t = tt
@@ -38,7 +57,7 @@ module _ (σ : Setting) (Γ : Typing) (terms : List Term) (quads : List Quad) wh
         let first = queryTyped (constantsOf (σ .schema) loaded) Γ q in
         let second = queryTyped (constantsOf (σ .schema) loaded) Γ r in
         (sure q (b .0) (andLeft first second t), sure r (b .1) (andRight first second t))
-    sure (Query.filter c) b t = λ k. query-fine σ Γ loaded terms extends quads γ wellBound (Query.filter c) b (cond-bound γ c k) t
+    sure (Query.filter c) b t = tests-sure c b t
     sure Query.empty b t = tt
 
   module _ (γ : Bindings) (q : Query) where
@@ -67,6 +86,21 @@ module _ (S : Schema) (Γ : Typing) (terms : List Term) (γ : Bindings) (q : Que
       found : (x : ℕ) (b : Bool) → eqb x v ≡ b → (T (not (b || isIn x vs) && inQuery x q) → Bound γ x) → T (not (isIn x vs) && inQuery x q) → Bound (set v i γ) x
       found x true e f m = record { number = i; is = rw e refl }
       found x false e f m = let g = f m in record { number = g .number; is = rw e (g .is) }
+
+  -- one more variable to choose
+  pub ready-more : (v : ℕ) (vs : List ℕ) → Ready S Γ terms γ vs q → Ready S Γ terms γ (v ∷ vs) q
+  ready-more v vs r = record {
+    loaded = r .loaded;
+    extends = r .extends;
+    wellBound = r .wellBound;
+    bounded = r .bounded;
+    bound = λ x m. r .bound x (fewer (eqb x v) (isIn x vs) (inQuery x q) m);
+    typed = r .typed;
+  }
+    where
+      fewer : (a b c : Bool) → T (not (a || b) && c) → T (not b && c)
+      fewer true b c h = absurd h
+      fewer false b c h = h
 
   -- the block's own variables not known
   pub ready-clear : (vs : List ℕ) → Ready S Γ terms γ vs q → Ready S Γ terms (clear vs γ) vs q

@@ -3,28 +3,26 @@ use Prim.Native.Nat.{ℕ, _≤_, min}
 use native.Mathlib.Omega.{arith}
 use mathlib.Core.Path.{_≡_, refl, sym, _∙_, ap, ap₂}
 use mathlib.Core.List.{List}
-use mathlib.Core.Bool.{Bool, true, false, cond}
+use mathlib.Core.Bool.{Bool, true, false, cond, _&&_}
 use mathlib.Core.Option.{some}
-use mathlib.Core.Logic.{_⊎_, inl, inr}
+use lib.Dec.{eqb, eqb→eq, leb, leb→le}
 use lib.ListN.{length}
+use Rattle.laws.proofs.Tests.{andLeft, andRight, trueIs}
 use Rattle.definitions.specs.Terms.{Term, Schema}
 use Rattle.definitions.specs.Tree.{Cond, Query}
-use Rattle.definitions.specs.Evaluate.{Quad, query}
+use Rattle.definitions.specs.Evaluate.{Quad}
 use Rattle.definitions.specs.Saved.{termsIn}
-use Rattle.laws.proofs.Tests.{trueIs}
 use Rattle.laws.proofs.Options.{same-some}
-use Rattle.laws.proofs.NoFault.{fine-ok}
-use Rattle.query.specs.Seek.{passes, placesOf, scan, condKnown, seek}
+use Rattle.query.specs.Seek.{placesOf, scan, may, seek}
 use Rattle.query.specs.Codes.{placesAt, bindingsOf, Coded}
 use Rattle.query.specs.declared.Context.{Context}
 use Rattle.query.specs.StoreLent.{settingIn}
-use Rattle.query.specs.Eval.{Lent, FilterHolds}
-use Rattle.search.specs.Seeking.{Sure, SeekOf}
+use Rattle.query.specs.Eval.{Lent, MayOf}
+use Rattle.search.specs.Seeking.{SeekOf}
 use Rattle.query.specs.declared.Four.{Four}
-use Rattle.query.proofs.Outcomes.{ok-passes}
 use Rattle.query.proofs.CodeLaws.{code-place}
 use Rattle.query.proofs.ScanLaws.{scan-floor}
-use Rattle.search.proofs.Reaches.{seek-floor}
+use Rattle.search.proofs.Reaches.{seek-floor, seek-end}
 
 module _ (table known : List ℕ) (x : Context) (l : Lent table known x) (rows : List Quad) (v : ℕ) where
   counted : (terms : List Term) → termsIn table ≡ some terms → x .count ≡ length terms
@@ -59,55 +57,58 @@ module _ (table known : List ℕ) (x : Context) (l : Lent table known x) (rows :
         k .1 S terms t (sure .1) ∙ ap (seek (settingIn S x) terms rows (bindingsOf known) v r) (h .1 S terms t (sure .0)),
   )
 
-  -- the second part is sought from lo on; or else the first gives lo, which is the least of all
-  pub union-seeks : (q r : Query) (lo a from b least : ℕ) → least ≡ min a b → (from ≡ lo) ⊎ ((from ≡ x .count) × (a ≡ lo) × (lo ≤ x .count))
-      → SeekOf table known x rows v lo a q → SeekOf table known x rows v from b r → SeekOf table known x rows v lo least (Query.union q r)
+  -- a first part that finds nothing leaves nothing to find
+  pub both-ended : (q r : Query) (lo a : ℕ) → a ≡ x .count → SeekOf table known x rows v lo a q → SeekOf table known x rows v lo a (Query.both q r)
   unfolding seek
-  union-seeks q r lo a from b least e (inl f) h k = (
-    omega (arith, h .0, k .0),
+  both-ended q r lo a e h = (
+    omega (arith, h .0),
     λ S terms t sure.
         let s = seek (settingIn S x) terms rows (bindingsOf known) v r in
-        e ∙ ap₂ min (h .1 S terms t (sure .0)) (k .1 S terms t (sure .1) ∙ ap s f),
+        let n = counted terms t in
+        e ∙ (n ∙ (sym (seek-end (settingIn S x) terms rows (bindingsOf known) v r) ∙ ap s (sym n ∙ (sym e ∙ h .1 S terms t (sure .0))))),
   )
-  union-seeks q r lo a from b least e (inr f) h k = (
-    omega (arith, h .0, k .0, f),
+
+  -- a first part that gives lo gives the least of all
+  pub union-first : (q r : Query) (lo a : ℕ) → (eqb a lo && leb lo (x .count)) ≡ true → SeekOf table known x rows v lo a q → SeekOf table known x rows v lo lo (Query.union q r)
+  unfolding seek
+  union-first q r lo a both h = (
+    omega arith,
     λ S terms t sure.
+        let e : a ≡ lo = eqb→eq a lo (andLeft (eqb a lo) (leb lo (x .count)) (trueIs (eqb a lo && leb lo (x .count)) both)) in
+        let f : lo ≤ x .count = leb→le lo (x .count) (andRight (eqb a lo) (leb lo (x .count)) (trueIs (eqb a lo && leb lo (x .count)) both)) in
         let n = counted terms t in
         let d = seek-floor (settingIn S x) terms rows (bindingsOf known) v lo (omega (arith, f)) r lo (omega arith) in
-        omega (arith, e, f, h .1 S terms t (sure .0), k .0, d),
+        omega (arith, e, h .1 S terms t (sure .0), d),
+  )
+
+  pub union-seeks : (q r : Query) (lo a b least : ℕ) → least ≡ min a b
+      → SeekOf table known x rows v lo a q → SeekOf table known x rows v lo b r → SeekOf table known x rows v lo least (Query.union q r)
+  unfolding seek
+  union-seeks q r lo a b least e h k = (
+    omega (arith, h .0, k .0),
+    λ S terms t sure. e ∙ ap₂ min (h .1 S terms t (sure .0)) (k .1 S terms t (sure .1)),
   )
 
   pub empty-seeks : (lo : ℕ) → SeekOf table known x rows v lo lo Query.empty
   unfolding seek
   empty-seeks lo = (omega arith, λ S terms t sure. refl)
 
-  -- a filter: not known, or known and true, or known and false
-  module _ (c : Cond) (lo : ℕ) {k : Bool} (ek : k ≡ condKnown (bindingsOf known) c) where
+  -- a filter
+  module _ (c : Cond) (lo : ℕ) where
     -- with nothing left to find it does not matter
     pub ended-seeks : lo ≡ x .count → SeekOf table known x rows v lo lo (Query.filter c)
     unfolding seek
-    ended-seeks e = (omega arith, λ S terms t sure. go (condKnown (bindingsOf known) c) (passes (query (settingIn S x) terms rows (bindingsOf known) (Query.filter c))) (e ∙ counted terms t))
+    ended-seeks e = (omega arith, λ S terms t sure. go (may (settingIn S x) terms rows (bindingsOf known) true c) (e ∙ counted terms t))
       where
-        go : (a b : Bool) {n : ℕ} → lo ≡ n → lo ≡ cond a (cond b lo n) lo
-        go true true h = refl
-        go true false h = h
-        go false b h = refl
+        go : (b : Bool) {n : ℕ} → lo ≡ n → lo ≡ cond b lo n
+        go true h = refl
+        go false h = h
 
-    pub unknown-seeks : k ≡ false → SeekOf table known x rows v lo lo (Query.filter c)
-    unfolding seek
-    unknown-seeks e = (omega arith, λ S terms t sure. rw (sym ek ∙ e) refl)
-
-    module _ (e : k ≡ true) {b : Bool} (holds : FilterHolds table known x b c) where
-      tested : (S : Schema) (terms : List Term) → termsIn table ≡ some terms → Sure (settingIn S x) terms rows (bindingsOf known) (Query.filter c)
-          → passes (query (settingIn S x) terms rows (bindingsOf known) (Query.filter c)) ≡ b
-      tested S terms t sure =
-          let f = fine-ok (sure (trueIs (condKnown (bindingsOf known) c) (sym ek ∙ e))) in
-          ok-passes (f .1) ∙ sym (holds rows S terms t (f .0) (f .1))
-
-      pub true-seeks : b ≡ true → SeekOf table known x rows v lo lo (Query.filter c)
+    module _ {b : Bool} (h : MayOf table known x true b c) where
+      pub may-seeks : b ≡ true → SeekOf table known x rows v lo lo (Query.filter c)
       unfolding seek
-      true-seeks h = (omega arith, λ S terms t sure. rw (sym ek ∙ e, tested S terms t sure ∙ h) refl)
+      may-seeks e = (omega arith, λ S terms t sure. rw (sym (h S terms rows t sure) ∙ e) refl)
 
-      pub false-seeks : b ≡ false → SeekOf table known x rows v lo (x .count) (Query.filter c)
+      pub cannot-seeks : b ≡ false → SeekOf table known x rows v lo (x .count) (Query.filter c)
       unfolding seek
-      false-seeks h = (omega arith, λ S terms t sure. rw (sym ek ∙ e, tested S terms t sure ∙ h) (counted terms t))
+      cannot-seeks e = (omega arith, λ S terms t sure. rw (sym (h S terms rows t sure) ∙ e) (counted terms t))

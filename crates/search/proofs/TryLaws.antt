@@ -12,7 +12,10 @@ use Rattle.definitions.specs.Terms.{Term, Schema}
 use Rattle.definitions.specs.Values.{before}
 use Rattle.definitions.specs.Search.{Tuple, earlier}
 use Rattle.definitions.specs.Sound.{numberHas}
+use borrow.Author.Tests.{lt-ltb}
 use Rattle.laws.proofs.Tests.{andMake, by-test}
+use Rattle.laws.proofs.Options.{some-not-none}
+use Rattle.laws.specs.ReadAnswers.{isSome}
 use Rattle.query.specs.Seek.{skip, startAt, restOf, found, tries}
 use Rattle.search.proofs.TupleOrder.{isAfter}
 use Rattle.search.proofs.FirstTuple.{First, first-map}
@@ -84,6 +87,22 @@ after-both (some (l ∷ ls)) i t k h = go (eqb i l) (eqb→eq i l) (λ (e : i �
 abbrev From : ℕ → Tuple → Type 0
 From lo [] = Unit {0}
 From lo (j ∷ t) = lo ≤ j
+
+-- where the number j is a hit and is not passed over, something is found
+module _ (body : ℕ → Option Tuple) (next : ℕ → ℕ) (end : ℕ) (floor : (lo : ℕ) → next lo < end → lo ≤ next lo)
+    (j : ℕ) (inside : j < end) (reaches : (lo : ℕ) → lo ≤ j → next lo ≤ j) {t : Tuple} (hit : body j ≡ some t) where
+  pub tries-some : (n lo : ℕ) → end ≤ lo + n → lo ≤ j → T (isSome (tries body next end n lo))
+  unfolding tries
+  tries-some zero lo h l = absurd (omega arith)
+  tries-some (suc n) lo h l =
+      let r = reaches lo l in
+      let f = floor lo (omega arith) in
+      rw (lt-ltb (next lo) end (omega arith)) (go (body (next lo)) refl (λ d. tries-some n (suc (next lo)) (omega arith) (omega arith)))
+    where
+      go : (o : Option Tuple) → body (next lo) ≡ o → ((next lo ≡ j → ⊥) → T (isSome (tries body next end n (suc (next lo)))))
+          → T (isSome (found (next lo) o (tries body next end n (suc (next lo)))))
+      go (some u) e k = tt
+      go none e k = k (λ m. some-not-none hit (subst (λ x. body x ≡ none) m e))
 
 -- over what a level's `next` and `body` are known to do
 module _ (Good : Tuple → Type 0) (body : ℕ → Option Tuple) (next : ℕ → ℕ) (end start : ℕ)

@@ -47,7 +47,7 @@ module _ (leasts : List ℕ) (ty count i whole : ℕ) (so-far : whole ≡ skipTy
 module _ (S : Schema) (terms : List Term) (leasts : List ℕ)
     (each : (i : ℕ) (t : Term) → getElem? terms i ≡ some t → typeOfCode (getD leasts i 0) ≡ some (least (sortOf S t)))
     (ty : ℕ) (τ : Ty) (is : typeOfCode ty ≡ some τ) where
-  has-code : (i : ℕ) → i < length terms → codeLeq (getD leasts i 0) ty ≡ numberHas S terms i τ
+  pub has-code : (i : ℕ) → i < length terms → codeLeq (getD leasts i 0) ty ≡ numberHas S terms i τ
   has-code i h =
       let t = there-is terms i h in
       code-leq (getD leasts i 0) ty (least (sortOf S (t .0))) τ (each i (t .0) (t .1)) is ∙ (sym (has-least (sortOf S (t .0)) τ) ∙ rw (t .1) refl)

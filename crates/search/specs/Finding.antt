@@ -72,13 +72,12 @@ module _ {script table quads leasts : List ℕ} {x : Context} {block : Block} (w
     abbrev pub ReadyFor : List ℕ → Type 0
     ReadyFor vs = Ready (w .schema) (w .typing) (w .terms) (bindingsOf known) vs (w .tree)
 
-    -- it never goes back
+    -- it never goes back; which variables are still to choose does not matter here
     abbrev pub NextOf : (k lo r : ℕ) → Type 0
     NextOf k lo r =
         (min lo (x .count) ≤ r)
-        × (ReadyFor (later block k) → r ≡ next setting (w .typing) (w .terms) (w .rows) (w .tree) (bindingsOf known) (getD (block .vars) k 0) lo)
+        × ((vs : List ℕ) → ReadyFor vs → r ≡ next setting (w .typing) (w .terms) (w .rows) (w .tree) (bindingsOf known) (getD (block .vars) k 0) lo)
 
-    -- which variables are still to choose does not matter here
     abbrev pub HopeAt : (j : ℕ) → Bool → Type 0
     HopeAt j r = (vs : List ℕ) → ReadyFor vs → r ≡ hopeAt setting (w .typing) (w .terms) (w .rows) (w .tree) (bindingsOf known) (getD (block .vars) j 0)
 

@@ -1,3 +1,4 @@
 pub mod Seeking
 pub mod Ready
 pub mod Finding
+pub mod Trying

@@ -3,24 +3,22 @@ use Prim.Native.Nat.{ℕ, _≤_, min}
 use mathlib.Core.Path.{_≡_}
 use mathlib.Core.List.{List}
 use mathlib.Core.Option.{some}
-use lib.Dec.{T}
 use Rattle.definitions.specs.Terms.{Term, Schema}
 use Rattle.definitions.specs.Tree.{Cond, Query}
-use Rattle.definitions.specs.Evaluate.{Setting, Bindings, Quad, query}
+use Rattle.definitions.specs.Evaluate.{Setting, Bindings, Quad}
 use Rattle.definitions.specs.Saved.{termsIn}
-use Rattle.laws.specs.Outcomes.{Fine, Any}
-use Rattle.query.specs.Seek.{condKnown, seek}
+use Rattle.query.specs.Seek.{SureTests, seek}
 use Rattle.query.specs.Codes.{bindingsOf}
 use Rattle.query.specs.StoreLent.{settingIn}
 use Rattle.query.specs.declared.Context.{Context}
 
--- every filter whose variables are all known meets no fault
+-- every test whose variables are all known meets no fault
 module _ (σ : Setting) (terms : List Term) (quads : List Quad) (γ : Bindings) where
   abbrev pub Sure : Query → Type 0
   Sure (Query.pattern g s p o) = Unit {0}
   Sure (Query.both q r) = Sure q × Sure r
   Sure (Query.union q r) = Sure q × Sure r
-  Sure (Query.filter c) = T (condKnown γ c) → Fine Any (query σ terms quads γ (Query.filter c))
+  Sure (Query.filter c) = SureTests σ terms quads γ c
   Sure Query.empty = Unit {0}
 
 -- `least` is what the seek of v from lo on gives; it never goes back

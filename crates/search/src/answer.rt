@@ -1,5 +1,6 @@
 // A block's first answer after its last tuple.
 ghost use mathlib.Core.Path.{_≡_};
+ghost use Rattle.laws.specs.Ends.{EndsLent};
 ghost use lib.ListN.{length, getD};
 ghost use Prim.Native.Nat.{ℕ, _≤_, _<_};
 ghost use Rattle.query.specs.Seek.{clear};
@@ -37,6 +38,7 @@ fn cleared(known: [usize; VARIABLE_LIMIT], block: Block) -> [usize; VARIABLE_LIM
 // Ruled out: the last tuple found again; the block's own variables kept as they were bound before.
 pub fn answer(
     script: &[u8],
+    ends: &[u16],
     context: Context,
     block: Block,
     table: &[u8],
@@ -46,11 +48,13 @@ pub fn answer(
     started: bool,
 ) -> Found
     requires { ⌜ World (now script) (now table) (now quads) (now leasts) context block ⌝ }
+    requires { ⌜ EndsLent (now script) (now ends) ⌝ }
     ensures { λ r. ⌜ ((w : World (now (script .entry)) (now (table .entry)) (now (quads .entry)) (now (leasts .entry)) context block) → AnswerOf w known started r) ⌝ }
 {
     let opened = cleared(known, block);
     find(
         script,
+        ends,
         context,
         block,
         table,

@@ -1,5 +1,6 @@
 // The first answer of a block after a tuple, variable by variable.
 ghost use mathlib.Core.Path.{_≡_};
+ghost use Rattle.laws.specs.Ends.{EndsLent};
 ghost use mathlib.Core.Bool.{cond};
 ghost use lib.ListN.{length};
 ghost use Prim.Native.Nat.{_-_, _≤_, _<_};
@@ -32,6 +33,7 @@ fn skip(leasts: &[u8], ty: u8, from: usize, count: usize) -> usize
 // The next number for the variable at place k, from lo on.
 fn next(
     script: &[u8],
+    ends: &[u16],
     context: Context,
     block: Block,
     table: &[u8],
@@ -42,6 +44,7 @@ fn next(
     lo: usize,
 ) -> usize
     requires { ⌜ World (now script) (now table) (now quads) (now leasts) context block ⌝ }
+    requires { ⌜ EndsLent (now script) (now ends) ⌝ }
     requires { ⌜ length (now known) ≡ variableLimit ⌝ }
     requires { ⌜ k < block .size ⌝ }
     ensures { λ r. ⌜ ((w : World (now (script .entry)) (now (table .entry)) (now (quads .entry)) (now (leasts .entry)) context block) → NextOf w (now (known .entry)) k lo r) ⌝ }
@@ -50,58 +53,103 @@ fn next(
     let left = block.left;
     let vars = block.vars;
     let types = block.types;
-    let s = seek(script, context, at, left, table, known, quads, vars[k], lo);
+    let s = seek(
+        script,
+        ends,
+        context,
+        at,
+        left,
+        table,
+        known,
+        quads,
+        vars[k],
+        lo,
+    );
     skip(leasts, types[k], s.least, context.count)
 }
 
-// Whether the variable at place j still has a number: two passes of the seek.
+// Whether the variable at place j still has a number with which the query may hold. What a filter says of that variable alone is so found out before
+// others are chosen.
 fn hope(
     script: &[u8],
+    ends: &[u16],
     context: Context,
     block: Block,
     table: &[u8],
     quads: &[u16],
     leasts: &[u8],
-    known: &[usize],
+    known: [usize; VARIABLE_LIMIT],
     j: usize,
 ) -> bool
     requires { ⌜ World (now script) (now table) (now quads) (now leasts) context block ⌝ }
-    requires { ⌜ length (now known) ≡ variableLimit ⌝ }
+    requires { ⌜ EndsLent (now script) (now ends) ⌝ }
     requires { ⌜ j < block .size ⌝ }
-    ensures { λ r. ⌜ ((w : World (now (script .entry)) (now (table .entry)) (now (quads .entry)) (now (leasts .entry)) context block) → HopeAt w (now (known .entry)) j r) ⌝ }
+    ensures { λ r. ⌜ ((w : World (now (script .entry)) (now (table .entry)) (now (quads .entry)) (now (leasts .entry)) context block) → HopeAt w known j r) ⌝ }
 {
     let at = block.at;
     let left = block.left;
     let count = context.count;
     let vars = block.vars;
-    let w = vars[j];
-    let a = seek(script, context, at, left, table, known, quads, w, 0);
-    if count <= a.least {
-        return false;
+    let v = vars[j];
+    let mut lo = 0;
+    while lo < count {
+        let number = next(
+            script,
+            ends,
+            context,
+            block,
+            table,
+            quads,
+            leasts,
+            &known,
+            j,
+            lo,
+        );
+        if count <= number {
+            return false;
+        }
+        let mut with = known;
+        with[v] = number;
+        let s = seek(
+            script,
+            ends,
+            context,
+            at,
+            left,
+            table,
+            &with,
+            quads,
+            v,
+            number,
+        );
+        if s.least == number {
+            return true;
+        }
+        lo = number + 1;
     }
-    let b = seek(script, context, at, left, table, known, quads, w, a.least);
-    b.least < count
+    false
 }
 
 // Whether each variable from a place on still has a number.
 fn hopeful(
     script: &[u8],
+    ends: &[u16],
     context: Context,
     block: Block,
     table: &[u8],
     quads: &[u16],
     leasts: &[u8],
-    known: &[usize],
+    known: [usize; VARIABLE_LIMIT],
     from: usize,
 ) -> bool
     requires { ⌜ World (now script) (now table) (now quads) (now leasts) context block ⌝ }
-    requires { ⌜ length (now known) ≡ variableLimit ⌝ }
-    ensures { λ r. ⌜ ((w : World (now (script .entry)) (now (table .entry)) (now (quads .entry)) (now (leasts .entry)) context block) → HopeOf w (now (known .entry)) from r) ⌝ }
+    requires { ⌜ EndsLent (now script) (now ends) ⌝ }
+    ensures { λ r. ⌜ ((w : World (now (script .entry)) (now (table .entry)) (now (quads .entry)) (now (leasts .entry)) context block) → HopeOf w known from r) ⌝ }
 {
     let size = block.size;
     let mut j = from;
     while j < size {
-        if !hope(script, context, block, table, quads, leasts, known, j) {
+        if !hope(script, ends, context, block, table, quads, leasts, known, j) {
             return false;
         }
         j += 1;
@@ -119,6 +167,7 @@ fn either(first: bool, a: usize, b: usize) -> usize
 // variables are not asked. Ruled out: a term skipped after each one tried; a number tried whatever its term's type is.
 pub fn find(
     script: &[u8],
+    ends: &[u16],
     context: Context,
     block: Block,
     table: &[u8],
@@ -129,6 +178,7 @@ pub fn find(
     tight: bool,
 ) -> Found
     requires { ⌜ World (now script) (now table) (now quads) (now leasts) context block ⌝ }
+    requires { ⌜ EndsLent (now script) (now ends) ⌝ }
     ensures { λ r. ⌜ ((w : World (now (script .entry)) (now (table .entry)) (now (quads .entry)) (now (leasts .entry)) context block) → FindOf w known k tight r) ⌝ }
     ensures { λ r. ⌜ length (r .tuple) ≡ pairLimit ⌝ }
 {
@@ -143,7 +193,7 @@ pub fn find(
                 tuple: [0; PAIR_LIMIT],
             };
         }
-        let t = eval_query(script, context, at, left, table, &known, quads);
+        let t = eval_query(script, ends, context, at, left, table, &known, quads);
         return Found {
             found: t.holds,
             tuple: [0; PAIR_LIMIT],
@@ -155,7 +205,18 @@ pub fn find(
     let l = last[k];
     let mut lo = either(tight, l, 0);
     while lo < count {
-        let i = next(script, context, block, table, quads, leasts, &known, k, lo);
+        let i = next(
+            script,
+            ends,
+            context,
+            block,
+            table,
+            quads,
+            leasts,
+            &known,
+            k,
+            lo,
+        );
         if count <= i {
             return Found {
                 found: false,
@@ -166,9 +227,20 @@ pub fn find(
         with[v] = i;
         let still = tight & (i == l);
         let ahead = either(still, size, k + 2);
-        if hopeful(script, context, block, table, quads, leasts, &with, ahead) {
+        if hopeful(
+            script,
+            ends,
+            context,
+            block,
+            table,
+            quads,
+            leasts,
+            with,
+            ahead,
+        ) {
             let r = find(
                 script,
+                ends,
                 context,
                 block,
                 table,

@@ -4,6 +4,7 @@ use definitions::PAIR_LIMIT;
 pub mod answer;
 mod find;
 mod seek;
+pub mod trying; // trying.rt: one tuple
 
 // What the seek finds at a query's record: the offset after it, and the least number.
 pub struct Sought {
@@ -26,4 +27,12 @@ pub struct Block {
 pub struct Found {
     pub found: bool,
     pub tuple: [usize; PAIR_LIMIT],
+}
+
+// One tuple tried: whether its terms have the variables' types, and then whether the query holds, and how many records were
+// evaluated for it.
+pub struct Tried {
+    pub fits: bool,
+    pub holds: bool,
+    pub records: usize,
 }

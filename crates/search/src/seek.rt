@@ -1,17 +1,17 @@
 // The least number from which on a query could still hold for some choice of the variables that are not known.
 ghost use mathlib.Core.Path.{_≡_};
-ghost use mathlib.Core.Logic.{_⊎_};
-ghost use Prim.Native.Nat.{_≤_, min};
+ghost use Prim.Native.Nat.{min};
 ghost use Rattle.definitions.specs.Reading.{readCond, readQuery};
+ghost use Rattle.laws.specs.Ends.{EndsLent};
 ghost use Rattle.laws.specs.Walks.{Loads};
 ghost use Rattle.laws.specs.Walks.{Walked};
 ghost use Rattle.query.specs.StoreLent.{Stored, rowsOf};
 ghost use Rattle.query.specs.Eval.{Lent};
 ghost use Rattle.search.specs.Seeking.{FilterOf, SeekOf};
 use crate::Sought;
+use ends::after;
 use query::Context;
-use query::eval::eval_filter;
-use query::names::known_cond;
+use query::may::may_cond;
 use query::names::names_at;
 use query::scan::scan;
 
@@ -21,21 +21,10 @@ fn smaller(a: usize, b: usize) -> usize
     if a <= b { a } else { b }
 }
 
-// Where the second part of a union is sought from: once the first gives lo, nothing less is left to find.
-fn second_from(least: usize, lo: usize, count: usize) -> usize
-    ensures { λ r. ⌜ (r ≡ lo) ⊎ ((r ≡ count) × (least ≡ lo) × (lo ≤ count)) ⌝ }
-{
-    if least == lo {
-        if lo <= count {
-            return count;
-        }
-    }
-    lo
-}
-
-// A filter: lo, or the count where all its variables are known and it does not hold.
+// A filter: lo, or the count where it cannot hold any more.
 fn seek_filter(
     script: &[u8],
+    ends: &[u16],
     context: Context,
     at: usize,
     left: u8,
@@ -45,31 +34,23 @@ fn seek_filter(
 ) -> Sought
     requires { ⌜ Loads (readCond (now script) (context .loaded) left at) ⌝ }
     requires { ⌜ Lent (now table) (now known) context ⌝ }
+    requires { ⌜ EndsLent (now script) (now ends) ⌝ }
     ensures { λ r. ⌜ Walked (FilterOf (now (table .entry)) (now (known .entry)) context lo (r .least)) (readCond (now (script .entry)) (context .loaded) left at) (r .next) ⌝ }
 {
     let count = context.count;
-    let k = known_cond(script, context.loaded, at, left, known);
-    if !k.holds {
-        return Sought {
-            next: k.next,
-            least: lo,
-        };
-    }
     if lo == count {
-        return Sought {
-            next: k.next,
-            least: lo,
-        };
+        let next = after(ends, script.len(), at);
+        return Sought { next, least: lo };
     }
-    let t = eval_filter(script, context, at, left, table, known);
-    if t.holds {
+    let m = may_cond(script, ends, context, at, left, table, known, true);
+    if m.holds {
         return Sought {
-            next: k.next,
+            next: m.next,
             least: lo,
         };
     }
     Sought {
-        next: k.next,
+        next: m.next,
         least: count,
     }
 }
@@ -78,6 +59,7 @@ fn seek_filter(
 // Ruled out: a union of its first part only; a filter passed over whose variables are all known.
 pub fn seek(
     script: &[u8],
+    ends: &[u16],
     context: Context,
     at: usize,
     left: u8,
@@ -89,6 +71,7 @@ pub fn seek(
 ) -> Sought
     requires { ⌜ Loads (readQuery (now script) (context .loaded) left at) ⌝ }
     requires { ⌜ Lent (now table) (now known) context ⌝ }
+    requires { ⌜ EndsLent (now script) (now ends) ⌝ }
     requires { ⌜ Stored (now quads) context ⌝ }
     ensures { λ r. ⌜ Walked (SeekOf (now (table .entry)) (now (known .entry)) context (rowsOf (now (quads .entry)) context) v lo (r .least))
         (readQuery (now (script .entry)) (context .loaded) left at) (r .next) ⌝ }
@@ -106,9 +89,28 @@ pub fn seek(
             }
         }
         0x62 => {
-            let a = seek(script, context, first, below, table, known, quads, v, lo);
+            let a = seek(
+                script,
+                ends,
+                context,
+                first,
+                below,
+                table,
+                known,
+                quads,
+                v,
+                lo,
+            );
+            if a.least == context.count {
+                let next = after(ends, script.len(), at);
+                return Sought {
+                    next,
+                    least: a.least,
+                };
+            }
             seek(
                 script,
+                ends,
                 context,
                 a.next,
                 below,
@@ -120,16 +122,41 @@ pub fn seek(
             )
         }
         0x63 => {
-            let a = seek(script, context, first, below, table, known, quads, v, lo);
-            let from = second_from(a.least, lo, context.count);
-            let b = seek(script, context, a.next, below, table, known, quads, v, from);
+            let a = seek(
+                script,
+                ends,
+                context,
+                first,
+                below,
+                table,
+                known,
+                quads,
+                v,
+                lo,
+            );
+            if (a.least == lo) & (lo <= context.count) {
+                let next = after(ends, script.len(), at);
+                return Sought { next, least: lo };
+            }
+            let b = seek(
+                script,
+                ends,
+                context,
+                a.next,
+                below,
+                table,
+                known,
+                quads,
+                v,
+                lo,
+            );
             let least = smaller(a.least, b.least);
             Sought {
                 next: b.next,
                 least,
             }
         }
-        0x64 => seek_filter(script, context, first, below, table, known, lo),
+        0x64 => seek_filter(script, ends, context, first, below, table, known, lo),
         _ => Sought {
             next: first,
             least: lo,

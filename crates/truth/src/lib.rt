@@ -1,5 +1,6 @@
 // Booleans of a script: true, false or unknown.
 ghost use mathlib.Core.Path.{_≡_};
+ghost use mathlib.Core.Bool.{cond};
 ghost use Rattle.definitions.specs.Truth.{notTruth, andTruth, orTruth, isTrue};
 ghost use Rattle.truth.specs.Told.{toldOf};
 use definitions::Truth;
@@ -56,6 +57,16 @@ pub fn or_of(a: Truth, b: Truth) -> Truth
             Truth::Unknown => Truth::Unknown,
         },
     }
+}
+
+// Whether a boolean is true, or, where that is wanted, false. Ruled out: unknown taken for false; false taken for true.
+pub fn comes_to(a: Truth, want: bool) -> bool
+    ensures { λ r. ⌜ r ≡ isTrue (cond want a (notTruth a)) ⌝ }
+{
+    if want {
+        return is_true(a);
+    }
+    is_true(not_of(a))
 }
 
 // Whether a filter holds. Ruled out: one that holds on unknown; one that holds on false alone.

@@ -2,15 +2,19 @@
 //!
 //! Build for release. Each call is timed alone on a fresh copy of its buffers, made just before it, so inputs and tables
 //! are warm; the engines take turns, and the least of the repetitions is given, which other work on the machine
-//! disturbs least. An argument leaves out the workloads whose name does not have it in it.
+//! disturbs least. An argument leaves out the workloads whose name does not have it in it; `--case SEED:INDEX` times the run
+//! calls of that case of the comparison instead.
 #![forbid(unsafe_code)]
 
 mod calls;
+mod case;
+mod filters;
 mod stock;
 
 use compare::call::archive::Archive;
 use compare::call::engine::fast;
 use compare::call::{Answer, Call, Engine, Station};
+use std::error::Error;
 use std::time::{Duration, Instant};
 use willetcoffer::limits::BUDGET_LIMIT;
 use willetcoffer::{BadTerm, RunReport, State};
@@ -72,38 +76,68 @@ impl Bench {
         }
         println!("{line}{:>8.2}", micros(&times[1]) / micros(&times[0]));
     }
+
+    /// Single calls at the limits.
+    fn calls(&self, reference: &dyn Engine) -> Result<(), BadTerm> {
+        for bytes in [512, 1024, 1536, 2048] {
+            let station = calls::before_load(bytes)?;
+            let size = format!("{} bytes", station.card.script.len());
+            self.row("load, 512 terms, 128 entries", &size, &station, &Call::Load);
+        }
+        let mut loaded = calls::before_load(2048)?;
+        assert_eq!(loaded.call(reference, &Call::Load).code, 0);
+        self.row("run call of 0 steps, the same", "2048 bytes", &loaded, &Call::run(0, 0));
+        let (station, page) = calls::full_page(reference)?;
+        self.row("page of 65,536 bytes, new terms", "512 quads", &station, &page);
+        let mut filled = station;
+        assert_eq!(filled.call(reference, &page).code, 0);
+        self.row("the same page again", "512 quads", &filled, &page);
+        self.row("run call of 1 step on these", "512 quads", &filled, &Call::run(1, 0));
+        Ok(())
+    }
+
+    /// Blocks that are searched to the end.
+    fn searches(&self, reference: &dyn Engine) -> Result<(), BadTerm> {
+        for workload in stock::workloads() {
+            for locomotives in [21, 42, 84, 168].into_iter().filter(|n| *n <= workload.most) {
+                let station = stock::station(reference, workload.script.clone(), locomotives, workload.graphs)?;
+                let size = format!("{} quads", 3 * locomotives);
+                self.row(workload.name, &size, &station, &Call::run(BUDGET_LIMIT, 0));
+            }
+        }
+        for uris in [16, 33, 66] {
+            let (station, call) = filters::station(reference, uris)?;
+            self.row("union, two variables to filters", &format!("{uris} URIs"), &station, &call);
+        }
+        Ok(())
+    }
+
+    /// The run calls of one case that are not refused.
+    fn case(&self, case: &str, reference: &dyn Engine) -> Result<(), String> {
+        for (place, (station, call)) in case::run_calls(case)?.into_iter().enumerate() {
+            if station.clone().call(reference, &call).code == 0 {
+                self.row(&format!("case {case}, run {place}"), &format!("{} terms", station.used()), &station, &call);
+            }
+        }
+        Ok(())
+    }
 }
 
-fn main() -> Result<(), BadTerm> {
+fn main() -> Result<(), Box<dyn Error>> {
     let engines: [Box<dyn Engine>; 2] = [Box::new(fast()), Box::new(Archive)];
     let mut head = format!("{:34} {:>10}{:>8}", "workload", "size", "answers");
     for engine in &engines {
         head += &format!("{:>12}{:>10}", format!("{} µs", engine.name()), "/answer");
     }
     println!("least of the repetitions; buffers are fresh copies, warm\n{head}   ratio");
-    let only = std::env::args().nth(1).unwrap_or_default();
-    let bench = Bench { engines, patience: Duration::from_millis(250), only };
+    let arguments: Vec<String> = std::env::args().skip(1).collect();
+    let mut bench = Bench { engines, patience: Duration::from_millis(250), only: String::new() };
     let reference = fast();
-    for bytes in [512, 1024, 1536, 2048] {
-        let station = calls::before_load(bytes)?;
-        let size = format!("{} bytes", station.card.script.len());
-        bench.row("load, 512 terms, 128 entries", &size, &station, &Call::Load);
+    match &arguments[..] {
+        [option, case] if option == "--case" => return Ok(bench.case(case, &reference)?),
+        [word, ..] => bench.only.clone_from(word),
+        [] => {}
     }
-    let mut loaded = calls::before_load(2048)?;
-    assert_eq!(loaded.call(&reference, &Call::Load).code, 0);
-    bench.row("run call of 0 steps, the same", "2048 bytes", &loaded, &Call::run(0, 0));
-    let (station, page) = calls::full_page(&reference)?;
-    bench.row("page of 65,536 bytes, new terms", "512 quads", &station, &page);
-    let mut filled = station;
-    assert_eq!(filled.call(&reference, &page).code, 0);
-    bench.row("the same page again", "512 quads", &filled, &page);
-    bench.row("run call of 1 step on these", "512 quads", &filled, &Call::run(1, 0));
-    for workload in stock::workloads() {
-        for locomotives in [21, 42, 84, 168].into_iter().filter(|n| *n <= workload.most) {
-            let station = stock::station(&reference, workload.script.clone(), locomotives, workload.graphs)?;
-            let size = format!("{} quads", 3 * locomotives);
-            bench.row(workload.name, &size, &station, &Call::run(BUDGET_LIMIT, 0));
-        }
-    }
-    Ok(())
+    bench.calls(&reference)?;
+    Ok(bench.searches(&reference)?)
 }

@@ -64,6 +64,20 @@ fn has(graph: Name, property: u16, object: u8) -> Query {
     pattern([graph, var(S), con(property), var(object)])
 }
 
+/// Ten conditions on a speed, all of them true but the one at this place, if there is one.
+fn ten(but: Option<usize>) -> Boolean {
+    let test = |place| match but {
+        Some(but) if but == place => less(con(THOUSAND), var(V)),
+        _ => less(var(V), con(THOUSAND)),
+    };
+    (0..9).rev().fold(test(9), |rest, place| and(test(place), rest))
+}
+
+/// One number more than a thousand below another: of no two numbers here, and no pattern binds either.
+fn far(below: impl Into<Expression>, above: Name) -> Boolean {
+    less(plus(below, con(THOUSAND)), above)
+}
+
 /// A search: its name, its script, and over how many graphs the stock is spread.
 pub struct Workload {
     /// What is looked for.
@@ -84,7 +98,8 @@ pub fn workloads() -> Vec<Workload> {
         let script = each(&open, query, success());
         Workload { name, script, graphs: GRAPHS, most: 168 }
     };
-    let join = |least: u16| both(both(has(g(), NAME, N), has(g(), SPEED, V)), filter(less(con(least), var(V))));
+    let stock = || both(has(g(), NAME, N), has(g(), SPEED, V));
+    let join = |least: u16| both(stock(), filter(less(con(least), var(V))));
     let star = |query: Query| {
         let name_speed = both(has(con(0), NAME, N), has(con(0), SPEED, V));
         both(both(name_speed, has(con(0), ADDR, A)), query)
@@ -97,12 +112,23 @@ pub fn workloads() -> Vec<Workload> {
             &[G, S, P, A],
             both(pattern([g(), var(S), var(P), var(A)]), has(g(), ADDR, A)),
         ),
-        search(
-            "union of two joins g s n v",
-            &[G, S, N, V],
-            union(both(has(g(), NAME, N), has(g(), SPEED, V)), both(has(g(), NAME, N), has(g(), ADDR, V))),
-        ),
+        search("union of two joins g s n v", &[G, S, N, V], union(stock(), both(has(g(), NAME, N), has(g(), ADDR, V)))),
         search("no answer, by filter", &[G, S, N, V], join(THOUSAND)),
+        search("ten conditions, the first decides", &[G, S, N, V], both(stock(), filter(ten(Some(0))))),
+        search("ten conditions, the last decides", &[G, S, N, V], both(stock(), filter(ten(Some(9))))),
+        search("union, its first part decides", &[G, S, N, V], union(stock(), both(stock(), filter(ten(None))))),
+        search("numbers, the first of ten decides", &[V], filter(ten(Some(0)))),
+        search("numbers, the last of ten decides", &[V], filter(ten(Some(9)))),
+        search(
+            "numbers, the union's first decides",
+            &[V],
+            both(union(filter(less(var(V), con(THOUSAND))), filter(ten(None))), filter(less(con(THOUSAND), var(V)))),
+        ),
+        search("every pair of numbers tried", &[V, A], filter(far(var(V), var(A)))),
+        Workload {
+            most: 42,
+            ..search("every triple of numbers tried", &[V, A, P], filter(far(plus(var(V), var(A)), var(P))))
+        },
         search(
             "no answer, by a constant pattern",
             &[G, S, N, V],

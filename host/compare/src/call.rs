@@ -2,7 +2,9 @@
 
 pub mod archive;
 pub mod engine;
+pub mod evaluator;
 pub mod printer;
+pub mod program;
 mod station;
 
 pub use engine::Engine;

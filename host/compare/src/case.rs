@@ -1,10 +1,11 @@
 //! One case: its words and script, its load, its list of calls, all of it given to two engines.
 
+use crate::call::evaluator::Evaluator;
 use crate::call::{Answer, Call, Engine, Made, Station};
 use crate::count::{Coverage, Met};
 use crate::draw::Draw;
 use crate::judge::{judge, Breach, Difference, History, Once};
-use crate::replay::{Move, Replay, Tampering};
+use crate::replay::{describe, describe_asked, Move, Replay, Tampering};
 use std::time::Duration;
 use willetcoffer::{SavedRun, State};
 
@@ -18,6 +19,7 @@ pub struct Case<'a> {
     last: Option<Answer>,
     sort: &'static str,
     watch: Watch,
+    evaluator: Option<&'a mut Evaluator>,
     /// The slowest call of each engine.
     pub slowest: [Duration; 2],
 }
@@ -29,7 +31,7 @@ pub enum Watch {
     /// It is printed.
     Print,
     /// It is kept, to be made again.
-    Keep(Replay),
+    Keep(Box<Replay>),
 }
 
 impl<'a> Case<'a> {
@@ -46,6 +48,7 @@ impl<'a> Case<'a> {
             last: None,
             sort,
             watch: Watch::Nothing,
+            evaluator: None,
             slowest: [Duration::ZERO; 2],
         }
     }
@@ -57,14 +60,19 @@ impl<'a> Case<'a> {
 
     /// The same, each call kept.
     pub fn keeping(self) -> Self {
-        let replay = Replay { station: self.station.clone(), moves: Vec::new() };
-        Case { watch: Watch::Keep(replay), ..self }
+        let replay = Replay { station: self.station.clone(), moves: Vec::new(), asked: None };
+        Case { watch: Watch::Keep(Box::new(replay)), ..self }
+    }
+
+    /// The same, tuples given to the evaluators after each call.
+    pub fn evaluating(self, evaluator: &'a mut Evaluator) -> Self {
+        Case { evaluator: Some(evaluator), ..self }
     }
 
     /// What was kept: the moves up to the last call.
     pub fn kept(self) -> Option<Replay> {
         match self.watch {
-            Watch::Keep(replay) => Some(replay),
+            Watch::Keep(replay) => Some(*replay),
             _ => None,
         }
     }
@@ -143,7 +151,7 @@ impl<'a> Case<'a> {
             *slowest = (*slowest).max(time);
         }
         if let Watch::Print = self.watch {
-            print!("{}", crate::replay::describe(&made, label, self.engines));
+            print!("{}", describe(&made, label, self.engines));
         }
         let (why, notes) = (self.engines[0].why(), self.engines[0].notes());
         let exact = self.history.once.is_some() && !self.history.tampered && tampering.is_none();
@@ -156,7 +164,24 @@ impl<'a> Case<'a> {
         let (station, answer) = made.into_first();
         self.station = station;
         self.last = Some(answer.clone());
+        // A total is told without the tables, which may be of another length.
+        if answer.code == 0 && !matches!(call, Call::Total { .. }) {
+            self.evaluate()?;
+        }
         Ok(answer)
+    }
+
+    /// Asks the evaluators about tuples, where the case is given to them.
+    fn evaluate(&mut self) -> Result<(), Difference> {
+        let Some(evaluator) = &mut self.evaluator else { return Ok(()) };
+        let Some(asked) = self.draw.asked(&self.station) else { return Ok(()) };
+        let input = asked.input(&self.station);
+        match &mut self.watch {
+            Watch::Print => print!("{}", describe_asked(&asked, &self.station)),
+            Watch::Keep(replay) => replay.asked = Some(asked),
+            Watch::Nothing => {}
+        }
+        evaluator.compare(self.engines, &input, self.coverage)
     }
 
     /// Makes a call on a station that was tampered with, and goes on from there now and then.

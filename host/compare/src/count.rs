@@ -7,6 +7,7 @@ pub use coverage::Coverage;
 
 use crate::call::{Answer, Call};
 use crate::draw::is_block;
+use second::evaluator::Line;
 use second::note::Note;
 use second::script::Script;
 use willetcoffer::page::records;
@@ -98,6 +99,19 @@ impl Coverage {
             if script.nodes.iter().any(|node| is_block(node, each)) {
                 self.add("kind", name);
             }
+        }
+    }
+
+    /// Counts a line of an evaluator, and what the count of its tuple has noted.
+    pub fn line(&mut self, line: Line, notes: &[Note]) {
+        let name = match line {
+            Line::Evaluated(holds, _) => holds.to_string(),
+            other => other.to_string(),
+        };
+        self.add("evaluator", name);
+        for note in notes.iter().filter(|note| Note::OF_COUNTS.contains(note)) {
+            let (section, key) = note.name();
+            self.add(section, key);
         }
     }
 

@@ -8,6 +8,7 @@ pub mod pool;
 pub mod rng;
 pub mod scripts;
 pub mod tamper;
+pub mod tuples;
 pub mod wild;
 
 use crate::call::Station;
@@ -21,6 +22,8 @@ use second::script::{Kind, Node};
 pub struct Draw {
     /// Chance.
     pub rng: Rng,
+    /// Chance for what the evaluators are asked, so that a case is the same with them and without.
+    asking: Rng,
     /// The words.
     pub pool: Pool,
     /// Triples that make the script's patterns meet, with their graphs' numbers; none before the load.
@@ -40,7 +43,8 @@ impl Draw {
         let mut rng = Rng::new(seed, index);
         let pool = Pool::new(&mut rng);
         let (station, sort) = first::station(&mut rng, &pool);
-        (Draw { rng, pool, witnesses: Vec::new(), each: false }, station, sort)
+        let asking = Rng::new(!seed, index);
+        (Draw { rng, asking, pool, witnesses: Vec::new(), each: false }, station, sort)
     }
 
     /// Learns what the load has found.

@@ -26,6 +26,8 @@ pub enum Breach {
     Total,
     /// What the type printers wrote differs.
     Printer,
+    /// What an evaluator of tuples wrote is not what the definitions give.
+    Evaluator,
     /// An engine panicked.
     Panic,
 }

@@ -6,8 +6,8 @@
 //!
 //! | module | what it does |
 //! |---|---|
-//! | [`draw`] | draws words, scripts, pages, calls and damage |
-//! | [`call`] | stations, calls and engines: the proved one, the second, and the second by the definitions |
+//! | [`draw`] | draws words, scripts, pages, calls, damage and tuples |
+//! | [`call`] | stations, calls and engines: the proved one, the second, and the second by the definitions; type printer and evaluator as programs |
 //! | [`judge`] | what two engines owe each other on one call |
 //! | [`count`] | what was met, and whether it was met often enough |
 //! | [`case`] | one case, from drawing to judging |

@@ -3,6 +3,7 @@
 
 use compare::call::archive::Archive;
 use compare::call::engine::{fast, plain};
+use compare::call::evaluator::Evaluator;
 use compare::call::printer::Printer;
 use compare::call::Engine;
 use compare::count::Coverage;
@@ -11,29 +12,35 @@ use std::process::ExitCode;
 use std::time::Instant;
 
 const HELP: &str = "compare [options]
-  --cases N          how many cases (50000)
-  --seed S           their seed (1)
-  --from I           the index of the first (0)
-  --case S:I         one case again, with all its calls
-  --engines A,B      two of second, plain, archive (second,archive)
-  --printer PATH     a type printer to compare on some cases
-  --printer-every K  which ones: each K-th (20)
-  --differences N    go on until so many differences (1)
-  --trace            say each case's index before it begins, on standard error, to find one that does not return";
+  --cases N            how many cases (50000)
+  --seed S             their seed (1)
+  --from I             the index of the first (0)
+  --case S:I           one case again, with all its calls
+  --engines A,B        two of second, plain, archive (second,archive)
+  --printer PATH       a type printer to compare on some cases
+  --printer-every K    which ones: each K-th (20)
+  --evaluator PATH     an evaluator of tuples to compare on some cases
+  --evaluator-every K  which ones: each K-th (20)
+  --differences N      go on until so many differences (1)
+  --trace              say each case's index before it begins, on standard error, to find one that does not return";
 
 /// From so many cases on, what was met too rarely fails.
 const LONG: u64 = 20_000;
+
+/// Which cases a program is given where nothing is said: each so-manieth.
+const EVERY: u64 = 20;
 
 struct Options {
     plan: Plan,
     engines: [String; 2],
     printer: Option<Printer>,
+    evaluator: Evaluator,
 }
 
 fn options() -> Result<Options, String> {
     let mut plan = Plan { seed: 1, from: 0, cases: 50_000, printed: false, differences: 1, trace: false };
     let mut engines = ["second", "archive"].map(String::from);
-    let (mut program, mut every) = (None, 20);
+    let (mut printer, mut evaluator) = ((None, EVERY), (None, EVERY));
     let mut arguments = std::env::args().skip(1);
     while let Some(argument) = arguments.next() {
         let mut value = || arguments.next().ok_or(format!("{argument} wants a value"));
@@ -52,14 +59,17 @@ fn options() -> Result<Options, String> {
                 let names: Vec<String> = value()?.split(',').map(String::from).collect();
                 engines = names.try_into().map_err(|_| "--engines wants two")?;
             }
-            "--printer" => program = Some(value()?),
-            "--printer-every" => every = number(value()?)?,
+            "--printer" => printer.0 = Some(value()?.into()),
+            "--printer-every" => printer.1 = number(value()?)?,
+            "--evaluator" => evaluator.0 = Some(value()?.into()),
+            "--evaluator-every" => evaluator.1 = number(value()?)?,
             "--trace" => plan.trace = true,
             "--differences" => plan.differences = number(value()?)? as usize,
             _ => return Err(HELP.to_string()),
         }
     }
-    Ok(Options { plan, engines, printer: program.map(|program| Printer::new(program.into(), every)) })
+    let evaluator = Evaluator::new(evaluator.0, evaluator.1);
+    Ok(Options { plan, engines, printer: printer.0.map(|program| Printer::new(program, printer.1)), evaluator })
 }
 
 fn engine(name: &str) -> Result<Box<dyn Engine>, String> {
@@ -84,12 +94,12 @@ fn report(plan: &Plan, engines: [&dyn Engine; 2], outcome: &Outcome, start: Inst
 
 /// Whether nothing differed and, in a long run, everything was met often enough.
 fn compare() -> Result<bool, String> {
-    let Options { plan, engines: [a, b], printer } = options()?;
+    let Options { plan, engines: [a, b], printer, evaluator } = options()?;
     let (a, b) = (engine(&a)?, engine(&b)?);
     let start = Instant::now();
-    let mut compare = Compare { engines: [&*a, &*b], printer, coverage: Coverage::default() };
+    let mut compare = Compare { engines: [&*a, &*b], printer, evaluator, coverage: Coverage::default() };
     let outcome = compare.run(&plan);
-    let Compare { mut coverage, printer, engines } = compare;
+    let Compare { mut coverage, printer, evaluator, engines } = compare;
     for (name, count) in a.counts().into_iter().chain(b.counts()) {
         coverage.add_many("by definition", name, count);
     }
@@ -103,6 +113,9 @@ fn compare() -> Result<bool, String> {
     report(&plan, engines, &outcome, start);
     if let Some(printer) = &printer {
         println!("the type printer saw {} of them", printer.seen);
+    }
+    if evaluator.program.is_some() {
+        println!("the evaluator saw {} tuples", evaluator.tuples);
     }
     Ok(outcome.differences == 0 && (missing.is_empty() || !long))
 }

@@ -1,8 +1,10 @@
 //! A case as a list of moves without chance: made again, and told in words.
 
+mod asked;
 mod words;
 
-pub use words::describe;
+pub use asked::{Asked, Numbers};
+pub use words::{describe, describe_asked};
 
 use crate::call::{Call, Engine, Made, Station};
 use crate::judge::{judge, Breach, Difference, History, Once};
@@ -16,6 +18,8 @@ pub struct Replay {
     pub station: Station,
     /// What is done, one after the other; the first is the load.
     pub moves: Vec<Move>,
+    /// What an evaluator is asked after them, if it is.
+    pub asked: Option<Asked>,
 }
 
 /// A call, and what was tampered with before it.
@@ -134,13 +138,34 @@ impl Replay {
         Ok(())
     }
 
-    /// The moves in words, each with what both engines gave.
+    /// The stations that the calls are made on, one after the other by this engine, and the one after the last.
+    pub fn stations(&self, engine: &dyn Engine) -> Vec<Station> {
+        let mut all = Vec::new();
+        let mut station = self.station.clone();
+        for Move { tampering, call } in &self.moves {
+            if let Some(tampering) = tampering {
+                tampering.apply(&mut station);
+            }
+            all.push(station.clone());
+            station.call(engine, call);
+        }
+        all.push(station);
+        all
+    }
+
+    /// What an evaluator is asked in the end, if it is, with the station that it is asked on.
+    pub fn asked_on(&self, engine: &dyn Engine) -> Option<(&Asked, Station)> {
+        self.asked.as_ref().zip(self.stations(engine).pop())
+    }
+
+    /// The moves in words, each with what both engines gave, and what an evaluator was asked.
     pub fn tell(&self, engines: [&dyn Engine; 2]) -> String {
         let mut text = String::new();
         let mut see = |made: &Made, label: &'static str| text += &describe(made, label, engines);
         // A panic has said its own words; what came before it is told.
         let _ = catch_unwind(AssertUnwindSafe(|| self.play_on(engines, &mut 0, &mut see)));
-        text
+        let asked = self.asked_on(engines[0]);
+        text + &asked.map_or(String::new(), |(asked, station)| describe_asked(asked, &station))
     }
 
     /// How many bytes it takes: card, pages and changes.

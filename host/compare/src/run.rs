@@ -1,5 +1,6 @@
 //! Case after case: differences printed, each with a smaller case that shows it too.
 
+use crate::call::evaluator::Evaluator;
 use crate::call::printer::Printer;
 use crate::call::Engine;
 use crate::case::Case;
@@ -35,12 +36,14 @@ pub struct Outcome {
     pub slowest: [(Duration, u64); 2],
 }
 
-/// Two engines, and where there is one the type printer as a program.
+/// Two engines, where there is one the type printer as a program, and the evaluators of tuples.
 pub struct Compare<'a> {
     /// The engines.
     pub engines: [&'a dyn Engine; 2],
     /// The printer.
     pub printer: Option<Printer>,
+    /// The evaluators.
+    pub evaluator: Evaluator,
     /// What was met.
     pub coverage: Coverage,
 }
@@ -70,11 +73,14 @@ impl Compare<'_> {
         outcome
     }
 
-    /// One case: the printer's output, then its calls.
+    /// One case: the printer's output, then its calls, each with what the evaluators are asked.
     fn case(&mut self, plan: &Plan, index: u64) -> (Result<(), Difference>, [Duration; 2]) {
         let mut case = Case::new(plan.seed, index, self.engines, &mut self.coverage);
         if plan.printed {
             case = case.printing();
+        }
+        if plan.printed || index.is_multiple_of(self.evaluator.every) {
+            case = case.evaluating(&mut self.evaluator);
         }
         let printed = match &mut self.printer {
             Some(printer) if plan.printed || index.is_multiple_of(printer.every) => printer.compare(&case.joined()),
@@ -87,6 +93,9 @@ impl Compare<'_> {
     pub fn smaller(&mut self, seed: u64, index: u64, difference: &Difference) -> String {
         let mut uncounted = Coverage::default();
         let mut case = Case::new(seed, index, self.engines, &mut uncounted).keeping();
+        if difference.breach == Breach::Evaluator {
+            case = case.evaluating(&mut self.evaluator);
+        }
         if difference.breach != Breach::Printer {
             let _ = guarded(&mut case);
         }
@@ -110,6 +119,7 @@ impl Compare<'_> {
     fn judged(&mut self, replay: &Replay, breach: Breach) -> Option<String> {
         let shown = match breach {
             Breach::Printer => self.printed(replay),
+            Breach::Evaluator => self.evaluated(replay),
             _ => replay.play(self.engines).map(|(_, difference)| difference),
         };
         shown.filter(|difference| difference.breach == breach).map(|difference| difference.what)
@@ -123,6 +133,12 @@ impl Compare<'_> {
             (Some(a), Some(b)) if a != b => Some(Difference::new(Breach::Printer, format!("{a:?} and {b:?}"))),
             _ => self.printer.as_mut()?.compare(&input).err(),
         }
+    }
+
+    /// How an evaluator differs on what it is asked in the end.
+    fn evaluated(&mut self, replay: &Replay) -> Option<Difference> {
+        let (asked, station) = replay.asked_on(self.engines[0])?;
+        self.evaluator.compare(self.engines, &asked.input(&station), &mut Coverage::default()).err()
     }
 }
 

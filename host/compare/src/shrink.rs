@@ -3,7 +3,7 @@
 pub mod tree;
 
 use crate::call::Call;
-use crate::replay::{Move, Replay, Tampering};
+use crate::replay::{Asked, Move, Replay, Tampering};
 use std::time::{Duration, Instant};
 use tree::Node;
 use willetcoffer::limits::{SLOT_WIDTH, TEXT_WIDTH};
@@ -41,6 +41,7 @@ pub fn shrink(replay: Replay, patience: Patience, fails: &mut dyn FnMut(&Replay)
     loop {
         let before = shrink.best.clone();
         shrink.moves();
+        shrink.asked();
         shrink.calls();
         shrink.tampering();
         for place in 0..shrink.cards() {
@@ -103,6 +104,15 @@ impl Shrink<'_> {
             replay.moves.truncate(1);
             replay.moves.extend_from_slice(rest);
         });
+    }
+
+    /// Fewer tuples, no tampering for them, the whole input, another now.
+    fn asked(&mut self) {
+        let Some(Asked { tuples, .. }) = self.best.asked.clone() else { return };
+        self.pieces(tuples, &|replay, rest| with_asked(replay, |asked| asked.tuples = rest.to_vec()));
+        self.attempt(|replay| with_asked(replay, |asked| asked.tampering = None));
+        self.attempt(|replay| with_asked(replay, |asked| asked.left = None));
+        self.attempt(|replay| with_asked(replay, |asked| asked.now = 0));
     }
 
     /// Fewer steps, another now, a lower graph, fewer records of a page.
@@ -223,6 +233,12 @@ impl Shrink<'_> {
     }
 }
 
+fn with_asked(replay: &mut Replay, change: impl FnOnce(&mut Asked)) {
+    if let Some(asked) = &mut replay.asked {
+        change(asked);
+    }
+}
+
 /// The bytes of a schema record.
 const ENTRY: usize = 1 + TEXT_WIDTH + 1;
 
@@ -260,7 +276,7 @@ fn numbered(card: &Card) -> Vec<Vec<u8>> {
     all
 }
 
-/// Changes terms or schema of a card; where that gives terms other numbers, constants and page calls follow.
+/// Changes terms or schema of a card; where that gives terms other numbers, constants, page calls and tuples follow.
 fn with_card(replay: &mut Replay, place: usize, change: impl FnOnce(&mut Card)) {
     let Some(card) = card_at(replay, place) else { return };
     let old = numbered(card);
@@ -280,4 +296,14 @@ fn with_card(replay: &mut Replay, place: usize, change: impl FnOnce(&mut Card)) 
             *graph = new.map_or(*graph, |new| new as u64);
         }
     }
+    // Terms that pages brought are numbered after the card's.
+    let moved = |number: usize| match number.checked_sub(old.len()) {
+        Some(after) => Some(new.len() + after),
+        None => renumbered(number),
+    };
+    with_asked(replay, |asked| {
+        for number in asked.tuples.iter_mut().flatten() {
+            *number = moved(usize::from(*number)).map_or(*number, |new| new as u16);
+        }
+    });
 }

@@ -1,6 +1,7 @@
 //! The shrinker, on differences made for it: each is cut down to little more than what shows it, and still shows it.
 
 use compare::call::engine::fast;
+use compare::call::evaluator::Evaluator;
 use compare::call::{Call, Engine};
 use compare::case::Case;
 use compare::count::Coverage;
@@ -155,7 +156,8 @@ fn the_smaller_case_is_told() {
         }
     });
     let first = fast();
-    let mut compare = Compare { engines: [&first, &wrong], printer: None, coverage: Coverage::default() };
+    let evaluator = Evaluator::new(None, 1);
+    let mut compare = Compare { engines: [&first, &wrong], printer: None, evaluator, coverage: Coverage::default() };
     let plan = Plan { seed: 5, from: 0, cases: 200, printed: false, differences: 1, trace: false };
     assert_eq!(compare.run(&plan).differences, 1);
     let index = (0..200)

@@ -52,7 +52,8 @@ fn write_quads(quads: &[Quad], table: &mut [u8]) {
     }
 }
 
-fn faulted(fault: Fault) -> Refusal {
+/// A fault in the place of a refusal.
+pub(crate) fn faulted(fault: Fault) -> Refusal {
     Refusal { number: FAULT + fault as u32, why: "fault" }
 }
 

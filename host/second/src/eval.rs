@@ -36,6 +36,9 @@ pub enum Fault {
 /// The variables' terms.
 pub type Bindings = [Option<u16>; 16];
 
+/// A way to evaluate a query for one tuple: whether it holds, and the count.
+pub type Evaluate = fn(&Store, &Query, &Bindings) -> Result<(bool, u32), Fault>;
+
 /// What a query is evaluated over.
 #[derive(Clone, Copy)]
 pub struct Store<'a> {
@@ -53,6 +56,14 @@ pub fn number(name: &Name, bindings: &Bindings) -> u16 {
         Name::Const(number) => *number,
         Name::Var(v) => bindings[usize::from(*v)].expect("a variable in use is bound"),
     }
+}
+
+/// What a part comes to; unknown is noted by what stands above it.
+pub(crate) fn noted(truth: Truth, above: Note) -> Truth {
+    if truth == Truth::Unknown {
+        note(above);
+    }
+    truth
 }
 
 impl Store<'_> {
@@ -103,13 +114,9 @@ impl Store<'_> {
         }
     }
 
-    /// What a part comes to; unknown is noted by what stands above it.
+    /// What a part comes to.
     fn part(&self, cond: &Cond, above: Note, bindings: &Bindings) -> Result<Truth, Fault> {
-        let truth = self.cond(cond, bindings)?;
-        if truth == Truth::Unknown {
-            note(above);
-        }
-        Ok(truth)
+        Ok(noted(self.cond(cond, bindings)?, above))
     }
 
     /// Whether a filter holds.

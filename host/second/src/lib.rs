@@ -10,8 +10,9 @@
 //! |---|---|---|
 //! | types of a script | [`assignments`]: every assignment, judged by [`rules`] | [`arcs`]: arc consistency on sets of types |
 //! | first answer of a block | [`search::Naive`]: every tuple, all parts evaluated | [`seek::Seek`]: driven by the patterns |
+//! | outcome and count of a tuple | [`count`]: all parts evaluated, then counted by their outcomes | [`early`]: one walk that leaves parts out |
 //!
-//! An [`Engine`] holds one of each; [`Engine::fast`] and [`Engine::plain`] are the two that the comparison uses. The
+//! An [`Engine`] holds a typer and a search; [`Engine::fast`] and [`Engine::plain`] are the two that the comparison uses. The
 //! calls take and give the bytes of the C interface; each returns nothing, or its refusal.
 //!
 //! It shares no code with the rest of the workspace: limits, offsets and records stand here in its own words, so that a slip
@@ -24,7 +25,10 @@ pub mod assignments;
 pub mod calendar;
 pub mod calls;
 pub mod check;
+pub mod count;
+pub mod early;
 pub mod eval;
+pub mod evaluator;
 pub mod hash;
 pub mod lang;
 pub mod limits;
@@ -52,5 +56,6 @@ pub mod value;
 pub mod write;
 
 pub use calls::Engine;
+pub use evaluator::evaluate;
 pub use printer::print_types;
 pub use refusal::Refusal;

@@ -28,6 +28,10 @@ pub const PAIRS: usize = 4;
 pub const TERM_TABLE: usize = TERMS * SLOT;
 /// Bytes of the quad table.
 pub const QUAD_TABLE: usize = QUADS * 8;
+/// Bytes of a term number.
+pub const NUMBER: usize = 2;
+/// Bytes of a tuple: a number for each variable that a block may have.
+pub const TUPLE: usize = PAIRS * NUMBER;
 /// Bytes of the saved run.
 pub const SAVED: usize = 486;
 /// Bytes of a run's report.
@@ -42,6 +46,8 @@ pub const BUDGET: u64 = 60_000;
 pub const PAGE: usize = 65_536;
 /// Bytes of the type printer's input, at most.
 pub const PRINTER: usize = 32_512;
+/// Bytes of the input of the evaluator of tuples, at most: terms, schema and script that are full, and 64 tuples.
+pub const EVALUATOR: usize = 62_708;
 /// Largest amount of an integer.
 pub const INTEGER: i64 = 1_000_000_000_000;
 /// Millionths in one.

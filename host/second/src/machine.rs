@@ -71,7 +71,8 @@ impl Machine {
         search.first(&Task { store, block, types, bindings: &self.bindings, last })
     }
 
-    fn bind(&mut self, block: &Block, tuple: &[u16]) {
+    /// Binds a block's variables to the tuple, in the order of its pairs.
+    pub fn bind(&mut self, block: &Block, tuple: &[u16]) {
         for ((variable, _), number) in block.pairs.iter().zip(tuple) {
             self.bindings[usize::from(*variable)] = Some(*number);
         }

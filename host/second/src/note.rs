@@ -19,12 +19,45 @@ pub enum Note {
     Or,
     /// The boolean of a filter was unknown.
     Filter,
+    /// The count leaves the second part of an or out.
+    OrLeftOut,
+    /// The count leaves the second part of an and out.
+    AndLeftOut,
+    /// The count leaves the second part of a both out.
+    BothLeftOut,
+    /// The count leaves the second part of a union out.
+    UnionLeftOut,
+    /// The count takes the second part of an or in, after a false first.
+    OrTakenIn,
+    /// The count takes the second part of an and in, after a true first.
+    AndTakenIn,
+    /// The count takes the second part of an or in, after an unknown first.
+    OrAfterUnknown,
+    /// The count takes the second part of an and in, after an unknown first.
+    AndAfterUnknown,
+    /// The count takes the second part of a both in.
+    BothTakenIn,
+    /// The count takes the second part of a union in.
+    UnionTakenIn,
 }
 
 impl Note {
-    /// All of them.
-    pub const ALL: [Note; 7] =
+    /// Those that a call takes.
+    pub const OF_CALLS: [Note; 7] =
         [Note::Untagged, Note::Tagged, Note::HyphensOnly, Note::Not, Note::And, Note::Or, Note::Filter];
+    /// Those that the count of a tuple takes.
+    pub const OF_COUNTS: [Note; 10] = [
+        Note::OrLeftOut,
+        Note::AndLeftOut,
+        Note::BothLeftOut,
+        Note::UnionLeftOut,
+        Note::OrTakenIn,
+        Note::AndTakenIn,
+        Note::OrAfterUnknown,
+        Note::AndAfterUnknown,
+        Note::BothTakenIn,
+        Note::UnionTakenIn,
+    ];
 
     /// What it is counted under: a section and a name in it.
     pub fn name(self) -> (&'static str, &'static str) {
@@ -36,13 +69,23 @@ impl Note {
             Note::And => ("unknown under", "and"),
             Note::Or => ("unknown under", "or"),
             Note::Filter => ("unknown under", "filter"),
+            Note::OrLeftOut => ("second part", "of 52 left out"),
+            Note::AndLeftOut => ("second part", "of 53 left out"),
+            Note::BothLeftOut => ("second part", "of 62 left out"),
+            Note::UnionLeftOut => ("second part", "of 63 left out"),
+            Note::OrTakenIn => ("second part", "of 52 taken in"),
+            Note::AndTakenIn => ("second part", "of 53 taken in"),
+            Note::OrAfterUnknown => ("second part", "of 52 taken in after unknown"),
+            Note::AndAfterUnknown => ("second part", "of 53 taken in after unknown"),
+            Note::BothTakenIn => ("second part", "of 62 taken in"),
+            Note::UnionTakenIn => ("second part", "of 63 taken in"),
         }
     }
 }
 
 thread_local! {
     /// A bit for each note.
-    static TAKEN: Cell<u8> = const { Cell::new(0) };
+    static TAKEN: Cell<u32> = const { Cell::new(0) };
 }
 
 /// Takes a note.
@@ -53,7 +96,8 @@ pub fn note(note: Note) {
 /// The notes of this thread since this was called last, each once.
 pub fn take_notes() -> Vec<Note> {
     let taken = TAKEN.take();
-    Note::ALL.into_iter().filter(|note| taken >> *note as u8 & 1 == 1).collect()
+    let all = Note::OF_CALLS.into_iter().chain(Note::OF_COUNTS);
+    all.filter(|note| taken >> *note as u8 & 1 == 1).collect()
 }
 
 #[cfg(test)]
@@ -68,7 +112,8 @@ mod tests {
         }
         assert_eq!(take_notes(), [Note::Untagged, Note::Filter]);
         assert!(take_notes().is_empty());
-        Note::ALL.into_iter().for_each(note);
-        assert_eq!(take_notes(), Note::ALL);
+        let all = [&Note::OF_CALLS[..], &Note::OF_COUNTS].concat();
+        all.iter().copied().for_each(note);
+        assert_eq!(take_notes(), all);
     }
 }

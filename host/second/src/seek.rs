@@ -2,12 +2,13 @@
 //!
 //! The variables are chosen in order. For each, the query is asked for the least term number, from a given one on, for
 //! which it could still hold: a pattern looks through the quads that agree with what is chosen, `both` asks its parts one
-//! after the other, `union` takes the smaller, and a filter is evaluated once all its variables are chosen: it holds then or,
-//! false or unknown, never. What is skipped cannot hold. Before going deeper, the variables after the next are asked too, so
-//! that a hopeless choice ends early.
+//! after the other, `union` takes the smaller, and a filter is evaluated once all its variables are chosen, giving up early
+//! ([`crate::early`]): it holds then or, false or unknown, never. What is skipped cannot hold. Before going deeper, the
+//! variables after the next are asked too, so that a hopeless choice ends early.
 //!
 //! It gives the same first answer as [`crate::search::Naive`] wherever that meets no fault. A fault counts as not holding.
 
+use crate::early;
 use crate::eval::{Bindings, Fault};
 use crate::script::{Name, Query};
 use crate::search::{Search, Task, Tuple};
@@ -46,7 +47,7 @@ impl Seeker<'_> {
     fn find(&mut self, last: Option<&[u16]>) -> bool {
         let place = self.tuple.len();
         if place == self.task.block.pairs.len() {
-            return last.is_none() && self.task.store.query(&self.task.block.query, &self.chosen).unwrap_or(false);
+            return last.is_none() && held(early::evaluate(&self.task.store, &self.task.block.query, &self.chosen));
         }
         let variable = self.variable(place);
         let from = last.map_or(0, |last| last[0]);
@@ -104,7 +105,7 @@ impl Seeker<'_> {
             },
             Query::Filter(cond, variables) => {
                 let missing = (0..16).any(|v| variables >> v & 1 == 1 && self.chosen[v].is_none());
-                if missing || self.task.store.filter(cond, &self.chosen).unwrap_or(false) {
+                if missing || held(early::filter(&self.task.store, cond, &self.chosen)) {
                     from
                 } else {
                     self.end
@@ -156,6 +157,11 @@ impl Seeker<'_> {
         }
         best
     }
+}
+
+/// Whether it was found to hold.
+fn held(evaluated: Result<(bool, u32), Fault>) -> bool {
+    evaluated.is_ok_and(|(holds, _)| holds)
 }
 
 /// A quad as one number, the graph lowest.

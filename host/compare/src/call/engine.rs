@@ -3,7 +3,10 @@
 use super::{Call, Station};
 use second::arcs;
 use second::assignments;
-use second::eval::Fault;
+use second::count;
+use second::early;
+use second::eval::{Evaluate, Fault};
+use second::evaluator::evaluate_with;
 use second::note::{take_notes, Note};
 use second::printer::print_with;
 use second::rules::Env;
@@ -30,6 +33,11 @@ pub trait Engine {
         None
     }
 
+    /// What its evaluator of tuples writes, if it has one that can be called.
+    fn evaluate(&self, _input: &[u8]) -> Option<String> {
+        None
+    }
+
     /// Why the last call was refused, if it says so.
     fn why(&self) -> &'static str {
         ""
@@ -52,14 +60,15 @@ pub struct Second<S> {
     /// For loads and the printer, and for the other calls.
     typers: [second::check::Typer; 2],
     search: S,
+    evaluate: Evaluate,
     why: Cell<&'static str>,
     notes: RefCell<Vec<Note>>,
 }
 
 /// An engine with these parts: how types are worked out in loads and by the printer, and in the other calls; and how
-/// answers are found.
+/// answers are found. It evaluates tuples by giving up early.
 pub fn with<S>(name: &'static str, typers: [second::check::Typer; 2], search: S) -> Second<S> {
-    Second { name, typers, search, why: Cell::new(""), notes: RefCell::default() }
+    Second { name, typers, search, evaluate: early::evaluate, why: Cell::new(""), notes: RefCell::default() }
 }
 
 /// The fast engine.
@@ -92,7 +101,14 @@ fn counted(script: &Script, terms: &Terms) -> Result<Env, Refusal> {
 
 /// The engine by the definitions, its search bounded by [`Bounded`].
 pub fn plain() -> Second<Bounded> {
-    with("plain", [counted, assignments::solve_again], Bounded::default())
+    with("plain", [counted, assignments::solve_again], Bounded::default()).evaluating(count::evaluate)
+}
+
+impl<S> Second<S> {
+    /// The same, tuples evaluated in this way.
+    pub fn evaluating(self, evaluate: Evaluate) -> Second<S> {
+        Second { evaluate, ..self }
+    }
 }
 
 impl<S: Search + Counts> Second<S> {
@@ -135,6 +151,10 @@ impl<S: Search + Counts> Engine for Second<S> {
 
     fn print(&self, input: &[u8]) -> Option<String> {
         Some(print_with(self.typers[0], input))
+    }
+
+    fn evaluate(&self, input: &[u8]) -> Option<String> {
+        Some(evaluate_with(self.typers[1], self.evaluate, input))
     }
 
     fn why(&self) -> &'static str {

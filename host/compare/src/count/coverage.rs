@@ -15,6 +15,11 @@ const ENOUGH: u64 = 100;
 /// What evaluation notes is to be met by one call for so many cases: each note 1,000 times in the gate's 50,000.
 const CASES_FOR_A_NOTE: u64 = 50;
 
+/// The lines of an evaluator that are a tuple's.
+const OF_TUPLES: [&str; 3] = ["bad", "true", "false"];
+/// From so many tuples on, what an evaluator may write is required.
+const TUPLES: u64 = 50_000;
+
 /// What a long enough run of so many cases has to meet, and how often: each refusal of each call, each script kind, each state, also
 /// where the total is known, each place of each blocks, each type, each note.
 fn required(cases: u64) -> Vec<(&'static str, String, u64)> {
@@ -36,9 +41,17 @@ fn required(cases: u64) -> Vec<(&'static str, String, u64)> {
     all.extend(willetcoffer::Type::all().map(|t| ("type", t.to_string())));
     all.extend((0x81..=0x85).map(|kind: u32| ("page record", format!("{kind:x}"))));
     let mut all: Vec<_> = all.into_iter().map(|(section, key)| (section, key, ENOUGH)).collect();
-    let notes = Note::ALL.map(Note::name);
+    let notes = Note::OF_CALLS.map(Note::name);
     all.extend(notes.map(|(section, key)| (section, key.to_string(), cases / CASES_FOR_A_NOTE)));
     all
+}
+
+/// What a long enough list of tuples has to meet: each line of an evaluator, and each second part left out and taken in.
+fn required_of_tuples() -> Vec<(&'static str, String, u64)> {
+    let single = ["too long", "cut off", "refused 10", "refused 11", "no block"];
+    let lines = single.into_iter().chain(OF_TUPLES).map(|line| ("evaluator", line));
+    let all = lines.chain(Note::OF_COUNTS.map(Note::name));
+    all.map(|(section, key)| (section, key.to_string(), ENOUGH)).collect()
 }
 
 impl Coverage {
@@ -59,7 +72,11 @@ impl Coverage {
 
     /// What was met too rarely in so many cases, of what is required.
     pub fn missing(&self, cases: u64) -> Vec<String> {
-        let few = required(cases).into_iter().filter(|(section, key, enough)| self.get(section, key) < *enough);
+        let mut all = required(cases);
+        if OF_TUPLES.map(|line| self.get("evaluator", line)).iter().sum::<u64>() >= TUPLES {
+            all.extend(required_of_tuples());
+        }
+        let few = all.into_iter().filter(|(section, key, enough)| self.get(section, key) < *enough);
         few.map(|(section, key, enough)| format!("{section} {key}: {} of {enough}", self.get(section, &key))).collect()
     }
 

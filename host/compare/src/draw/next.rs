@@ -3,12 +3,22 @@
 use super::damage::damage;
 use super::pages;
 use super::pool::Size;
+use super::rng::Rng;
 use super::scripts::graphs;
 use super::tamper::tamper;
 use super::Draw;
 use crate::call::{Answer, Call, Station};
 use willetcoffer::limits::{BUDGET_LIMIT, PAGE_LIMIT, SECONDS_AFTER, SECONDS_BEFORE};
 use willetcoffer::State;
+
+/// A value of now: mostly one of few days, now and then a limit or no dateTime.
+pub(super) fn now(rng: &mut Rng) -> i64 {
+    match rng.below(30) {
+        0 => rng.one(&[SECONDS_AFTER + 1, -SECONDS_BEFORE - 1, i64::MAX, i64::MIN]),
+        1 => rng.one(&[SECONDS_AFTER, -SECONDS_BEFORE]),
+        _ => rng.below(9) as i64 * 86_400 - 345_600,
+    }
+}
 
 impl Draw {
     /// The next call: the wanted graph's page where one is wanted, else a run or a page.
@@ -66,12 +76,7 @@ impl Draw {
             8..=18 if small => self.rng.within(3, 30) as u64,
             _ => self.rng.within(1, 5) as u64,
         };
-        let now = match self.rng.below(30) {
-            0 => self.rng.one(&[SECONDS_AFTER + 1, -SECONDS_BEFORE - 1, i64::MAX, i64::MIN]),
-            1 => self.rng.one(&[SECONDS_AFTER, -SECONDS_BEFORE]),
-            _ => self.rng.below(9) as i64 * 86_400 - 345_600,
-        };
-        Call::run(budget, now)
+        Call::run(budget, now(&mut self.rng))
     }
 
     fn page_call(&mut self, station: &Station, wanted: Option<usize>) -> Call {

@@ -12,10 +12,10 @@ use willetcoffer::page::records;
 
 /// Triples with their graph's number, of all patterns of a script under a few choices for its variables.
 pub fn witnesses(rng: &mut Rng, loaded: &Loaded) -> Vec<(usize, Vec<u8>)> {
-    let mut patterns = Vec::new();
+    let mut all = Vec::new();
     for node in &loaded.script.nodes {
         if let Kind::Block(block) = &node.kind {
-            collect(&block.query, &mut patterns);
+            all.extend(patterns(&block.query));
         }
     }
     let mut found = Vec::new();
@@ -30,7 +30,7 @@ pub fn witnesses(rng: &mut Rng, loaded: &Loaded) -> Vec<(usize, Vec<u8>)> {
             Name::Const(number) => Some(usize::from(*number)),
             Name::Var(v) => chosen[usize::from(*v)],
         };
-        for [graph, subject, property, object] in &patterns {
+        for [graph, subject, property, object] in &all {
             let term = |name: &Name| loaded.terms.get(number(name)?).copied();
             if let (Some(graph), Some(Term::Uri(s)), Some(Term::Uri(p)), Some(o)) =
                 (number(graph), term(subject), term(property), term(object))
@@ -42,14 +42,12 @@ pub fn witnesses(rng: &mut Rng, loaded: &Loaded) -> Vec<(usize, Vec<u8>)> {
     found
 }
 
-fn collect(query: &Query, patterns: &mut Vec<[Name; 4]>) {
+/// The patterns of a query.
+pub(super) fn patterns(query: &Query) -> Vec<[Name; 4]> {
     match query {
-        Query::Pattern(names) => patterns.push(*names),
-        Query::Both(a, b) | Query::Union(a, b) => {
-            collect(a, patterns);
-            collect(b, patterns);
-        }
-        Query::Filter(..) | Query::Empty => {}
+        Query::Pattern(names) => vec![*names],
+        Query::Both(a, b) | Query::Union(a, b) => [patterns(a), patterns(b)].concat(),
+        Query::Filter(..) | Query::Empty => Vec::new(),
     }
 }
 

@@ -26,7 +26,7 @@ pub fn tamper(rng: &mut Rng, pool: &Pool, station: &mut Station) -> &'static str
 }
 
 /// A number that is often near one that matters.
-fn number(rng: &mut Rng, station: &Station) -> usize {
+pub(super) fn number(rng: &mut Rng, station: &Station) -> usize {
     match rng.below(5) {
         0 => station.used() + rng.below(2),
         1 => rng.one(&[600, TERM_LIMIT - 1, TERM_LIMIT, 65_535]),

@@ -1,6 +1,7 @@
 //! A call in words.
 
-use crate::call::{Call, Engine, Made};
+use super::Asked;
+use crate::call::{Call, Engine, Made, Station};
 use crate::shrink::tree::Node;
 use std::fmt::Write;
 
@@ -33,6 +34,26 @@ pub fn describe(made: &Made, tamper: &str, engines: [&dyn Engine; 2]) -> String 
         let _ = writeln!(text, "  {name}: {} report {} {why} in {time:?}", answer.code, hex(&answer.report));
     }
     let _ = writeln!(text, "  saved run {}", hex(&made.after[0].saved));
+    text
+}
+
+/// What an evaluator is asked on a station, in words, with what the definitions give.
+pub fn describe_asked(asked: &Asked, station: &Station) -> String {
+    let mut text = format!("evaluate now {}\n", asked.now);
+    if let Some(tampering) = &asked.tampering {
+        let _ = writeln!(text, "  before it, tampered with: {}", tampering.label);
+    }
+    if let Some(left) = asked.left {
+        let _ = writeln!(text, "  made {left} bytes long");
+    }
+    let lines = second::evaluate(&asked.input(station));
+    if lines.lines().count() == asked.tuples.len() {
+        for (tuple, line) in asked.tuples.iter().zip(lines.lines()) {
+            let _ = writeln!(text, "  tuple {tuple:?}: {line}");
+        }
+    } else {
+        let _ = writeln!(text, "  {} tuples: {}", asked.tuples.len(), lines.trim_end());
+    }
     text
 }
 

@@ -12,7 +12,7 @@ use Rattle.entry.specs.Entry.{lentOf}
 use Rattle.entry.proofs.EntryLaws.{not-entered, entered}
 use Rattle.engine.proofs.LentLaws.{length-mapped}
 use Rattle.engine.proofs.PassedLaws.{stack-low, graphs-low}
-use Rattle.engine.proofs.RunLaws.{entry-refused, refused-11, lends, budget-small, ran-is}
+use Rattle.engine.proofs.RunLaws.{entry-refused, refused-11, lends, script-short, budget-small, ran-is}
 use borrow.Author.Needs.{needs}
 use Rattle.engine.proofs.run.run.Statement.{statement}
 use Rattle.engine.proofs.run.run.Tie as tie
@@ -98,9 +98,12 @@ run-steps-requires : tie.Need-run-steps-requires
 run-steps-requires c κs =
     let c₁ = c .before .before .before in let c₂ = c₁ .before .before in let c₃ = c₂ .before .before in let c₄ = c₃ .before in let c₅ = c₄ .before in let c₆ = c₅ .before in
     let c₇ = c₆ .before .before .before .before in let c₈ = c₇ .before .before .before .before .before .before .before .before in
-    let x = entered (c₇ .enter .ensures) (c₆ .if1 .left) in
-    lends _ _ _ _ _ _ (x .0) (x .1) _ _ _ (x .2) (marks c₈) (graphs c₈) (levels c₈) _ (c₂ .canonical-control .ensures) _ (c₁ .canonical-store .ensures) (c₈ .args .budget)
-    (c₅ .bits .result) (sym (c₄ .in-limits .ensures) ∙ not-false _ (c₃ .if2 .left))
+    let x = entered (c₇ .enter .ensures) (c₆ .if1 .left) in (
+      lends _ _ _ _ _ _ (x .0) (x .1) _ _ _ (x .2) (marks c₈) (graphs c₈) (levels c₈) _ (c₂ .canonical-control .ensures) _ (c₁ .canonical-store .ensures) (c₈ .args .budget)
+          (c₅ .bits .result) (sym (c₄ .in-limits .ensures) ∙ not-false _ (c₃ .if2 .left)),
+      script-short _ _ _ _ _ _ (x .0) (x .1) _ _ _ (x .2) (marks c₈) (graphs c₈) (levels c₈) _ (c₂ .canonical-control .ensures) _ (c₁ .canonical-store .ensures) (c₈ .args .budget)
+          (c₅ .bits .result) (sym (c₄ .in-limits .ensures) ∙ not-false _ (c₃ .if2 .left)),
+    )
 
 returns-3 : tie.Need-returns-3
 returns-3 c =

@@ -1,6 +1,6 @@
 -- By the code: 0, or another.
 use native.Mathlib.Omega.{arith}
-use Rattle.print_types.proofs.Writing.{written-none, written-as}
+use Rattle.output.proofs.WritingLaws.{written-none, written-as}
 use Rattle.print_types.proofs.Texts.{no-line, a-line}
 use borrow.Author.Needs.{needs}
 use Rattle.print_types.proofs.lines.put_bound.Statement.{statement}

@@ -1,7 +1,7 @@
 -- A refusal, or the count and the lines.
 use native.Mathlib.Omega.{arith}
 use Rattle.definitions.specs.Ascii.{ascii}
-use Rattle.print_types.proofs.Writing.{written-as, written-then}
+use Rattle.output.proofs.WritingLaws.{written-as, written-then}
 use Rattle.print_types.proofs.Texts.{refused-text, accepted-text}
 use borrow.Author.Needs.{needs}
 use Rattle.print_types.proofs.lines.put_card.Statement.{statement}

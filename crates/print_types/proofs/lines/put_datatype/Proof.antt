@@ -3,7 +3,7 @@ use native.Mathlib.Omega.{arith}
 use mathlib.Core.Path.{sym, ap}
 use Rattle.definitions.specs.Ascii.{ascii}
 use Rattle.print_types.specs.Lines.{datatypeText}
-use Rattle.print_types.proofs.Writing.{written-none, written-as}
+use Rattle.output.proofs.WritingLaws.{written-none, written-as}
 use Rattle.print_types.proofs.Texts.{no-datatype}
 use borrow.Author.Needs.{needs}
 use Rattle.print_types.proofs.lines.put_datatype.Statement.{statement}

@@ -4,8 +4,9 @@ use native.Mathlib.Omega.{arith}
 use mathlib.Core.Path.{_≡_, refl}
 use borrow.Author.Needs.{needs}
 use lib.ListN.{length, take}
-use Rattle.print_types.specs.Lines.{lineRoom, Written, boundLines}
-use Rattle.print_types.proofs.Writing.{written-none, written-as, written-then}
+use Rattle.output.specs.Written.{Written}
+use Rattle.print_types.specs.Lines.{lineRoom, boundLines}
+use Rattle.output.proofs.WritingLaws.{written-none, written-as, written-then}
 use Rattle.print_types.proofs.Texts.{lines-none, lines-next, lines-all}
 use Rattle.print_types.proofs.lines.put_lines.Statement.{statement}
 use Rattle.print_types.proofs.lines.put_lines.Tie as tie

@@ -1,6 +1,6 @@
 -- One, two or three digits.
 use native.Mathlib.Omega.{arith}
-use Rattle.print_types.proofs.Writing.{written-as, written-then}
+use Rattle.output.proofs.WritingLaws.{written-as, written-then}
 use Rattle.print_types.proofs.Texts.{one-digit, two-digits, three-digits}
 use borrow.Author.Needs.{needs}
 use Rattle.print_types.proofs.lines.put_number.Statement.{statement}

@@ -1,6 +1,6 @@
 -- Too long, or by what the check finds.
 use native.Mathlib.Omega.{arith}
-use Rattle.print_types.proofs.Writing.{written-as}
+use Rattle.output.proofs.WritingLaws.{written-as}
 use Rattle.print_types.proofs.Printed.{too-long, card-printed}
 use borrow.Author.Needs.{needs}
 use Rattle.print_types.proofs.printing.print.Statement.{statement}

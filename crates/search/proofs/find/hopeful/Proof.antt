@@ -10,11 +10,11 @@ use Rattle.search.proofs.find.hopeful.Statement.{statement}
 use Rattle.search.proofs.find.hopeful.Tie as tie
 
 abbrev Inv-loop : tie.InvT-loop
-Inv-loop script context block table quads leasts known from size j₀ j =
+Inv-loop script ends context block table quads leasts known from size j₀ j =
     (w : World script table quads leasts context block) (vs : List ℕ) → ReadyFor w known vs → hopeFrom w known from ≡ hopeFrom w known j
 
 abbrev μ-loop : tie.MeasureT-loop
-μ-loop script context block table quads leasts known from size j₀ j = size - j
+μ-loop script ends context block table quads leasts known from size j₀ j = size - j
 
 loop-holds : tie.Need-loop-holds Inv-loop μ-loop
 loop-holds c = λ w vs r. refl

@@ -1,40 +1,32 @@
 -- `search::seek::seek_filter` meets its contract: one law for each way through. Assumes nothing.
-use borrow.Author.Tests.{not-true, not-false}
-use Rattle.laws.proofs.Walked.{walked-more, both-walked}
-use Rattle.search.proofs.SeekLaws.{ended-seeks, unknown-seeks, true-seeks, false-seeks}
+use mathlib.Core.Path.{_∙_}
+use Rattle.laws.proofs.Ends.{cond-ends, stepped-over}
+use Rattle.laws.proofs.Walked.{walked-more}
+use Rattle.search.proofs.SeekLaws.{ended-seeks, may-seeks, cannot-seeks}
 use borrow.Author.Needs.{needs}
 use Rattle.search.proofs.seek.seek_filter.Statement.{statement}
 use Rattle.search.proofs.seek.seek_filter.Tie as tie
 
-known-cond-requires : tie.Need-known-cond-requires
-known-cond-requires c κs = search needs
+after-requires : tie.Need-after-requires
+after-requires c κs = c .before .before .before .before .before .pre .1 .1 .room
 
 returns : tie.Need-returns
 returns c =
-    let c₁ = c .before .before in let c₂ = c₁ .before .before .before .before in
-    walked-more (c₁ .known-cond .ensures) (λ d h rows v. unknown-seeks _ _ _ (c₂ .pre .1) rows v d _ h (not-true _ (c .if1 .taken)))
+    let p = c .before .before .before .before .before .before .pre in
+    stepped-over (p .0) (λ d n r. c .after .ensures ∙ cond-ends _ _ (p .1 .1 .ended) _ _ _ d n r) (λ d rows v. ended-seeks _ _ _ (p .1 .0) rows v d _ (c .before .if1 .taken))
+
+may-cond-requires : tie.Need-may-cond-requires
+may-cond-requires c κs = search needs
 
 returns-2 : tie.Need-returns-2
 returns-2 c =
-    let c₁ = c .before .before .before in let c₂ = c₁ .before .before .before .before in
-    walked-more (c₁ .known-cond .ensures) (λ d h rows v. ended-seeks _ _ _ (c₂ .pre .1) rows v d _ h (c .if2 .taken))
-
-eval-filter-requires : tie.Need-eval-filter-requires
-eval-filter-requires c κs = search needs
+    let p = c .before .before .before .before .before .before .before .pre in
+    walked-more (c .before .may-cond .ensures) (λ d h rows v. may-seeks _ _ _ (p .1 .0) rows v d _ h (c .if2 .taken))
 
 returns-3 : tie.Need-returns-3
 returns-3 c =
-    let c₁ = c .before in let c₂ = c₁ .before .before in let c₃ = c₂ .before .before in let c₄ = c₃ .before .before .before .before in
-    walked-more (both-walked (c₃ .known-cond .ensures) (c₁ .eval-filter .ensures))
-    (λ d h rows v. true-seeks _ _ _ (c₄ .pre .1) rows v d _ (h .0) (not-false _ (c₂ .if1 .left)) (h .1) (c .if3 .taken))
-
-returns-4 : tie.Need-returns-4
-returns-4 c =
-    let c₁ = c .before in let c₂ = c₁ .before .before in let c₃ = c₂ .before .before in let c₄ = c₃ .before .before .before .before in
-    walked-more (both-walked (c₃ .known-cond .ensures) (c₁ .eval-filter .ensures))
-    (λ d h rows v. false-seeks _ _ _ (c₄ .pre .1) rows v d _ (h .0) (not-false _ (c₂ .if1 .left)) (h .1) (c .if3 .left))
+    let p = c .before .before .before .before .before .before .before .pre in
+    walked-more (c .before .may-cond .ensures) (λ d h rows v. cannot-seeks _ _ _ (p .1 .0) rows v d _ h (c .if2 .left))
 
 pub seek-filter-spec : {M : Type 1} → statement M
-seek-filter-spec =
-    tie.close
-    (tie.spec known-cond-requires returns returns-2 eval-filter-requires returns-3 returns-4)
+seek-filter-spec = tie.close (tie.spec after-requires returns may-cond-requires returns-2 returns-3)

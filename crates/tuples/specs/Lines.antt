@@ -1,0 +1,43 @@
+-- The evaluator's lines by what trying a tuple gives, and the room that they take.
+use Prim.Native.Nat.{ℕ, _+_}
+use mathlib.Core.Path.{_≡_}
+use mathlib.Core.List.{List, _++_}
+use mathlib.Core.Bool.{Bool, true, false, cond}
+use Rattle.definitions.specs.Ascii.{ascii}
+use Rattle.definitions.specs.Bytes.{signed}
+use Rattle.definitions.specs.Tree.{Script, block, Binder, Query}
+use Rattle.definitions.specs.Scope.{variablesOf}
+use Rattle.definitions.specs.Values.{naturalText}
+use Rattle.definitions.specs.Calls.{Sound}
+use Rattle.definitions.specs.Printer.{line}
+use Rattle.definitions.specs.declared.SavedControl.{SavedControl}
+use Rattle.query.specs.declared.Context.{Context}
+use Rattle.search.specs.declared.Tried.{Tried}
+use Rattle.machine.specs.Running.{Lends, Top}
+use Rattle.output.specs.Written.{Written, numberRoom}
+use Rattle.tuples.specs.Asking.{tuplesFrom, tuplesIn, tupleLine, tupleLines, askedOn, askedLines}
+
+-- the most bytes that a line takes
+abbrev pub lineRoom : ℕ
+lineRoom = 8 + numberRoom + 1
+
+abbrev pub truthText : Bool → List ℕ
+truthText b = cond b (ascii "true ") (ascii "false ")
+
+unfoldable pub triedLine : Tried → List ℕ
+triedLine r = cond (r .fits) (line (truthText (r .holds) ++ naturalText (r .records))) (line (ascii "bad"))
+
+module _ {script table quads leasts : List ℕ} {x : Context} {run : SavedControl} (w : Lends script table quads leasts x run) where
+  -- the state that the run is at
+  abbrev pub soundHere : Sound
+  soundHere = record { checked = w .here .checked; state = w .here .state }
+
+  -- lines for the first tuples, with the block on top
+  abbrev pub TuplesWritten : {at : ℕ} → Top (w .here) at → (count : ℕ) → (tuples old new : List ℕ) → (r : ℕ) → Type 0
+  TuplesWritten {at} t count tuples old new r =
+      (each : Bool) (bs : List Binder) (q : Query) (c : Script) → t .item .script ≡ block at each bs q c
+      → Written (tupleLines (tupleLine soundHere (signed (x .clock)) (record { variables = variablesOf bs; query = q })) (tuplesFrom count tuples 0)) old new 0 r
+
+  -- the lines of a state that was entered
+  abbrev pub linesHere : (tuples : List ℕ) → List ℕ
+  linesHere tuples = askedLines soundHere (signed (x .clock)) (tuplesIn tuples) (askedOn (w .here .state .control .stack))

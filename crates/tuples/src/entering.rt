@@ -1,0 +1,96 @@
+// Tuples on a saved run: what a run call begins with, then a line for each.
+ghost use mathlib.Core.Path.{_≡_};
+ghost use mathlib.Core.List.{_++_};
+ghost use Prim.Native.Nat.{_*_, _/_, _≤_};
+ghost use lib.ListN.{length};
+ghost use Rattle.definitions.specs.Limits.{savedWidth};
+ghost use Rattle.definitions.specs.Ascii.{ascii};
+ghost use Rattle.definitions.specs.Bytes.{signed};
+ghost use Rattle.definitions.specs.Values.{naturalText};
+ghost use Rattle.definitions.specs.Printer.{line};
+ghost use Rattle.entry.specs.Entry.{lentOf};
+ghost use Rattle.output.specs.Written.{Written};
+ghost use Rattle.tuples.specs.Asking.{tupleWidth, tuplesIn, entered, enteredLines};
+ghost use Rattle.tuples.specs.Lines.{lineRoom};
+use crate::put_lines;
+use definitions::BAD_RUN;
+use definitions::QUAD_NUMBERS;
+use definitions::SECONDS_AFTER;
+use definitions::SECONDS_BEFORE;
+use definitions::TERM_LIMIT;
+use definitions::UNSOUND;
+use entry::enter;
+use fields::numbers::within;
+use layout::reading::read_saved;
+use output::put_byte;
+use output::put_number;
+use output::put_text;
+use query::Context;
+use store::canonical::canonical_control;
+
+fn put_refused(refusal: u8, out: &mut [u8]) -> usize
+    requires { ⌜ lineRoom ≤ length (now out) ⌝ }
+    ensures { λ r. ⌜ Written (line (ascii "refused " ++ naturalText refusal)) (now (out .entry)) (now (out .exit)) 0 r ⌝ }
+    ensures { λ r. ⌜ r ≤ lineRoom ⌝ }
+{
+    let a = put_text(b"refused ", out, 0);
+    let b = put_number(refusal as u64, out, a);
+    put_byte(b'\n', out, b)
+}
+
+// What tuples on a saved run come to: a refusal as of a run call, or lines.
+// Ruled out: a now that no run call takes; another refusal told where no saved run has the bytes.
+pub fn put_entered(
+    terms: &[u8],
+    schema: &[u8],
+    script: &[u8],
+    table: &[u8],
+    store: &[u8],
+    saved: &[u8],
+    clock: u64,
+    tuples: &[u8],
+    out: &mut [u8],
+) -> usize
+    requires { ⌜ length (now saved) ≡ savedWidth ⌝ }
+    requires { ⌜ lineRoom * (length (now tuples) / tupleWidth) ≤ length (now out) ⌝ }
+    requires { ⌜ lineRoom ≤ length (now out) ⌝ }
+    ensures { λ r. ⌜ Written (enteredLines (signed clock) (tuplesIn (now (tuples .entry)))
+        (entered (lentOf (now (terms .entry)) (now (schema .entry)) (now (script .entry)) (now (table .entry)) (now (store .entry))) (now (saved .entry)) (signed clock)))
+        (now (out .entry)) (now (out .exit)) 0 r ⌝ }
+    ensures { λ r. ⌜ r ≤ length (now (out .entry)) ⌝ }
+{
+    let read = read_saved(saved);
+    if !read.ok {
+        return put_refused(UNSOUND, out);
+    }
+    let run = read.saved;
+    let mut rows = [0u16; QUAD_NUMBERS];
+    let mut leasts = [0u8; TERM_LIMIT];
+    let found = enter(
+        terms,
+        schema,
+        script,
+        table,
+        store,
+        run,
+        &mut rows,
+        &mut leasts,
+    );
+    if found.refusal != 0 {
+        return put_refused(found.refusal, out);
+    }
+    if !within(clock, SECONDS_BEFORE, SECONDS_AFTER) {
+        return put_refused(BAD_RUN, out);
+    }
+    let control = run.control;
+    let kept = run.store;
+    let clean = canonical_control(control, script);
+    let quads = kept.quads as usize;
+    let context = Context {
+        loaded: found.loaded,
+        count: found.count,
+        quads,
+        clock,
+    };
+    put_lines(clean, script, context, table, &rows, &leasts, tuples, out)
+}

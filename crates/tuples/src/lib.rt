@@ -1,0 +1,122 @@
+// Tuples tried on the block on top, a line for each.
+pub mod entering; // entering.rt: on a saved run
+mod lines; // lines.rt: one line
+
+ghost use mathlib.Core.Path.{_≡_};
+ghost use Prim.Native.Nat.{_+_, _*_, _/_, _≤_};
+ghost use lib.ListN.{length};
+ghost use Rattle.definitions.specs.Limits.{pairLimit, scriptLimit};
+ghost use Rattle.definitions.specs.Bytes.{byte};
+ghost use Rattle.definitions.specs.Exports.{wordsFrom};
+ghost use Rattle.laws.specs.Ends.{EndsLent};
+ghost use Rattle.machine.specs.Running.{Lends, Top};
+ghost use Rattle.output.specs.Written.{Written};
+ghost use Rattle.tuples.specs.Asking.{tupleWidth};
+ghost use Rattle.tuples.specs.Lines.{lineRoom, TuplesWritten, linesHere};
+use definitions::PAIR_LIMIT;
+use definitions::SCRIPT_LIMIT;
+use definitions::SavedControl;
+use ends::fill_ends;
+use fields::numbers::number_at;
+use lines::put_tried;
+use machine::answers::try_top;
+use output::NUMBER_ROOM;
+use output::put_text;
+use query::Context;
+use store::stack::top;
+
+pub const TUPLE_WIDTH: usize = 2 * PAIR_LIMIT;
+
+// The most bytes that a line takes.
+pub const LINE_ROOM: usize = 8 + NUMBER_ROOM + 1;
+
+// The tuple at an offset.
+fn tuple_at(s: &[u8], at: usize) -> [u16; PAIR_LIMIT]
+    requires { ⌜ at + tupleWidth ≤ length (now s) ⌝ }
+    ensures { λ r. ⌜ r ≡ wordsFrom pairLimit (now (s .entry)) at ⌝ }
+{
+    let a = number_at(s, at);
+    let b = number_at(s, at + 2);
+    let c = number_at(s, at + 4);
+    let d = number_at(s, at + 6);
+    [a, b, c, d]
+}
+
+// A line for each tuple, with the block on top.
+fn put_tuples(
+    run: SavedControl,
+    script: &[u8],
+    ends: &[u16],
+    context: Context,
+    at: usize,
+    table: &[u8],
+    quads: &[u16],
+    leasts: &[u8],
+    tuples: &[u8],
+    out: &mut [u8],
+) -> usize
+    requires { ⌜ ((w : Lends (now script) (now table) (now quads) (now leasts) context run) × Top (w .here) at) ⌝ }
+    requires { ⌜ byte (now script) at ≡ 0x73 ⌝ }
+    requires { ⌜ EndsLent (now script) (now ends) ⌝ }
+    requires { ⌜ lineRoom * (length (now tuples) / tupleWidth) ≤ length (now out) ⌝ }
+    ensures { λ r. ⌜ ((w : Lends (now (script .entry)) (now (table .entry)) (now (quads .entry)) (now (leasts .entry)) context run) (t : Top (w .here) at)
+        → TuplesWritten w t (length (now (tuples .entry)) / tupleWidth) (now (tuples .entry)) (now (out .entry)) (now (out .exit)) r) ⌝ }
+    ensures { λ r. ⌜ r ≤ length (now (out .entry)) ⌝ }
+{
+    let count = tuples.len() / TUPLE_WIDTH;
+    let mut end = 0;
+    let mut k = 0;
+    while k < count {
+        let from = TUPLE_WIDTH * k;
+        let tuple = tuple_at(tuples, from);
+        let tried = try_top(run, script, ends, context, at, table, quads, leasts, tuple);
+        end = put_tried(tried, out, end);
+        k += 1;
+    }
+    end
+}
+
+// The lines of a state that was entered: no block, or one for each tuple.
+// Ruled out: the first tuple left out; a tuple that fits told to be bad.
+pub fn put_lines(
+    run: SavedControl,
+    script: &[u8],
+    context: Context,
+    table: &[u8],
+    quads: &[u16],
+    leasts: &[u8],
+    tuples: &[u8],
+    out: &mut [u8],
+) -> usize
+    requires { ⌜ Lends (now script) (now table) (now quads) (now leasts) context run ⌝ }
+    requires { ⌜ length (now script) ≤ scriptLimit ⌝ }
+    requires { ⌜ lineRoom * (length (now tuples) / tupleWidth) ≤ length (now out) ⌝ }
+    requires { ⌜ lineRoom ≤ length (now out) ⌝ }
+    ensures { λ r. ⌜ ((w : Lends (now (script .entry)) (now (table .entry)) (now (quads .entry)) (now (leasts .entry)) context run)
+        → Written (linesHere w (now (tuples .entry))) (now (out .entry)) (now (out .exit)) 0 r) ⌝ }
+    ensures { λ r. ⌜ r ≤ length (now (out .entry)) ⌝ }
+{
+    if run.height == 0 {
+        return put_text(b"no block\n", out, 0);
+    }
+    let item = top(run);
+    let place = item.at;
+    let at = place as usize;
+    if script[at] != 0x73 {
+        return put_text(b"no block\n", out, 0);
+    }
+    let mut ends = [0u16; SCRIPT_LIMIT];
+    fill_ends(script, &mut ends);
+    put_tuples(
+        run,
+        script,
+        &ends,
+        context,
+        at,
+        table,
+        quads,
+        leasts,
+        tuples,
+        out,
+    )
+}
