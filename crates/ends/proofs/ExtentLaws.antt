@@ -7,7 +7,7 @@ use mathlib.Core.Path.{_≡_, refl, sym, ap}
 use lib.Dec.{T, eqb, eqb→eq, leb, leb→le, ltb, ltb→lt}
 use lib.ListN.{getD}
 use borrow.Author.Tests.{ltb-false}
-use Rattle.definitions.specs.Limits.{patternWidth}
+use Rattle.definitions.specs.Limits.{patternWidth, languageRangeWidth}
 use Rattle.definitions.specs.Ascii.{ascii}
 use Rattle.laws.specs.Ends.{Extent, extent, extents, extentOf}
 use Rattle.laws.proofs.Tests.{andLeft, andRight}
@@ -28,12 +28,23 @@ pub other-width : (k : ℕ) → NoBody k → 1 ≡ extentOf k .width
 unfolding extentOf
 other-width k =
     row-keys (λ j x. NoBody j → 1 ≡ x .width) k extents (extent 1 0)
-    ((λ n. absurd (n .0 refl)), ((λ n. absurd (n .1 refl)), (plain, (plain, (plain, (plain, (plain, (plain, (plain, (plain, (plain, (plain,
-    ((λ n. absurd (n .2 refl)), ((λ n. absurd (n .3 refl)), (plain, (plain, (plain, (plain, (plain, (plain, (plain, tt)))))))))))))))))))))
-    plain
+    (variable, (constant, (one, (one, (one, (one, (one, (one, (one, (one, (one, (one, (pattern, (range, (one, (one, (one, (one, (one, (one, (one, tt)))))))))))))))))))))
+    one
   where
-    plain : {j : ℕ} → NoBody j → _≡_ {A = ℕ} 1 1
-    plain n = refl
+    one : {j : ℕ} → NoBody j → _≡_ {A = ℕ} 1 1
+    one n = refl
+
+    variable : NoBody 0x31 → _≡_ {A = ℕ} 1 2
+    variable n = absurd (n .0 refl)
+
+    constant : NoBody 0x32 → _≡_ {A = ℕ} 1 3
+    constant n = absurd (n .1 refl)
+
+    pattern : NoBody 0x55 → 1 ≡ 1 + patternWidth
+    pattern n = absurd (n .2 refl)
+
+    range : NoBody 0x56 → 1 ≡ 1 + languageRangeWidth
+    range n = absurd (n .3 refl)
 
 -- every record has a byte, and before its children none has more than a pattern
 pub widths : (k : ℕ) → (1 ≤ extentOf k .width) × (extentOf k .width ≤ 1 + patternWidth)

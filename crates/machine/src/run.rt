@@ -134,7 +134,6 @@ pub fn look(
 }
 
 // Step after step until the machine stands or the budget is spent.
-// Ruled out: a run that counts a step it did not take; one that stops before the budget is spent while the machine has a step to take.
 fn take_steps(
     run: SavedControl,
     store: SavedStore,
@@ -174,7 +173,7 @@ fn take_steps(
 }
 
 // A run, over a table of the script's ends that is made once.
-// Ruled out: a run whose records end where another script's do; one of half its budget.
+// Ruled out: a run that counts a step it did not take; one that stops before the budget is spent while the machine has a step to take.
 pub fn run_steps(
     run: SavedControl,
     store: SavedStore,

@@ -1,4 +1,4 @@
-// Evaluating a query for one tuple, and finding a block's first answer after a tuple without trying them all.
+// Evaluating a query for one tuple; what a boolean may come to before all its variables are chosen; one pattern over the quads.
 pub mod eval;
 pub mod may; // may.rt: what a boolean may come to
 pub mod names;

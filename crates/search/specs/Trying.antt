@@ -2,7 +2,7 @@
 use Prim.Native.Nat.{ℕ, _-_}
 use mathlib.Core.Path.{_≡_}
 use mathlib.Core.List.{List, [], _∷_}
-use mathlib.Core.Bool.{Bool, true, _&&_}
+use mathlib.Core.Bool.{Bool, true, false, _&&_}
 use lib.Dec.{T, eqb}
 use Rattle.definitions.specs.Lists.{distinct}
 use Rattle.definitions.specs.Terms.{Term, Schema}
@@ -20,7 +20,7 @@ use Rattle.search.specs.declared.Tried.{Tried}
 -- each number is that of a term of its variable's type
 unfoldable pub tupleFits : Schema → Typing → List Term → (variables : List ℕ) → Tuple → Bool
 tupleFits S Γ terms [] t = true
-tupleFits S Γ terms (v ∷ vs) [] = true
+tupleFits S Γ terms (v ∷ vs) [] = false
 tupleFits S Γ terms (v ∷ vs) (i ∷ t) = numberHas S terms i (Γ v) && tupleFits S Γ terms vs t
 
 module _ {script table quads leasts : List ℕ} {x : Context} {block : Block} (w : World script table quads leasts x block) (known tuple : List ℕ) where

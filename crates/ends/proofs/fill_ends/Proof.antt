@@ -44,12 +44,13 @@ loop-less c = omega (arith, c .before .before .loop-test .taken)
 
 loop-again : tie.Need-loop-again Inv-loop μ-loop
 loop-again c =
-    let c₁ = c .before .before in
-    let d = c₁ in
+    let d = c .before .before in
     let i = d .before .loop .inv in
-    let p = d .before .before .before .before .pre in
-    (turn _ _ _ (d .loop-test .taken) (i .1) (i .0) _ (omega (arith, p, i .2)) (c .end-at .ensures), omega (arith, i .1), length-set (d .before .loop .ends)
-    (d .before .loop .at - 1) (c .end-at .result) ∙ i .2)
+    let p = d .before .before .before .before .pre in (
+      turn _ _ _ (d .loop-test .taken) (i .1) (i .0) _ (omega (arith, p, i .2)) (c .end-at .ensures),
+      omega (arith, i .1),
+      length-set (d .before .loop .ends) (d .before .loop .at - 1) (c .end-at .result) ∙ i .2,
+    )
 
 same-length : tie.Need-same-length Inv-loop μ-loop
 same-length c = c .before .loop .inv .2

@@ -123,9 +123,10 @@ module _ (t : ℕ) where
       let n = here c₄ .plus (c₃ .match .keys4) in
       let a = c₂ .eval-expr3 .ensures in
       let b = c₁ .eval-expr4 .ensures in
-      let some-open = not-true _ (c .before .if4 .taken) in
-      ( n .node (a .1) (b .1) (λ e f h k. open-value _ _ _ (Expr.plus e f) (sym (ap₂ _&&_ h k) ∙ some-open) (good-value _ _ _ (start c₄ .pre .1 .1) (a .0))), n .node (a .1)
-      (b .1) (λ e f h k. sym some-open ∙ ap₂ _&&_ h k), )
+      let some-open = not-true _ (c .before .if4 .taken) in (
+        n .node (a .1) (b .1) (λ e f h k. open-value _ _ _ (Expr.plus e f) (sym (ap₂ _&&_ h k) ∙ some-open) (good-value _ _ _ (start c₄ .pre .1 .1) (a .0))),
+        n .node (a .1) (b .1) (λ e f h k. sym some-open ∙ ap₂ _&&_ h k),
+      )
 
   plus-requires : lts.Need-plus-requires (calls t) (eval-expr-at t) eval-expr.Post
   plus-requires c κs =
@@ -148,9 +149,10 @@ module _ (t : ℕ) where
       let n = here c₅ .minusLast (c₄ .if1 .left) (c₃ .match .rest) in
       let a = c₂ .eval-expr5 .ensures in
       let b = c₁ .eval-expr6 .ensures in
-      let some-open = not-true _ (c .before .if5 .taken) in
-      ( n .node (a .1) (b .1) (λ e f h k. open-value _ _ _ (Expr.minus e f) (sym (ap₂ _&&_ h k) ∙ some-open) (good-value _ _ _ (start c₅ .pre .1 .1) (a .0))), n .node (a .1)
-      (b .1) (λ e f h k. sym some-open ∙ ap₂ _&&_ h k), )
+      let some-open = not-true _ (c .before .if5 .taken) in (
+        n .node (a .1) (b .1) (λ e f h k. open-value _ _ _ (Expr.minus e f) (sym (ap₂ _&&_ h k) ∙ some-open) (good-value _ _ _ (start c₅ .pre .1 .1) (a .0))),
+        n .node (a .1) (b .1) (λ e f h k. sym some-open ∙ ap₂ _&&_ h k),
+      )
 
   minus-requires : lts.Need-minus-requires (calls t) (eval-expr-at t) eval-expr.Post
   minus-requires c κs =
@@ -192,9 +194,10 @@ module _ (t : ℕ) where
       let c₁ = c .before .before .before .before in let c₂ = c₁ .before in let c₃ = c₂ .before in let c₄ = c₃ .before in let c₅ = c₄ .before in
       let n = here c₅ .minusLast (c₄ .if1 .left) (c₃ .match .rest) in
       let a = c₂ .eval-expr5 .ensures in
-      let b = c₁ .eval-expr6 .ensures in
-      (n .node (a .0) (b .0) (λ e f h k. minus-value _ _ _ e h f k (c .minus .ensures)), n .node (a .1) (b .1)
-      (λ e f h k. sym (not-false _ (c .before .if5 .left)) ∙ ap₂ _&&_ h k))
+      let b = c₁ .eval-expr6 .ensures in (
+        n .node (a .0) (b .0) (λ e f h k. minus-value _ _ _ e h f k (c .minus .ensures)),
+        n .node (a .1) (b .1) (λ e f h k. sym (not-false _ (c .before .if5 .left)) ∙ ap₂ _&&_ h k),
+      )
 
   closed : {M : Type 1} → lts.Closed (calls t) (eval-expr-at t) eval-expr.Post M
   closed = lts.spec (calls t) (eval-expr-at t) eval-expr.Post (λ c. here c .inside) (λ c. omega (arith, here c .inside)) (λ c. here c .pos) name-at-requires term-value-requires
