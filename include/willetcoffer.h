@@ -39,7 +39,8 @@ extern "C" {
    one is all zeros. */
 #define WILLETCOFFER_TERM_TABLE_WIDTH 25088
 /* The quad table: WILLETCOFFER_QUAD_LIMIT quads, each four term numbers of 2 bytes: graph, subject, property, object. Those in
-   use stand first (the saved run counts them), zeros after. */
+   use stand first (the saved run counts them), each once, rising by graph, then subject, property and object number; zeros after.
+   So the same terms by number and the same quads are always the same bytes. */
 #define WILLETCOFFER_QUAD_TABLE_WIDTH 4096
 /* The saved run; see THE SAVED RUN. */
 #define WILLETCOFFER_SAVED_WIDTH 486

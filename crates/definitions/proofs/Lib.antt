@@ -4,3 +4,4 @@ pub mod Season
 pub mod Faults
 pub mod ValueExamples
 pub mod ExportExamples
+pub mod OrderExamples

@@ -93,7 +93,8 @@ openSearch = tt
 
 unfoldable pub openMachine : Unit {0}
 unfolding Machine.loaded Machine.enterNamed Machine.enterOnce Machine.enterEach Machine.act Machine.nextOf Machine.goOn Machine.look Machine.run Machine.numbered
-    Machine.withProperties Machine.store Machine.wellTyped Machine.takeOne Machine.takeAll Machine.joined Machine.taken Machine.withPage Machine.inLimits
+    Machine.withProperties Machine.quadBefore Machine.inOrder Machine.withQuad Machine.store Machine.wellTyped Machine.takeOne Machine.takeAll Machine.joined Machine.taken
+    Machine.withPage Machine.inLimits
 openMachine = tt
 
 unfoldable pub openSaved : Unit {0}

@@ -12,7 +12,8 @@ use Rattle.definitions.specs.Terms.{Term, Schema, Triple, datatypeIn, ha
 use Rattle.definitions.specs.Tree.{Query, Script, success, fromNamed, block, sequence}
 use Rattle.definitions.specs.Scope.{variablesOf}
 use Rattle.definitions.specs.Outcome.{Outcome, ok, _>>=_, _>>_, demand, fromNamedNoURI}
-use Rattle.definitions.specs.Evaluate.{Setting, Bindings, Quad, stored, Named, named, isURI}
+use Rattle.definitions.specs.Values.{before}
+use Rattle.definitions.specs.Evaluate.{Setting, Bindings, Quad, sameQuad, Named, named, isURI}
 use Rattle.definitions.specs.Search.{Typing, Tuple, bind, answer}
 use Rattle.definitions.specs.declared.RunState.{RunState}
 use Rattle.definitions.specs.declared.RunState.the-variants.{Ended, Wanted, Waiting, Spent}
@@ -189,9 +190,26 @@ pub record Taken : Type 0 where
 abbrev pub skip : Taken → Taken
 skip k = record { skipped = suc (k .skipped); terms = k .terms; quads = k .quads }
 
--- each quad once
-abbrev pub withQuad : Quad → List Quad → List Quad
-withQuad q quads = cond (stored q quads) quads (quads ++ (q ∷ []))
+-- the order of quads: by graph, subject, property and object number
+abbrev pub numbersOf : Quad → List ℕ
+numbersOf q = q .graph ∷ (q .subject ∷ (q .property ∷ (q .object ∷ [])))
+
+unfoldable pub quadBefore : Quad → Quad → Bool
+quadBefore q r = before (λ n. n) (numbersOf q) (numbersOf r)
+
+-- each quad comes before the next
+abbrev pub beforeFirst : Quad → List Quad → Bool
+beforeFirst q [] = true
+beforeFirst q (r ∷ rs) = quadBefore q r
+
+unfoldable pub inOrder : List Quad → Bool
+inOrder [] = true
+inOrder (q ∷ qs) = beforeFirst q qs && inOrder qs
+
+-- a quad put in its place, once
+unfoldable pub withQuad : Quad → List Quad → List Quad
+withQuad q [] = q ∷ []
+withQuad q (r ∷ rs) = cond (quadBefore q r) (q ∷ (r ∷ rs)) (cond (sameQuad q r) (r ∷ rs) (r ∷ withQuad q rs))
 
 -- subject before object; the property is a schema URI, which the load has numbered
 unfoldable pub store : (graph : ℕ) → Triple → Taken → Taken
@@ -228,7 +246,7 @@ joined g fetched = cond (isIn g fetched) fetched (fetched ++ (g ∷ []))
 abbrev pub ofGraph : ℕ → Quad → Bool
 ofGraph g q = eqb (q .graph) g
 
--- The page's triples replace the quads that the graph had. The order of quads is open in document 01: the others first, then the page's, each in its order.
+-- the page's triples replace the quads that the graph had
 unfoldable pub taken : Schema → (graph : ℕ) → List Triple → Store → Taken
 taken S g page s = takeAll S g page (record { skipped = zero; terms = s .terms; quads = keep (λ q. not (ofGraph g q)) (s .quads) })
 

@@ -11,9 +11,9 @@ use Rattle.definitions.specs.Terms.{Term, Schema, datatypeIn, hasType, s
 use Rattle.definitions.specs.Tree.{Script, success, fromNamed, block, sequence}
 use Rattle.definitions.specs.Scope.{variables, variablesOf, isFree, bindersOf}
 use Rattle.definitions.specs.Typing.{typeAt}
-use Rattle.definitions.specs.Evaluate.{Quad, sameQuad, Bindings}
+use Rattle.definitions.specs.Evaluate.{Quad, Bindings}
 use Rattle.definitions.specs.Search.{Tuple}
-use Rattle.definitions.specs.Machine.{Item, Control, Store, State, objectFits, inLimits}
+use Rattle.definitions.specs.Machine.{Item, Control, Store, State, objectFits, inLimits, inOrder}
 use Rattle.definitions.specs.Saved.{Place, placeIn, offsetOf, isBound}
 
 -- terms begin as loading numbers them
@@ -95,7 +95,7 @@ unfoldable pub storeSound : Schema → (known : List Term) → Store → Bool
 storeSound S known s =
     distinct sameTerm (s .terms)
     && (beginsWith known (s .terms)
-    && (distinct sameQuad (s .quads)
+    && (inOrder (s .quads)
     && (every (quadSound S (s .terms) (s .fetched)) (s .quads)
     && (distinct eqb (s .fetched)
     && (every (isURINumber S (s .terms)) (s .fetched)

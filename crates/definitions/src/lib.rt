@@ -75,7 +75,7 @@ pub const SECONDS_BEFORE: u64 = 62135596800;
 
 pub const SECONDS_AFTER: u64 = 253402300799;
 
-// Lent tables, in bytes; a schema of all its entries; the type printer's input; the quads in numbers, four for each.
+// Lent tables, in bytes; a schema of all its entries; the type printer's input.
 pub const TERM_TABLE_WIDTH: usize = TERM_LIMIT * SLOT_WIDTH;
 
 pub const QUAD_TABLE_WIDTH: usize = QUAD_LIMIT * QUAD_WIDTH;
@@ -83,8 +83,6 @@ pub const QUAD_TABLE_WIDTH: usize = QUAD_LIMIT * QUAD_WIDTH;
 pub const SCHEMA_WIDTH: usize = ENTRY_LIMIT * ENTRY_WIDTH;
 
 pub const PRINTER_LIMIT: usize = TERM_TABLE_WIDTH + SCHEMA_WIDTH + SCRIPT_LIMIT;
-
-pub const QUAD_NUMBERS: usize = 4 * QUAD_LIMIT;
 
 // The saved run as bytes: three counts, then its parts, each from its offset on.
 pub const TYPES_OFFSET: usize = 6;

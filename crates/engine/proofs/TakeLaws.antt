@@ -11,7 +11,8 @@ use lib.Seq.{take-at}
 use Rattle.definitions.specs.Limits.{termLimit, quadLimit, graphLimit, depthLimit, variableLimit, pageLimit, termTableWidth, quadTableWidth}
 use Rattle.definitions.specs.Bytes.{filled}
 use Rattle.definitions.specs.Terms.{Term, readSchema, readPage}
-use Rattle.definitions.specs.Machine.{State, Store, Taken, taken, withPage, inLimits, joined}
+use Rattle.laws.proofs.SoundMeans.{facts}
+use Rattle.definitions.specs.Machine.{State, Store, Taken, taken, withPage, inLimits, joined, inOrder}
 use Rattle.definitions.specs.Saved.{savedControl, savedStore, termTable, quadTable}
 use Rattle.definitions.specs.Calls.{Checked, reported, Lent, lengthsFit, isGraph, pageIn, pageResult, pageCall}
 use Rattle.definitions.specs.Result as Results
@@ -24,6 +25,7 @@ use Rattle.laws.proofs.Tests.{isTrue, trueIs, andRight}
 use Rattle.laws.proofs.Bytes.{AreBytes}
 use Rattle.laws.proofs.Bindings.{is-below}
 use Rattle.laws.proofs.Options.{provided-inv}
+use Rattle.laws.specs.Quads.{placeLimit}
 use Rattle.laws.specs.Sound.{Accepted}
 use Rattle.laws.proofs.SoundIn.{SoundIn, entry-inv, terms-held, valid-held, quads-held}
 use Rattle.laws.proofs.Saved.{terms-few, quads-few, graphs-few, quads-small}
@@ -82,7 +84,7 @@ module _ (terms schema script table store : List ℕ) (saved : SavedRun) (n : �
   pub run-low : (saved .control .height ≤ depthLimit) × (saved .store .graphs ≤ graphLimit)
   run-low = (stack-low terms schema script table store saved (p .found) (p .entered), graphs-low terms schema script table store saved (p .found) (p .entered))
 
-  pub graph-small : g < 65536
+  pub graph-small : g < placeLimit
   graph-small =
       let t = a-term (getElem? (s .store .terms) g) (p .isURI) in
       omega (arith, is-below (s .store .terms) g (t .0) (t .1), terms-few c accepts s (passed .sound))
@@ -127,6 +129,7 @@ module _ (terms schema script table store : List ℕ) (saved : SavedRun) (n : �
           quads = record {
             is = quads-held l saved (p .found) passed quadBytes (fit .1);
             small = quads-small c accepts s (passed .sound);
+            order = isTrue (inOrder (s .store .quads)) (facts c accepts s (passed .sound) .quadsInOrder);
             count = refl;
             few = quads-few c accepts s (passed .sound);
           };

@@ -17,7 +17,7 @@ use definitions::NO_ROOM;
 use definitions::PAGE_LIMIT;
 use definitions::PageAnswer;
 use definitions::Paged;
-use definitions::QUAD_NUMBERS;
+use definitions::QUAD_LIMIT;
 use definitions::SavedRun;
 use definitions::TERM_LIMIT;
 use entry::enter;
@@ -121,7 +121,7 @@ pub fn page(
     ensures { λ r. ⌜ pageCall (lentOf (now (terms .entry)) (now (schema .entry)) (now (script .entry)) (now (table .entry)) (now (store .entry))) saved graph (now (page .entry))
         ≡ record { returned = r; termTable = now (table .exit); quadTable = now (store .exit) } ⌝ }
 {
-    let mut rows = [0u16; QUAD_NUMBERS];
+    let mut keys = [0u64; QUAD_LIMIT];
     let mut leasts = [0u8; TERM_LIMIT];
     let entered = enter(
         terms,
@@ -130,7 +130,7 @@ pub fn page(
         table,
         store,
         saved,
-        &mut rows,
+        &mut keys,
         &mut leasts,
     );
     if entered.refusal != 0 {

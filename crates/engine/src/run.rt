@@ -11,7 +11,7 @@ ghost use Rattle.engine.specs.Refused.{refusedRan};
 ghost use Rattle.entry.specs.Entry.{lentOf};
 use definitions::BAD_RUN;
 use definitions::BUDGET_LIMIT;
-use definitions::QUAD_NUMBERS;
+use definitions::QUAD_LIMIT;
 use definitions::Ran;
 use definitions::RunAnswer;
 use definitions::SECONDS_AFTER;
@@ -66,7 +66,7 @@ pub fn run(
 ) -> Ran
     ensures { λ r. ⌜ runCall (lentOf (now (terms .entry)) (now (schema .entry)) (now (script .entry)) (now (table .entry)) (now (store .entry))) saved budget clock ≡ ok r ⌝ }
 {
-    let mut rows = [0u16; QUAD_NUMBERS];
+    let mut keys = [0u64; QUAD_LIMIT];
     let mut leasts = [0u8; TERM_LIMIT];
     let entered = enter(
         terms,
@@ -75,7 +75,7 @@ pub fn run(
         table,
         store,
         saved,
-        &mut rows,
+        &mut keys,
         &mut leasts,
     );
     if entered.refusal != 0 {
@@ -97,7 +97,7 @@ pub fn run(
         clock: second,
     };
     let steps = budget as u32;
-    let end = run_steps(clean, kept, script, context, table, &rows, &leasts, steps);
+    let end = run_steps(clean, kept, script, context, table, &keys, &leasts, steps);
     let ending = end.ending;
     let after = end.control;
     Ran {

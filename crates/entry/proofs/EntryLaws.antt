@@ -38,8 +38,7 @@ use Rattle.table.proofs.TableLaws.{holds-few}
 use Rattle.fields.specs.declared.Counted.{Counted}
 use Rattle.fields.specs.declared.Counted.the-variants.{Count, Malformed}
 use Rattle.laws.specs.ReadAnswers.{isSome, passes}
-use Rattle.laws.specs.Quads.{rowsFrom}
-use Rattle.soundness.specs.Store.{beginsIn, termsSound, storeTest}
+use Rattle.soundness.specs.Store.{beginsIn, termsSound, storeTest, InOrder}
 use Rattle.soundness.proofs.BeginLaws.{begins-take}
 use Rattle.soundness.proofs.Clauses.{store-tests}
 use Rattle.control.specs.Control.{ControlOf}
@@ -289,8 +288,8 @@ module _ (terms schema script table store : List ℕ) (saved : SavedRun) where
                   pub other-control : k ≡ false → Refuses
                   other-control e = unsound (sym decided ∙ e)
 
-                  pub all-found : k ≡ true → (rows : List ℕ) → length rows ≡ 4 * quadLimit
-                      → (b ≡ true → rowsFrom (saved .store .quads) rows 0 ≡ quadsFrom (saved .store .quads) store 0)
+                  pub all-found : k ≡ true → (rows : List ℕ) → length rows ≡ quadLimit
+                      → (b ≡ true → InOrder (saved .store .quads) rows (quadsFrom (saved .store .quads) store 0))
                       → Finds l saved (given 10 (soundIn l saved)) (record { refusal = 0; loaded = card .count; count = count; entries = card .entries }) rows leasts
                   unfolding given
                   all-found e rows wide er =
@@ -309,8 +308,8 @@ module _ (terms schema script table store : List ℕ) (saved : SavedRun) where
                               lent = λ clock.
                                   record {
                                     tabled = record { reads = h .store .terms; counted = ap length (sym all) ∙ used .2; size = width };
-                                    stored = record { room = omega (arith, quads, quads-in-count n store (x .state .store .quads) (h .store .quads), wide) };
-                                    quadsAre = er gb ∙ quads-in-are n store (x .state .store .quads) (h .store .quads);
+                                    stored = record { room = omega (arith, quads, quads-in-count n store (x .state .store .quads) (h .store .quads), wide); rises = er gb .rises };
+                                    quadsAre = er gb .rows ∙ quads-in-are n store (x .state .store .quads) (h .store .quads);
                                     room = omega (arith, fewer, leasts-length);
                                     leastOf = subst (λ (ts : List Term). LeastOf (x .checked .schema) ts leasts) all (subst (λ (c : Checked). LeastOf (c .schema) (used .0) leasts) (sym is) codes);
                                   };

@@ -1,7 +1,6 @@
 // What a call on a saved run begins with: refusals 1 and 10, and what is found where neither comes.
 ghost use mathlib.Core.Path.{_≡_};
 ghost use lib.ListN.{length};
-ghost use Prim.Native.Nat.{_*_};
 ghost use Rattle.definitions.specs.Limits.{termLimit, quadLimit, termTableWidth, quadTableWidth};
 ghost use Rattle.definitions.specs.Saved.{termsIn};
 ghost use Rattle.definitions.specs.Result.{given};
@@ -20,7 +19,7 @@ use definitions::UNSOUND;
 use definitions::WRONG_LENGTH;
 use fields::Counted;
 use fields::numbers::same_bytes;
-use soundness::store::store_sound;
+use soundness::tables::store_sound;
 use soundness::terms::terms_sound;
 use table::slots::used_terms;
 
@@ -70,15 +69,15 @@ fn sound(
     table: &[u8],
     store: &[u8],
     saved: SavedRun,
-    rows: &mut [u16],
+    keys: &mut [u64],
     leasts: &mut [u8],
 ) -> Entered
     requires { ⌜ length (now table) ≡ termTableWidth ⌝ }
     requires { ⌜ length (now store) ≡ quadTableWidth ⌝ }
-    requires { ⌜ length (now rows) ≡ 4 * quadLimit ⌝ }
+    requires { ⌜ length (now keys) ≡ quadLimit ⌝ }
     requires { ⌜ length (now leasts) ≡ termLimit ⌝ }
     ensures { λ r. ⌜ Finds (lentOf (now (terms .entry)) (now (schema .entry)) (now (script .entry)) (now (table .entry)) (now (store .entry))) saved
-        (given 10 (soundIn (lentOf (now (terms .entry)) (now (schema .entry)) (now (script .entry)) (now (table .entry)) (now (store .entry))) saved)) r (now (rows .exit))
+        (given 10 (soundIn (lentOf (now (terms .entry)) (now (schema .entry)) (now (script .entry)) (now (table .entry)) (now (store .entry))) saved)) r (now (keys .exit))
         (now (leasts .exit)) ⌝ }
 {
     let mut loading = [0u8; TERM_TABLE_WIDTH];
@@ -102,7 +101,7 @@ fn sound(
     let entries = card.entries;
     least_codes(table, loaded, count, schema, &entries, leasts);
     let kept = saved.store;
-    if !store_sound(store, kept, leasts, count, rows) {
+    if !store_sound(store, kept, leasts, count, keys) {
         return refused(UNSOUND);
     }
     if !control_sound(script, loaded, control, count, leasts) {
@@ -116,7 +115,7 @@ fn sound(
     }
 }
 
-// Refusals 1 and 10. Where neither comes, `rows` has the quads in numbers, and `leasts` the codes of the terms' least types.
+// Refusals 1 and 10. Where neither comes, `keys` has those of the quads, and `leasts` the codes of the terms' least types.
 // Ruled out: a saved run of other types than those worked out; a table whose first terms are others.
 pub fn enter(
     terms: &[u8],
@@ -125,17 +124,17 @@ pub fn enter(
     table: &[u8],
     store: &[u8],
     saved: SavedRun,
-    rows: &mut [u16],
+    keys: &mut [u64],
     leasts: &mut [u8],
 ) -> Entered
-    requires { ⌜ length (now rows) ≡ 4 * quadLimit ⌝ }
+    requires { ⌜ length (now keys) ≡ quadLimit ⌝ }
     requires { ⌜ length (now leasts) ≡ termLimit ⌝ }
     ensures { λ r. ⌜ Finds (lentOf (now (terms .entry)) (now (schema .entry)) (now (script .entry)) (now (table .entry)) (now (store .entry))) saved
-        (entryTests (lentOf (now (terms .entry)) (now (schema .entry)) (now (script .entry)) (now (table .entry)) (now (store .entry))) saved) r (now (rows .exit))
+        (entryTests (lentOf (now (terms .entry)) (now (schema .entry)) (now (script .entry)) (now (table .entry)) (now (store .entry))) saved) r (now (keys .exit))
         (now (leasts .exit)) ⌝ }
 {
     if !tables_fit(table, store) {
         return refused(WRONG_LENGTH);
     }
-    sound(terms, schema, script, table, store, saved, rows, leasts)
+    sound(terms, schema, script, table, store, saved, keys, leasts)
 }

@@ -31,12 +31,14 @@ use Rattle.theorems.specs.Demand3.{Demand3}
 use Rattle.theorems.specs.ExportRefusals.{ExportRefusals}
 use Rattle.theorems.specs.OnBytes.{ExportCall, OnBytes}
 use Rattle.theorems.specs.ExactSteps.{OnceLoad, ExactSteps}
+use Rattle.theorems.specs.OneOrder.{OneOrder}
 use Rattle.theorems.proofs.Demand1.{demand-1}
 use Rattle.theorems.proofs.Demand2.{demand-2}
 use Rattle.theorems.proofs.Demand3.{demand-3}
 use Rattle.theorems.proofs.ExportRefusals.{export-refusals}
 use Rattle.theorems.proofs.OnBytes.{on-bytes}
 use Rattle.theorems.proofs.ExactSteps.{exact-steps}
+use Rattle.theorems.proofs.OneOrder.{one-order-of-quads}
 
 pub record Demands (M : Type 1) : Type 2 where
   -- the code of each call does what the call's definition says
@@ -60,6 +62,8 @@ pub record Demands (M : Type 1) : Type 2 where
       → (calls : List ExportCall) → OnBytes l saved calls
   -- Ask 12: how long a script with no each block takes, of the calls and on bytes
   pub exact : (l : Lent) (o : OnceLoad l) → ExactSteps l (o .read .root)
+  -- Ask 10: the terms by number and the set of quads decide both tables
+  pub oneOrder : OneOrder
 
 pub demands : {M : Type 1} → Demands M
 demands =
@@ -78,4 +82,5 @@ demands =
       third = demand-3;
       thirdOnBytes = on-bytes;
       exact = exact-steps;
+      oneOrder = one-order-of-quads;
     }

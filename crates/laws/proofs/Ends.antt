@@ -6,7 +6,7 @@ use mathlib.Core.List.{List}
 use mathlib.Core.Option.{Option, some}
 use mathlib.Core.Path.{_≡_, refl, ap, subst⁻¹, _∙_}
 use lib.Dec.{ltb, leb→le}
-use lib.ListN.{length, getD}
+use lib.ListN.{length}
 use borrow.Author.Tests.{lt-ltb}
 use Rattle.definitions.specs.Limits.{variableLimit, patternWidth, languageRangeWidth}
 use Rattle.definitions.specs.Bytes.{Got, provided, onward, row, byte, word, past, whole, body}

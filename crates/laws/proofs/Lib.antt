@@ -11,6 +11,7 @@ pub mod Lists
 pub mod Typings
 pub mod All
 pub mod Equality
+pub mod QuadOrder
 pub mod Sorts
 pub mod Variables
 pub mod Pairs

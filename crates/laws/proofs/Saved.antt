@@ -42,7 +42,7 @@ use Rattle.laws.specs.Valid.{ValidIn}
 use Rattle.laws.proofs.Bytes.{filled-length}
 use Rattle.laws.proofs.ReadBounds.{PairsFit}
 use Rattle.laws.proofs.Tables.{terms-of, quads-of}
-use Rattle.laws.specs.Quads.{Small}
+use Rattle.laws.specs.Quads.{placeLimit, Small}
 use Rattle.definitions.specs.Limits.{itemWidth}
 use Rattle.definitions.specs.Exports.{itemsFrom}
 
@@ -272,7 +272,7 @@ module _ (c : Checked) (accepted : Accepted c) (s : State) (sound : Sound c s) w
       omega (arith, accepted .shallow)
 
   -- a number that names a term
-  number-small : (i : ℕ) → i < length (s .store .terms) → i < 65536
+  number-small : (i : ℕ) → i < length (s .store .terms) → i < placeLimit
   number-small i h = omega (arith, terms-few)
 
   pub quads-small : All Small (s .store .quads)

@@ -15,9 +15,9 @@ use Rattle.definitions.specs.Terms.{Term, Text, Schema, datatypeIn, sameTerm}
 use Rattle.definitions.specs.Tree.{Binder, Query, Script, success, fromNamed, block, sequence}
 use Rattle.definitions.specs.Scope.{variables, variablesOf, isFree, bindersOf}
 use Rattle.definitions.specs.Typing.{typeAt}
-use Rattle.definitions.specs.Evaluate.{Bindings, Quad, sameQuad}
+use Rattle.definitions.specs.Evaluate.{Bindings, Quad}
 use Rattle.definitions.specs.Search.{Typing, Tuple}
-use Rattle.definitions.specs.Machine.{Item, State, objectFits, inLimits}
+use Rattle.definitions.specs.Machine.{Item, State, objectFits, inLimits, inOrder}
 use Rattle.definitions.specs.Saved.{Place, placeIn, offsetOf, isBound}
 use Rattle.definitions.specs.Sound.{beginsWith, isURINumber, numberHas, pairFits, quadSound, deepEnough, freeBound, lastSound, itemSound, stackSound, bindingSound}
 use Rattle.definitions.specs.Sound.{storeSound, controlSound, stateSound}
@@ -266,7 +266,7 @@ module _ (S : Schema) (Γ : List Ty) (terms : List Term) (root : Script) (β : B
 pub record Facts (c : Checked) (s : State) : Type 0 where
   pub termsApart : T (distinct sameTerm (s .store .terms))
   pub extends : Extends (c .terms) (s .store .terms)
-  pub quadsApart : T (distinct sameQuad (s .store .quads))
+  pub quadsInOrder : T (inOrder (s .store .quads))
   pub quads : All (QuadFacts (c .schema) (s .store .terms) (s .store .fetched)) (s .store .quads)
   pub fetchedApart : T (distinct eqb (s .store .fetched))
   pub fetched : All (HoldsURI (c .schema) (s .store .terms)) (s .store .fetched)
@@ -282,7 +282,7 @@ module _ (c : Checked) (s : State) where
       let fetched = s .store .fetched in
       distinct sameTerm terms
       ∷ beginsWith (c .terms) terms
-      ∷ distinct sameQuad (s .store .quads)
+      ∷ inOrder (s .store .quads)
       ∷ every (quadSound (c .schema) terms fetched) (s .store .quads)
       ∷ distinct eqb fetched
       ∷ every (isURINumber (c .schema) terms) fetched
@@ -308,12 +308,12 @@ module _ (c : Checked) (accepted : Accepted c) (s : State) where
       let fetched = s .store .fetched in
       let β = s .control .bindings in
       let (store, (control, u)) = conj-all (halves c s) (h .test) in
-      let (termsApart, (begins, (quadsApart, (quads, (fetchedApart, (uris, (limits, v))))))) = conj-all (storeTests c s) store in
+      let (termsApart, (begins, (quadsInOrder, (quads, (fetchedApart, (uris, (limits, v))))))) = conj-all (storeTests c s) store in
       let (stack, (bindings, w)) = conj-all (controlTests c s) control in
       record {
         termsApart = termsApart;
         extends = begins-extends (c .terms) terms begins;
-        quadsApart = quadsApart;
+        quadsInOrder = quadsInOrder;
         quads = all-of-every (quadSound S terms fetched) (QuadFacts S terms fetched) (quad-facts S terms fetched) (s .store .quads) quads;
         fetchedApart = fetchedApart;
         fetched = all-of-every (isURINumber S terms) (HoldsURI S terms) (test-holds S terms any) fetched uris;
@@ -336,7 +336,7 @@ module _ (c : Checked) (accepted : Accepted c) (s : State) where
       let bindings = bindings-test S (c .types) terms (c .root) β (h .bindings) in
       record {
         test = all-conj (halves c s) (
-          all-conj (storeTests c s) (h .termsApart, (begins, (h .quadsApart, (quads, (h .fetchedApart, (uris, (h .limits, tt))))))),
+          all-conj (storeTests c s) (h .termsApart, (begins, (h .quadsInOrder, (quads, (h .fetchedApart, (uris, (h .limits, tt))))))),
           (all-conj (controlTests c s) (stack, (bindings, tt)), tt),
         );
         few = λ v i e. h .bindings v i e .below;

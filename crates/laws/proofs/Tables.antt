@@ -20,7 +20,7 @@ use Rattle.laws.specs.Lists.{All}
 use Rattle.laws.proofs.Bytes.{AreBytes, byte-from, word-from, drop-bytes, part-bytes, all-zero, zeros, filled-length}
 use Rattle.laws.specs.Valid.{Valid}
 use Rattle.laws.proofs.Slots.{kind-not-zero, slot-length, slot-of, slot-inv}
-use Rattle.laws.specs.Quads.{Small}
+use Rattle.laws.specs.Quads.{placeLimit, Small}
 
 -- the first byte from an offset on
 first-byte : (s : List ℕ) (at : ℕ) → byte s at ≡ byte (drop at s) 0
@@ -156,7 +156,7 @@ quad-from table at =
     λ i. record { graph = g i; subject = word-from table at 2 i; property = word-from table at 4 i; object = word-from table at 6 i }
 
 -- a 2-byte number, written and read
-word-of : (n : ℕ) → n < 65536 → n % 256 + 256 * (n / 256 % 256) ≡ n
+word-of : (n : ℕ) → n < placeLimit → n % 256 + 256 * (n / 256 % 256) ≡ n
 word-of n h = omega arith
 
 quad-of : (q : Quad) (qs : List Quad) (rest : List ℕ) → Small q → quadAt (quadBytes (q ∷ qs) ++ rest) 0 ≡ q
@@ -217,10 +217,10 @@ eight-bytes s h l qs rest e =
     ∙ (ap (λ t. front 0 (front 2 (front 4 t))) (two-bytes s h 6 (omega arith))
     ∙ ap (λ t. front 0 (front 2 (front 4 (front 6 t)))) e)))
 
-word-small : (s : List ℕ) → AreBytes s → (k : ℕ) → word s k < 65536
+word-small : (s : List ℕ) → AreBytes s → (k : ℕ) → word s k < placeLimit
 word-small s h k = let b₀ = h k in let b₁ = h (k + 1) in omega arith
 
-quad-small : (s : List ℕ) → AreBytes s → (at : ℕ) → Small (quadAt s at)
+pub quad-small : (s : List ℕ) → AreBytes s → (at : ℕ) → Small (quadAt s at)
 quad-small s h at =
     record {
       graph = word-small s h at;

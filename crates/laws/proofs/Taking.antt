@@ -6,17 +6,16 @@ use mathlib.Core.List.{List, [], _∷_, _++_}
 use mathlib.Core.Bool.{Bool, true, false, not, _||_}
 use mathlib.Core.Option.{Option, none, some}
 use lib.Dec.{T, eqb, eqb→eq, eqb-refl}
-use Rattle.definitions.specs.Lists.{some?, isIn, distinct}
+use Rattle.definitions.specs.Lists.{isIn, distinct}
 use Rattle.definitions.specs.Types.{Datatype, plain}
 use Rattle.definitions.specs.Terms.{Term, Schema, Triple, datatypeIn, hasType, sameTerm}
-use Rattle.definitions.specs.Evaluate.{Quad, sameQuad, stored}
+use Rattle.definitions.specs.Evaluate.{Quad}
 use Rattle.definitions.specs.Machine.{numbered, Taken, skip, withQuad, store, objectFits, wellTyped, takeOne, takeAll, joined}
 use Rattle.laws.proofs.Tests.{orLeft, orRight, orCases, by-test}
 use Rattle.laws.specs.Lists.{_∈_}
 use Rattle.laws.proofs.Lists.{here, there, some-append}
 use Rattle.laws.specs.Lists.{All}
 use Rattle.laws.proofs.All.{all-append, distinct-end}
-use Rattle.laws.proofs.Equality.{same-quad, quad-refl}
 use Rattle.laws.specs.Bindings.{Extends}
 use Rattle.laws.proofs.Numbering.{distinct-numbered}
 use Rattle.laws.proofs.TermNumbers.{number-there, number-extends}
@@ -78,28 +77,6 @@ well-typed S r h = go (datatypeIn S (r .property)) refl h
     go : (o : Option Datatype) → datatypeIn S (r .property) ≡ o → T (objectFits S o (r .object)) → Fitting S r
     go none e k = absurd k
     go (some d) e k = (d, e, k)
-
--- ── each quad once ──────────────────────────────────────────────────────────────────────────
-
-pub with-quad-apart : (q : Quad) (quads : List Quad) → T (distinct sameQuad quads) → T (distinct sameQuad (withQuad q quads))
-unfolding stored
-with-quad-apart q quads h =
-    by-test (λ l. T (distinct sameQuad l)) (some? (sameQuad q) quads) quads (quads ++ (q ∷ [])) (λ m. h) (distinct-end sameQuad same-quad quad-refl q quads h)
-
-pub with-quad-all : (P : Quad → Type 0) (q : Quad) (quads : List Quad) → All P quads → P q → All P (withQuad q quads)
-with-quad-all P q quads h k = by-test (All P) (stored q quads) quads (quads ++ (q ∷ [])) (λ m. h) (λ m. all-append P quads (q ∷ []) h (k, tt))
-
-pub stored-now : (q : Quad) (quads : List Quad) → T (stored q (withQuad q quads))
-unfolding stored
-stored-now q quads =
-    by-test (λ l. T (some? (sameQuad q) l)) (some? (sameQuad q) quads) quads (quads ++ (q ∷ [])) (λ h. h)
-    (λ h. rw (some-append (sameQuad q) quads (q ∷ [])) (orRight (some? (sameQuad q) quads) (sameQuad q q || false) (orLeft (sameQuad q q) false (quad-refl q))))
-
-pub stored-still : (p q : Quad) (quads : List Quad) → T (stored p quads) → T (stored p (withQuad q quads))
-unfolding stored
-stored-still p q quads m =
-    by-test (λ l. T (some? (sameQuad p) l)) (some? (sameQuad q) quads) quads (quads ++ (q ∷ [])) (λ h. m)
-    (λ h. rw (some-append (sameQuad p) quads (q ∷ [])) (orLeft (some? (sameQuad p) quads) (sameQuad p q || false) m))
 
 -- ── the fetched list ────────────────────────────────────────────────────────────────────────
 

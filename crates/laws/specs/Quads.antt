@@ -1,10 +1,10 @@
--- Quads: a stored triple in a fetched graph, the triple of a page that a quad is, and quads in numbers.
-use Prim.Native.Nat.{ℕ, zero, suc, _+_, _<_}
+-- Quads: a stored triple in a fetched graph, the triple of a page that a quad is, and numbers of 16 bits.
+use Prim.Native.Nat.{ℕ, _<_}
 use mathlib.Core.Path.{_≡_}
-use mathlib.Core.List.{List, [], _∷_}
+use mathlib.Core.List.{List}
 use mathlib.Core.Option.{some}
 use lib.Dec.{T}
-use lib.ListN.{getElem?, getD}
+use lib.ListN.{getElem?}
 use Rattle.definitions.specs.Lists.{isIn}
 use Rattle.definitions.specs.Types.{Datatype, plain}
 use Rattle.definitions.specs.Terms.{Term, Text, Schema, datatypeIn, Triple, datatype}
@@ -28,19 +28,13 @@ pub record Names (terms : List Term) (q : Quad) (r : Triple) : Type 0 where
   pub property : getElem? terms (q .property) ≡ some (Term.uri (r .property))
   pub object : getElem? terms (q .object) ≡ some (r .object)
 
--- four numbers that two bytes hold
+-- a quad's numbers are of 16 bits: two bytes of the table, a fourth of a key
+abbrev pub placeLimit : ℕ
+placeLimit = 65536
+
+-- four such numbers
 pub record Small (q : Quad) : Type 0 where
-  pub graph : q .graph < 65536
-  pub subject : q .subject < 65536
-  pub property : q .property < 65536
-  pub object : q .object < 65536
-
--- ── in numbers: four for each quad, one quad after the other ────────────────────────────────
-
-abbrev pub rowAt : List ℕ → ℕ → Quad
-rowAt f at = record { graph = getD f at 0; subject = getD f (at + 1) 0; property = getD f (at + 2) 0; object = getD f (at + 3) 0 }
-
--- so many quads from an offset on
-unfoldable pub rowsFrom : (count : ℕ) → List ℕ → (at : ℕ) → List Quad
-rowsFrom zero f at = []
-rowsFrom (suc count) f at = rowAt f at ∷ rowsFrom count f (at + 4)
+  pub graph : q .graph < placeLimit
+  pub subject : q .subject < placeLimit
+  pub property : q .property < placeLimit
+  pub object : q .object < placeLimit

@@ -42,7 +42,8 @@ use Rattle.laws.proofs.Variables.{at-variable}
 use Rattle.laws.proofs.Saved.{terms-few}
 use Rattle.laws.proofs.Levels.{query-more}
 use Rattle.laws.proofs.SoundMeans.{ItemFacts, Facts, facts}
-use Rattle.query.specs.Codes.{soughtCode, freeCode, numberAt, bindingsOf}
+use Rattle.scan.specs.Codes.{soughtCode, freeCode}
+use Rattle.query.specs.Codes.{numberAt, bindingsOf}
 use Rattle.query.specs.declared.Context.{Context}
 use Rattle.query.specs.StoreLent.{settingIn}
 use Rattle.search.specs.Ready.{Ready}

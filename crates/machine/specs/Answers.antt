@@ -6,7 +6,7 @@ use lib.Dec.{ltb}
 use lib.ListN.{getD}
 use Rattle.definitions.specs.Bytes.{byte}
 use Rattle.definitions.specs.Scope.{variables}
-use Rattle.query.specs.Codes.{soughtCode, freeCode}
+use Rattle.scan.specs.Codes.{soughtCode, freeCode}
 use Rattle.search.specs.declared.Block.{Block}
 
 -- the code of a variable's number, as the search has it

@@ -4,7 +4,7 @@ use definitions::SavedControl;
 use fields::numbers::index;
 use fields::numbers::number_index;
 use query::Context;
-use query::FREE;
+use scan::FREE;
 use search::Block;
 use search::Tried;
 use search::answer::answer;
@@ -143,7 +143,7 @@ pub fn block_answer(
     context: Context,
     at: usize,
     table: &[u8],
-    quads: &[u16],
+    quads: &[u64],
     leasts: &[u8],
 ) -> Answered
     requires { ⌜ ((w : Lends (now script) (now table) (now quads) (now leasts) context run) × Top (w .here) at) ⌝ }
@@ -187,7 +187,7 @@ pub fn try_top(
     context: Context,
     at: usize,
     table: &[u8],
-    quads: &[u16],
+    quads: &[u64],
     leasts: &[u8],
     tuple: [u16; PAIR_LIMIT],
 ) -> Tried

@@ -33,7 +33,7 @@ fn enter_block(
     context: Context,
     at: usize,
     table: &[u8],
-    quads: &[u16],
+    quads: &[u64],
     leasts: &[u8],
 ) -> Stepped
     requires { ⌜ ((w : Lends (now script) (now table) (now quads) (now leasts) context run) × Top (w .here) at) ⌝ }
@@ -63,7 +63,7 @@ pub fn step(
     ends: &[u16],
     context: Context,
     table: &[u8],
-    quads: &[u16],
+    quads: &[u64],
     leasts: &[u8],
 ) -> Stepped
     requires { ⌜ LendsStore (now script) (now table) (now quads) (now leasts) context run store ⌝ }
@@ -119,7 +119,7 @@ pub fn look(
     ends: &[u16],
     context: Context,
     table: &[u8],
-    quads: &[u16],
+    quads: &[u64],
     leasts: &[u8],
 ) -> RunState
     requires { ⌜ LendsStore (now script) (now table) (now quads) (now leasts) context run store ⌝ }
@@ -141,7 +141,7 @@ fn take_steps(
     ends: &[u16],
     context: Context,
     table: &[u8],
-    quads: &[u16],
+    quads: &[u64],
     leasts: &[u8],
     budget: u32,
 ) -> Stopped
@@ -180,7 +180,7 @@ pub fn run_steps(
     script: &[u8],
     context: Context,
     table: &[u8],
-    quads: &[u16],
+    quads: &[u64],
     leasts: &[u8],
     budget: u32,
 ) -> Stopped

@@ -3,21 +3,21 @@ use Prim.Native.Nat.{ℕ, _+_, _-_, _*_, _≤_, _<_}
 use native.Mathlib.Omega.{arith}
 use native.Mathlib.Numerals.{add-one}
 use mathlib.Core.Path.{_≡_, refl, ap, ap₂, sym, subst, _∙_}
-use mathlib.Core.List.{List, [], _∷_, _++_}
-use mathlib.Core.Bool.{Bool, true, false, cond, _&&_}
+use mathlib.Core.List.{List, [], _∷_}
+use mathlib.Core.Bool.{Bool, true, false, _&&_}
 use mathlib.Core.Option.{Option, none, some}
 use lib.Dec.{leb}
-use lib.ListN.{length, take, drop, length-append}
-use Rattle.definitions.specs.Limits.{textWidth, termLimit, quadLimit, quadWidth, quadTableWidth}
+use lib.ListN.{length, set, take, drop}
+use Rattle.definitions.specs.Limits.{textWidth, numberWidth, termLimit, quadLimit, quadWidth, quadTableWidth}
+use Rattle.pages.specs.Room.{leastRecordWidth}
 use Rattle.definitions.specs.Bytes.{byte, part, allZero, inFront}
 use Rattle.definitions.specs.Types.{Datatype, datatypeCode, plain, leqDatatype}
 use Rattle.definitions.specs.Terms.{Term, Schema, Triple, datatype, bodyWidth, termOfBody, uriText, ofTermKind, ofPageKind, kindRows, datatypeIn, Sort, has, sortOf, hasType}
 use Rattle.definitions.specs.Terms.{readSchema, readTriple, readPage, isInteger, isDecimal, isDateTime}
-use Rattle.definitions.specs.Evaluate.{Quad, stored}
-use Rattle.definitions.specs.Machine.{Taken, skip, store, takeOne, takeAll, numbered, objectFits, wellTyped, withQuad}
+use Rattle.definitions.specs.Evaluate.{Quad}
+use Rattle.definitions.specs.Machine.{Taken, skip, store, takeOne, takeAll, numbered, objectFits, wellTyped}
 use Rattle.definitions.specs.Saved.{quadTable, quadsFrom, quadsIn}
 use Rattle.laws.proofs.Options.{some-is, pair-is, some-not-none, onward-some, onward-inv, provided-inv}
-use Rattle.laws.proofs.All.{all-append}
 use Rattle.laws.proofs.TestEquations.{datatype-equal, datatype-equal2}
 use Rattle.laws.proofs.Reading.{row-keys}
 use Rattle.laws.specs.Records.{TripleAt, recordsAt}
@@ -26,6 +26,7 @@ use Rattle.laws.proofs.Taking.{take-all}
 use Rattle.laws.proofs.TermNumbers.{number-extends, extends-length}
 use Rattle.laws.proofs.Valid.{string-inv, number-inv}
 use Rattle.laws.specs.Quads.{Small}
+use Rattle.keys.specs.Keys.{keyOf}
 use Rattle.laws.proofs.Tables.{quads-of, quad-table-length}
 use Rattle.definitions.specs.declared.Read.the-variants as Read
 use Rattle.laws.specs.ReadAnswers.{isSome, nextOf}
@@ -36,10 +37,10 @@ use Rattle.codes.specs.TypeCodes.{codeLeq}
 use Rattle.pages.specs.declared.Counts.{Counts}
 use Rattle.records.specs.declared.Joined.{Joined}
 use Rattle.pages.specs.declared.Numbers.{Numbers}
-use Rattle.store.specs.Quads.{quad, quadSet}
-use Rattle.pages.specs.Page.{BodyIs, Joins, subjectIn, propertyIn, objectIn, Numbering, HeldQuads, Stores, HeldTaken, Took}
+use Rattle.ordering.proofs.Gathering.{gathered-one}
+use Rattle.store.specs.Quads.{quad}
+use Rattle.pages.specs.Page.{BodyIs, Joins, subjectIn, propertyIn, objectIn, Numbering, HeldQuads, HeldTaken, Took}
 use Rattle.records.proofs.NumberingLaws.{held-width}
-use Rattle.store.proofs.QuadLaws.{quad-added}
 
 -- ── the bodies of a record ──────────────────────────────────────────────────────────────────
 
@@ -54,9 +55,20 @@ page-kind k d =
     ((λ e. (omega arith, e)), ((λ e. (omega arith, e)), ((λ e. (omega arith, e)), ((λ e. (omega arith, e)), ((λ e. (omega arith, e)), tt)))))
     (λ e. absurd (some-not-none e refl))
 
+body-wide : (d : Datatype) → numberWidth ≤ bodyWidth d
+body-wide Datatype.anyURI = omega arith
+body-wide Datatype.string = omega arith
+body-wide Datatype.decimal = omega arith
+body-wide Datatype.dateTime = omega arith
+body-wide Datatype.integer = omega arith
+
 module _ (page : List ℕ) (at next : ℕ) (x : Triple) (r : TripleAt page at x next) where
   pub record-ends : at + 81 ≤ length page
   record-ends = omega (arith, r .ends, r .fits)
+
+  -- no record is shorter than one whose object is a number
+  pub record-long : at + leastRecordWidth ≤ next
+  record-long = omega (arith, r .ends, body-wide (r .datatype))
 
   pub kind-high : 0x81 ≤ byte page at
   kind-high = page-kind (byte page at) (r .datatype) (r .kind) .0
@@ -195,79 +207,30 @@ module _ (table : List ℕ) (n : ℕ) (qs : List Quad) (h : HeldQuads table n qs
       let p = provided-inv (fits && z) (some (quadsFrom (length qs) (quadTable qs) 0)) (quads-of qs (h .small) (omega (arith, h .count, h .few))) in
       (λ i. quadsFrom (sym (h .count) i) (h .is i) 0) ∙ some-is (p .1)
 
-  module _ (q : Quad) {r : Bool} (e : r ≡ stored q (quadsFrom n table 0)) where
-    there : stored q qs ≡ r
-    there = ap (stored q) (sym quads-are) ∙ sym e
-
-    pub stores-there : r ≡ true → Stores qs q n table
-    stores-there t =
-        let w : withQuad q qs ≡ qs = ap (λ (b : Bool). cond b qs (qs ++ (q ∷ []))) (there ∙ t) in
-        record {
-          count = sym (h .count) ∙ ap length (sym w);
-          width = quads-width;
-          held = λ few. subst (HeldQuads table n) (sym w) h;
-        }
-
-    module _ (t : r ≡ false) where
-      new : withQuad q qs ≡ qs ++ (q ∷ [])
-      new = ap (λ (b : Bool). cond b qs (qs ++ (q ∷ []))) (there ∙ t)
-
-      more : n + 1 ≡ length (withQuad q qs)
-      more = omega (arith, ap length new, length-append qs (q ∷ []), h .count)
-
-      pub stores-full : quadLimit ≤ n → Stores qs q (n + 1) table
-      stores-full l = record { count = more; width = quads-width; held = λ few. absurd (omega arith) }
-
-      pub stores-written : n < quadLimit → Small q → (after : List ℕ) → after ≡ quadSet table n q → Stores qs q (n + 1) after
-      stores-written l small after f =
-          let is : after ≡ quadTable (qs ++ (q ∷ [])) = f ∙ (ap (λ (s : List ℕ). quadSet s n q) (h .is) ∙ quad-added qs q n (sym (h .count)) l) in
-          let held : HeldQuads after (n + 1) (qs ++ (q ∷ [])) =
-          record { is = is; small = all-append Small qs (q ∷ []) (h .small) (small, tt); count = omega (arith, length-append qs (q ∷ []), h .count); few = omega arith } in
-          record {
-            count = more;
-            width = ap length is ∙ quad-table-length (qs ++ (q ∷ [])) (omega (arith, held .count));
-            held = λ few. subst (HeldQuads after (n + 1)) (sym new) held;
-          }
-
 -- ── one record ──────────────────────────────────────────────────────────────────────────────
 
--- no term and no quad goes
-with-more : (q : Quad) (qs : List Quad) → length qs ≤ length (withQuad q qs)
-with-more q qs = go (stored q qs)
-  where
-    go : (b : Bool) → length qs ≤ length (cond b qs (qs ++ (q ∷ [])))
-    go true = omega arith
-    go false = omega (arith, length-append qs (q ∷ []))
-
-store-more : (g : ℕ) (x : Triple) (k : Taken) → (length (k .terms) ≤ length (store g x k .terms)) × (length (k .quads) ≤ length (store g x k .quads))
+-- no term goes
+store-more : (g : ℕ) (x : Triple) (k : Taken) → length (k .terms) ≤ length (store g x k .terms)
 unfolding store
 store-more g x k =
-    let ts = k .terms in (
-      omega (arith, numbered-more (Term.uri (x .subject)) ts, numbered-more (Term.uri (x .property)) (subjectIn ts x .terms), numbered-more (x .object) (propertyIn ts x .terms)),
-      with-more (quad g (subjectIn ts x .number) (propertyIn ts x .number) (objectIn ts x .number)) (k .quads),
-    )
+    let ts = k .terms in
+    omega (arith, numbered-more (Term.uri (x .subject)) ts, numbered-more (Term.uri (x .property)) (subjectIn ts x .terms), numbered-more (x .object) (propertyIn ts x .terms))
 
 module _ (S : Schema) (g : ℕ) where
-  pub take-more : (rs : List Triple) (k : Taken) → (length (k .terms) ≤ length (takeAll S g rs k .terms)) × (length (k .quads) ≤ length (takeAll S g rs k .quads))
+  pub take-more : (rs : List Triple) (k : Taken) → length (k .terms) ≤ length (takeAll S g rs k .terms)
   take-more rs k =
-      take-all S g (λ j. (length (k .terms) ≤ length (j .terms)) × (length (k .quads) ≤ length (j .quads))) rs
-      (λ x j m t h. let s = store-more g x j in (omega (arith, h .0, s .0), omega (arith, h .1, s .1))) (λ j h. h) k (omega arith, omega arith)
+      take-all S g (λ j. length (k .terms) ≤ length (j .terms)) rs (λ x j m t h. omega (arith, h, store-more g x j)) (λ j h. h) k (omega arith)
 
-  module _ (x : Triple) (k : Taken) (c : Counts) (t q : List ℕ) (h : HeldTaken t q c k) where
-    terms-there : length (k .terms) ≡ c .terms
-    terms-there = h .terms .count
-
-    pub take-skipped : wellTyped S x ≡ false → Took t q (record { terms = c .terms; quads = c .quads; skipped = c .skipped + 1 }) (takeOne S g x k)
+  module _ (x : Triple) (k : Taken) (c : Counts) (t f : List ℕ) (others : List Quad) (h : HeldTaken t f others c k) where
+    pub take-skipped : wellTyped S x ≡ false → Took t f others (record { terms = c .terms; keys = c .keys; skipped = c .skipped + 1 }) (takeOne S g x k)
     unfolding takeOne
     take-skipped e =
-        subst (Took t q (record { terms = c .terms; quads = c .quads; skipped = c .skipped + 1 }))
+        subst (Took t f others (record { terms = c .terms; keys = c .keys; skipped = c .skipped + 1 }))
         (sym (ap (λ (b : Bool). elim b as (λ c. Taken) [ true ↦ store g x k | false ↦ skip k ]) e))
         (record {
           termsAtMost = omega (arith, h .terms .count);
-          quadsAtMost = omega (arith, h .quads .count);
           termWidth = held-width t (c .terms) (k .terms) (h .terms);
-          quadWidth = quads-width q (c .quads) (k .quads) (h .quads);
-          held = λ few room. record { terms = h .terms; quads = h .quads; skipped = ap (λ (n : ℕ). n + 1) (h .skipped) ∙ add-one (k .skipped) };
+          held = λ few. record { terms = h .terms; quads = h .quads; skipped = ap (λ (n : ℕ). n + 1) (h .skipped) ∙ add-one (k .skipped) };
         })
 
     module _ (e : wellTyped S x ≡ true) (r : Numbers) (t′ : List ℕ) (n : Numbering (k .terms) x r t′) where
@@ -275,66 +238,63 @@ module _ (S : Schema) (g : ℕ) where
       unfolding takeOne
       taken-is = ap (λ (b : Bool). elim b as (λ c. Taken) [ true ↦ store g x k | false ↦ skip k ]) e
 
-      pub take-over : termLimit < r .terms → Took t′ q (record { terms = r .terms; quads = c .quads; skipped = c .skipped }) (takeOne S g x k)
+      pub take-over : termLimit < r .terms → Took t′ f others (record { terms = r .terms; keys = c .keys; skipped = c .skipped }) (takeOne S g x k)
       unfolding store
       take-over over =
-          subst (Took t′ q (record { terms = r .terms; quads = c .quads; skipped = c .skipped })) (sym taken-is)
-          (record {
-            termsAtMost = n .atMost;
-            quadsAtMost = omega (arith, h .quads .count, store-more g x k .1);
-            termWidth = n .width;
-            quadWidth = quads-width q (c .quads) (k .quads) (h .quads);
-            held = λ few room. absurd (omega arith);
-          })
+          subst (Took t′ f others (record { terms = r .terms; keys = c .keys; skipped = c .skipped })) (sym taken-is)
+          (record { termsAtMost = n .atMost; termWidth = n .width; held = λ few. absurd (omega arith) })
 
-      pub take-stored : r .terms ≤ termLimit → (m : ℕ) (q′ : List ℕ) → Stores (k .quads) (quad g (r .subject) (r .property) (r .object)) m q′
-          → Took t′ q′ (record { terms = r .terms; quads = m; skipped = c .skipped }) (takeOne S g x k)
+      -- its quad's key after those that there are
+      pub take-stored : r .terms ≤ termLimit → c .keys < length f → (y : ℕ) → y ≡ keyOf (quad g (r .subject) (r .property) (r .object))
+          → Small (quad g (r .subject) (r .property) (r .object))
+          → Took t′ (set f (c .keys) y) others (record { terms = r .terms; keys = c .keys + 1; skipped = c .skipped }) (takeOne S g x k)
       unfolding store
-      take-stored few m q′ s =
+      take-stored few room y is small =
           let a = n .held few in
           let same : quad g (r .subject) (r .property) (r .object) ≡ quad g (subjectIn (k .terms) x .number) (propertyIn (k .terms) x .number) (objectIn (k .terms) x .number) =
           λ i. quad g (a .subject i) (a .property i) (a .object i) in
-          let z = subst (λ (p : Quad). Stores (k .quads) p m q′) same s in
-          subst (Took t′ q′ (record { terms = r .terms; quads = m; skipped = c .skipped })) (sym taken-is)
+          subst (Took t′ (set f (c .keys) y) others (record { terms = r .terms; keys = c .keys + 1; skipped = c .skipped })) (sym taken-is)
           (record {
             termsAtMost = n .atMost;
-            quadsAtMost = omega (arith, z .count);
             termWidth = n .width;
-            quadWidth = z .width;
-            held = λ little room. record { terms = a .terms; quads = z .held room; skipped = h .skipped };
+            held = λ little.
+                record {
+                  terms = a .terms;
+                  quads = gathered-one others f (c .keys) (k .quads) (h .quads) _ y (subst Small same small) (is ∙ ap keyOf same) room;
+                  skipped = h .skipped;
+                };
           })
 
 -- ── record after record ─────────────────────────────────────────────────────────────────────
 
 -- what is left to take in, from an offset on
-pub record Left (page : List ℕ) (S : Schema) (g at : ℕ) (t q : List ℕ) (c : Counts) (final : Taken) : Type 0 where
+pub record Left (page : List ℕ) (S : Schema) (g at : ℕ) (t f : List ℕ) (others : List Quad) (c : Counts) (final : Taken) : Type 0 where
   pub rest : List Triple
   pub so-far : Taken
   pub reads : recordsAt readTriple page at ≡ some rest
-  pub holds : HeldTaken t q c so-far
+  pub holds : HeldTaken t f others c so-far
   pub leads : final ≡ takeAll S g rest so-far
 
--- whatever the page and the tables held at first
-abbrev pub Going : (page schema : List ℕ) → (g : ℕ) → (t₀ q₀ : List ℕ) → Counts → (t q : List ℕ) → Counts → (at : ℕ) → Type 0
-Going page schema g t₀ q₀ c₀ t q c at =
-    (S : Schema) (rs : List Triple) (k : Taken) → readSchema schema ≡ some S → readPage page ≡ some rs → HeldTaken t₀ q₀ c₀ k → Left page S g at t q c (takeAll S g rs k)
+-- whatever the page, the term table and the quads of other graphs were at first
+abbrev pub Going : (page schema : List ℕ) → (g : ℕ) → (t₀ f₀ : List ℕ) → Counts → (t f : List ℕ) → Counts → (at : ℕ) → Type 0
+Going page schema g t₀ f₀ c₀ t f c at =
+    (S : Schema) (rs : List Triple) (others : List Quad) (k : Taken) → readSchema schema ≡ some S → readPage page ≡ some rs → HeldTaken t₀ f₀ others c₀ k
+    → Left page S g at t f others c (takeAll S g rs k)
 
-pub going-first : (page schema : List ℕ) (g : ℕ) (t q : List ℕ) (c : Counts) → Going page schema g t q c t q c 0
-going-first page schema g t q c S rs k e r h = record { rest = rs; so-far = k; reads = sym (page-at page) ∙ r; holds = h; leads = refl }
+pub going-first : (page schema : List ℕ) (g : ℕ) (t f : List ℕ) (c : Counts) → Going page schema g t f c t f c 0
+going-first page schema g t f c S rs others k e r h = record { rest = rs; so-far = k; reads = sym (page-at page) ∙ r; holds = h; leads = refl }
 
-module _ (page : List ℕ) (S : Schema) (g at : ℕ) (t q : List ℕ) (c : Counts) (final : Taken) (l : Left page S g at t q c final) where
+module _ (page : List ℕ) (S : Schema) (g at : ℕ) (t f : List ℕ) (others : List Quad) (c : Counts) (final : Taken) (l : Left page S g at t f others c final) where
   -- none is left
-  pub left-none : length page ≤ at → Took t q c final
+  pub left-none : length page ≤ at → Took t f others c final
   unfolding takeAll
   left-none h =
       let n : [] ≡ l .rest = some-is (sym (at-end readTriple triple-forward page at h) ∙ l .reads) in
-      subst (Took t q c) (sym (l .leads ∙ ap (λ (rs : List Triple). takeAll S g rs (l .so-far)) (sym n)))
+      subst (Took t f others c) (sym (l .leads ∙ ap (λ (rs : List Triple). takeAll S g rs (l .so-far)) (sym n)))
       (record {
         termsAtMost = omega (arith, l .holds .terms .count);
-        quadsAtMost = omega (arith, l .holds .quads .count);
         termWidth = held-width t (c .terms) (l .so-far .terms) (l .holds .terms);
-        quadWidth = quads-width q (c .quads) (l .so-far .quads) (l .holds .quads);
-        held = λ few room. l .holds;
+        held = λ few. l .holds;
       })
 
   -- one and the others
@@ -342,11 +302,11 @@ module _ (page : List ℕ) (S : Schema) (g at : ℕ) (t q : List ℕ) (c : Count
     pub record Next : Type 0 where
       pub triple : Triple
       pub next : ℕ
-      pub others : List Triple
+      pub later : List Triple
       pub read : readTriple page at ≡ some (triple, next)
       pub here : TripleAt page at triple next
-      pub after : recordsAt readTriple page next ≡ some others
-      pub all : l .rest ≡ triple ∷ others
+      pub after : recordsAt readTriple page next ≡ some later
+      pub all : l .rest ≡ triple ∷ later
       pub farther : at < next
 
     next-of : (o : Option (Triple × ℕ)) → readTriple page at ≡ o → Next
@@ -355,16 +315,16 @@ module _ (page : List ℕ) (S : Schema) (g at : ℕ) (t q : List ℕ) (c : Count
     next-of (some (x, n)) e = go (recordsAt readTriple page n) refl
       where
         go : (o : Option (List Triple)) → recordsAt readTriple page n ≡ o → Next
-        go none f = absurd (some-not-none (l .reads) (at-one readTriple triple-forward page at h e ∙ ap (inFront readTriple x) f))
-        go (some others) f =
+        go none z = absurd (some-not-none (l .reads) (at-one readTriple triple-forward page at h e ∙ ap (inFront readTriple x) z))
+        go (some later) z =
             record {
               triple = x;
               next = n;
-              others = others;
+              later = later;
               read = e;
               here = triple-inv page at x n e;
-              after = f;
-              all = some-is (sym (l .reads) ∙ (at-one readTriple triple-forward page at h e ∙ ap (inFront readTriple x) f));
+              after = z;
+              all = some-is (sym (l .reads) ∙ (at-one readTriple triple-forward page at h e ∙ ap (inFront readTriple x) z));
               farther = triple-forward page at x n e .0;
             }
 
@@ -382,32 +342,23 @@ module _ (page : List ℕ) (S : Schema) (g at : ℕ) (t q : List ℕ) (c : Count
       pub here-at : TripleAt page at (left-one .triple) n
       here-at = subst (λ (m : ℕ). TripleAt page at (left-one .triple) m) (sym end-next) (left-one .here)
 
-  module _ (h : at < length page) (t′ q′ : List ℕ) (c′ : Counts) (took : Took t′ q′ c′ (takeOne S g (left-one h .triple) (l .so-far))) where
-    leads-on : final ≡ takeAll S g (left-one h .others) (takeOne S g (left-one h .triple) (l .so-far))
+  module _ (h : at < length page) (t′ f′ : List ℕ) (c′ : Counts) (took : Took t′ f′ others c′ (takeOne S g (left-one h .triple) (l .so-far))) where
+    leads-on : final ≡ takeAll S g (left-one h .later) (takeOne S g (left-one h .triple) (l .so-far))
     unfolding takeAll
     leads-on = l .leads ∙ ap (λ (rs : List Triple). takeAll S g rs (l .so-far)) (left-one h .all)
 
     -- there was room
-    pub left-next : (n : ℕ) → Read.Next n ≡ nextOf (readTriple page at) → c′ .terms ≤ termLimit → c′ .quads ≤ quadLimit
-        → Left page S g n t′ q′ c′ final
-    left-next n end few room =
-        subst (λ (m : ℕ). Left page S g m t′ q′ c′ final) (sym (end-next h n end))
-        (record { rest = left-one h .others; so-far = takeOne S g (left-one h .triple) (l .so-far); reads = left-one h .after; holds = took .held few room; leads = leads-on })
+    pub left-next : (n : ℕ) → Read.Next n ≡ nextOf (readTriple page at) → c′ .terms ≤ termLimit → Left page S g n t′ f′ others c′ final
+    left-next n end few =
+        subst (λ (m : ℕ). Left page S g m t′ f′ others c′ final) (sym (end-next h n end))
+        (record { rest = left-one h .later; so-far = takeOne S g (left-one h .triple) (l .so-far); reads = left-one h .after; holds = took .held few; leads = leads-on })
 
-    -- a limit is passed, and stays passed
-    left-over : (c′ .terms ≤ termLimit → c′ .quads ≤ quadLimit → ⊥) → Took t′ q′ c′ final
-    left-over over =
-        let m = take-more S g (left-one h .others) (takeOne S g (left-one h .triple) (l .so-far)) in
+    -- the limit is passed, and stays passed
+    pub left-terms : termLimit < c′ .terms → Took t′ f′ others c′ final
+    left-terms over =
+        let m = take-more S g (left-one h .later) (takeOne S g (left-one h .triple) (l .so-far)) in
         record {
-          termsAtMost = omega (arith, took .termsAtMost, m .0, ap (λ (k : Taken). length (k .terms)) leads-on);
-          quadsAtMost = omega (arith, took .quadsAtMost, m .1, ap (λ (k : Taken). length (k .quads)) leads-on);
+          termsAtMost = omega (arith, took .termsAtMost, m, ap (λ (k : Taken). length (k .terms)) leads-on);
           termWidth = took .termWidth;
-          quadWidth = took .quadWidth;
-          held = λ few room. absurd (over few room);
+          held = λ few. absurd (omega arith);
         }
-
-    pub left-terms : termLimit < c′ .terms → Took t′ q′ c′ final
-    left-terms o = left-over (λ few room. omega arith)
-
-    pub left-quads : quadLimit < c′ .quads → Took t′ q′ c′ final
-    left-quads o = left-over (λ few room. omega arith)

@@ -1,18 +1,20 @@
 -- What the tables hold while a page is taken in.
 use Prim.Native.Nat.{ℕ, _≤_}
+use mathlib.Core.Bool.{true}
 use mathlib.Core.List.{List}
 use mathlib.Core.Option.{some}
 use mathlib.Core.Path.{_≡_}
 use lib.ListN.{length}
-use Rattle.definitions.specs.Limits.{termLimit, termTableWidth, quadLimit, quadTableWidth}
+use Rattle.definitions.specs.Limits.{termLimit, termTableWidth, quadLimit}
 use Rattle.definitions.specs.Types.{Datatype}
 use Rattle.definitions.specs.Terms.{Term, Schema, Triple, bodyWidth, termOfBody, ofTermKind, ofPageKind, readSchema, readPage}
 use Rattle.definitions.specs.Evaluate.{Quad}
-use Rattle.definitions.specs.Machine.{Numbered, numbered, Taken, withQuad}
+use Rattle.definitions.specs.Machine.{Numbered, numbered, Taken, inOrder}
 use Rattle.definitions.specs.Saved.{quadTable}
 use Rattle.laws.specs.Lists.{All}
 use Rattle.laws.specs.Quads.{Small}
 use Rattle.laws.specs.Records.{TripleAt}
+use Rattle.ordering.specs.Sets.{Gathered}
 use Rattle.table.specs.Hashes.{Hashed, HashedEntries}
 use Rattle.table.specs.Table.{HeldTerms}
 use Rattle.records.specs.declared.Joined.{Joined}
@@ -88,37 +90,30 @@ Reads schema entries = (S : Schema) × (readSchema schema ≡ some S) × HashedE
 
 -- ── quads ───────────────────────────────────────────────────────────────────────────────────
 
--- a table of n quads
+-- a table of n quads, in their order
 pub record HeldQuads (table : List ℕ) (n : ℕ) (qs : List Quad) : Type 0 where
   pub is : table ≡ quadTable qs
   pub small : All Small qs
+  pub order : inOrder qs ≡ true
   pub count : length qs ≡ n
   pub few : n ≤ quadLimit
 
 abbrev pub HeldSome : (table : List ℕ) → ℕ → Type 0
 HeldSome table n = (qs : List Quad) × HeldQuads table n qs
 
--- a quad is there; the table holds it too, where there is room
-pub record Stores (qs : List Quad) (q : Quad) (n : ℕ) (table : List ℕ) : Type 0 where
-  pub count : n ≡ length (withQuad q qs)
-  pub width : length table ≡ quadTableWidth
-  pub held : n ≤ quadLimit → HeldQuads table n (withQuad q qs)
-
 -- ── the page so far ─────────────────────────────────────────────────────────────────────────
 
--- both tables and the skipped count
-pub record HeldTaken (termBytes quadBytes : List ℕ) (c : Counts) (k : Taken) : Type 0 where
+-- the term table, the keys that the page puts in beside the quads of other graphs, and the skipped count
+pub record HeldTaken (termBytes keys : List ℕ) (others : List Quad) (c : Counts) (k : Taken) : Type 0 where
   pub terms : HeldTerms termBytes (c .terms) (k .terms)
-  pub quads : HeldQuads quadBytes (c .quads) (k .quads)
+  pub quads : Gathered others keys (c .keys) (k .quads)
   pub skipped : c .skipped ≡ k .skipped
 
-abbrev pub HeldBoth : (termBytes quadBytes : List ℕ) → Counts → Type 0
-HeldBoth termBytes quadBytes c = (k : Taken) × HeldTaken termBytes quadBytes c k
+abbrev pub HeldBoth : (termBytes keys : List ℕ) → Counts → Type 0
+HeldBoth termBytes keys c = (others : List Quad) × (k : Taken) × HeldTaken termBytes keys others c k
 
--- held where there was room for all; else a limit is passed
-pub record Took (termBytes quadBytes : List ℕ) (c : Counts) (k : Taken) : Type 0 where
+-- held where there was room for all terms; else their limit is passed
+pub record Took (termBytes keys : List ℕ) (others : List Quad) (c : Counts) (k : Taken) : Type 0 where
   pub termsAtMost : c .terms ≤ length (k .terms)
-  pub quadsAtMost : c .quads ≤ length (k .quads)
   pub termWidth : length termBytes ≡ termTableWidth
-  pub quadWidth : length quadBytes ≡ quadTableWidth
-  pub held : c .terms ≤ termLimit → c .quads ≤ quadLimit → HeldTaken termBytes quadBytes c k
+  pub held : c .terms ≤ termLimit → HeldTaken termBytes keys others c k

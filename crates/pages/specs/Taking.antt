@@ -5,7 +5,8 @@ use mathlib.Core.List.{List}
 use mathlib.Core.Path.{_≡_}
 use lib.ListN.{length}
 use Rattle.definitions.specs.Limits.{graphLimit}
-use Rattle.definitions.specs.Terms.{Schema, Triple}
+use Rattle.definitions.specs.Terms.{Term, Schema, Triple}
+use Rattle.definitions.specs.Evaluate.{Quad}
 use Rattle.definitions.specs.Machine.{Store, Taken, taken, withPage, inLimits}
 use Rattle.definitions.specs.Saved.{termTable, quadTable}
 use Rattle.definitions.specs.declared.SavedStore.{SavedStore}
@@ -14,6 +15,10 @@ use Rattle.store.specs.Graphs.{fetchedIn, paged}
 use Rattle.pages.specs.declared.AfterPage.{AfterPage}
 use Rattle.table.specs.Table.{HeldTerms}
 use Rattle.pages.specs.Page.{HeldQuads}
+
+-- what a page is taken into: terms, and the quads of other graphs
+abbrev pub startOf : List Term → (others : List Quad) → Taken
+startOf terms others = record { skipped = 0; terms = terms; quads = others }
 
 -- both tables and the saved store hold a store
 pub record HeldStore (termBytes quadBytes : List ℕ) (n : ℕ) (store : SavedStore) (σ : Store) : Type 0 where

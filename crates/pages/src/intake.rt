@@ -1,21 +1,32 @@
 // A page call's work, on copies of both tables: they come back only where no limit is passed.
 use crate::AfterPage;
 use crate::Counts;
-use crate::triples::take_page;
+use crate::triples::take_triples;
+use ordering::take_page;
 use store::graphs::graph_fits;
 use store::graphs::with_page;
-use store::quads::keep_others;
+use store::quads::read_keys;
+use store::quads::write_keys;
+ghost use mathlib.Core.Bool.{true};
 ghost use mathlib.Core.Path.{_≡_};
-ghost use mathlib.Core.List.{List, []};
+ghost use mathlib.Core.List.{List};
 ghost use mathlib.Core.Option.{some};
 ghost use Prim.Native.Nat.{_≤_};
 ghost use lib.ListN.{length};
 ghost use Rattle.definitions.specs.Limits.{pageLimit, termTableWidth};
-ghost use Rattle.definitions.specs.Terms.{Schema, Triple, readSchema, readPage};
-ghost use Rattle.definitions.specs.Machine.{Store, taken};
-ghost use Rattle.definitions.specs.Saved.{quadTable};
-ghost use Rattle.pages.specs.Page.{PageReads, Reads, Took};
-ghost use Rattle.pages.specs.Taking.{HeldStore, HeldTables, PageDone, refusedPage};
+ghost use Rattle.pages.specs.Room.{recordLimit, gatheredLimit};
+ghost use Rattle.definitions.specs.Terms.{Term, Schema, Triple, readSchema, readPage};
+ghost use Rattle.definitions.specs.Evaluate.{Quad};
+ghost use Rattle.definitions.specs.Machine.{Store, takeAll, inOrder};
+ghost use Rattle.laws.specs.Lists.{All};
+ghost use Rattle.laws.specs.Quads.{Small};
+ghost use Rattle.keys.specs.Keys.{rowsFrom};
+ghost use Rattle.ordering.specs.Sets.{Gathered, apart};
+ghost use Rattle.table.specs.Table.{HeldTerms};
+ghost use Rattle.pages.specs.Page.{Held, HeldQuads, HeldSome, PageReads, Reads, Took};
+ghost use Rattle.pages.specs.Taking.{startOf, HeldStore, HeldTables, PageDone, refusedPage};
+use crate::GATHERED_LIMIT;
+use crate::RECORD_LIMIT;
 use definitions::PageAnswer;
 use definitions::QUAD_LIMIT;
 use definitions::QUAD_TABLE_WIDTH;
@@ -32,37 +43,55 @@ fn refused(store: SavedStore) -> AfterPage
     }
 }
 
-// Copies both tables, without the graph's quads, and takes the page into the copies.
+// Copies the term table, and takes the page's records into the copy and into keys.
 fn take_copies(
-    store: SavedStore,
     graph: u16,
     n: usize,
     schema: &[u8],
     entries: &[u16],
     page: &[u8],
     lent: &[u8],
-    stored: &[u8],
     terms: &mut [u8],
-    quads: &mut [u8],
+    keys: &mut [u64],
 ) -> Counts
     requires { ⌜ PageReads (now page) ⌝ }
     requires { ⌜ length (now page) ≤ pageLimit ⌝ }
     requires { ⌜ Reads (now schema) (now entries) ⌝ }
-    requires { ⌜ HeldTables (now lent) (now stored) n store ⌝ }
+    requires { ⌜ Held (now lent) n ⌝ }
     requires { ⌜ length (now terms) ≡ termTableWidth ⌝ }
-    requires { ⌜ now quads ≡ quadTable [] ⌝ }
-    ensures { λ r. ⌜ ((S : Schema) (rs : List Triple) (σ : Store) → readSchema (now (schema .entry)) ≡ some S → readPage (now (page .entry)) ≡ some rs
-        → HeldStore (now (lent .entry)) (now (stored .entry)) n store σ → Took (now (terms .exit)) (now (quads .exit)) r (taken S graph rs σ)) ⌝ }
+    requires { ⌜ length (now keys) ≡ recordLimit ⌝ }
+    ensures { λ r. ⌜ ((S : Schema) (rs : List Triple) (ts : List Term) (others : List Quad) → readSchema (now (schema .entry)) ≡ some S → readPage (now (page .entry)) ≡ some rs
+        → HeldTerms (now (lent .entry)) n ts → inOrder others ≡ true → All Small others
+        → Took (now (terms .exit)) (now (keys .exit)) others r (takeAll S graph rs (startOf ts others))) ⌝ }
+    ensures { λ r. ⌜ r .keys ≤ recordLimit ⌝ }
 {
     bytes::copy(lent, terms);
-    let count = store.quads as usize;
-    let kept = keep_others(stored, count, graph, quads);
     let start = Counts {
         terms: n,
-        quads: kept,
+        keys: 0,
         skipped: 0,
     };
-    take_page(page, schema, entries, graph, terms, quads, start)
+    take_triples(page, schema, entries, graph, terms, keys, start)
+}
+
+// The keys after the page: those of other graphs and the page's, in their order, each once; how many.
+fn put_in_order(
+    stored: &[u8],
+    count: usize,
+    graph: u16,
+    fresh: &mut [u64],
+    m: usize,
+    keys: &mut [u64],
+) -> usize
+    requires { ⌜ HeldSome (now stored) count ⌝ }
+    requires { ⌜ (m ≤ recordLimit) × (length (now fresh) ≡ recordLimit) × (length (now keys) ≡ gatheredLimit) ⌝ }
+    ensures { λ r. ⌜ ((qs after : List Quad) → HeldQuads (now (stored .entry)) count qs → Gathered (apart graph qs) (now (fresh .entry)) m after
+        → (r ≡ length after) × (rowsFrom r (now (keys .exit)) 0 ≡ after)) ⌝ }
+    ensures { λ r. ⌜ r ≤ gatheredLimit ⌝ }
+{
+    let mut work = [0u64; GATHERED_LIMIT];
+    read_keys(stored, count, keys);
+    take_page(keys, count, graph as u64, fresh, m, &mut work)
 }
 
 // Takes a page in: the skipped count, the saved store and both tables after it, or refusal 14.
@@ -89,29 +118,31 @@ pub fn take_in(
         return refused(store);
     }
     let mut terms = [0u8; TERM_TABLE_WIDTH];
-    let mut quads = [0u8; QUAD_TABLE_WIDTH];
+    let mut fresh = [0u64; RECORD_LIMIT];
     let end = take_copies(
-        store,
         graph,
         n,
         schema,
         entries,
         page,
         lent,
-        stored,
         &mut terms,
-        &mut quads,
+        &mut fresh,
     );
     if TERM_LIMIT < end.terms {
         return refused(store);
     }
-    if QUAD_LIMIT < end.quads {
+    let mut keys = [0u64; GATHERED_LIMIT];
+    let old = store.quads as usize;
+    let count = put_in_order(stored, old, graph, &mut fresh, end.keys, &mut keys);
+    if QUAD_LIMIT < count {
         return refused(store);
     }
+    let mut quads = [0u8; QUAD_TABLE_WIDTH];
+    write_keys(&keys, count, &mut quads);
     bytes::copy(&terms, lent);
     bytes::copy(&quads, stored);
-    let count = end.quads as u16;
-    let after = with_page(store, graph, count);
+    let after = with_page(store, graph, count as u16);
     AfterPage {
         answer: PageAnswer::Taken(end.skipped),
         store: after,

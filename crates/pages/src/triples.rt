@@ -1,32 +1,33 @@
-// Taking in a page: its triples become a graph's quads, and their new terms join the table.
-// A count above its limit says that the table had no room for all.
+// A page's records: their new terms join the table, and their quads' keys are gathered in the order in which they come.
+// A count of terms above its limit says that the table had no room for all.
 ghost use mathlib.Core.Path.{_≡_};
 ghost use mathlib.Core.List.{List};
 ghost use mathlib.Core.Option.{some};
-ghost use Prim.Native.Nat.{_+_, _≤_};
+ghost use Prim.Native.Nat.{_+_, _≤_, _<_};
 ghost use lib.ListN.{length};
 ghost use Rattle.definitions.specs.Limits.{pageLimit};
+ghost use Rattle.pages.specs.Room.{recordLimit};
 ghost use Rattle.definitions.specs.Types.{Datatype, datatypeCode};
 ghost use Rattle.definitions.specs.Terms.{Term, Schema, Triple, ofPageKind, readSchema, readPage};
 ghost use Rattle.definitions.specs.Evaluate.{Quad};
 ghost use Rattle.definitions.specs.Machine.{Taken, wellTyped, takeOne, takeAll};
 ghost use Rattle.laws.specs.Records.{TripleAt};
+ghost use Rattle.laws.specs.Quads.{Small};
+ghost use Rattle.keys.specs.Keys.{keyOf};
 ghost use Rattle.table.specs.Table.{HeldTerms};
 ghost use Rattle.store.specs.Quads.{quad};
-ghost use Rattle.pages.specs.Page.{Held, HeldHashes, BodyIs, Says, Joins, PageKind, RecordAt, Reads, Numbering, HeldQuads, HeldSome, Stores, HeldTaken, HeldBoth, Took, PageReads};
+ghost use Rattle.pages.specs.Page.{Held, HeldHashes, BodyIs, Says, Joins, PageKind, RecordAt, Reads, Numbering, HeldTaken, HeldBoth, Took, PageReads};
 use crate::Counts;
 use crate::Numbers;
 use crate::page_reader::next_record;
 use codes::has_type;
 use definitions::OBJECT_OFFSET;
 use definitions::PROPERTY_OFFSET;
-use definitions::QUAD_LIMIT;
 use definitions::TERM_LIMIT;
+use keys::pack;
 use records::Joined;
 use records::numbering::add_term;
 use records::schema::datatype_of;
-use store::quads::has_quad;
-use store::quads::put_quad;
 use table::hashes::hash_of;
 use table::hashes::hash_slots;
 use table::slots::slot_of;
@@ -120,29 +121,18 @@ fn well_typed(page: &[u8], at: usize, next: usize, schema: &[u8], entries: &[u16
     has_type(given, wanted)
 }
 
-// Stores a quad that is not there yet, where there is room; how many quads there then are.
-fn store_quad(
-    table: &mut [u8],
-    n: usize,
-    graph: u16,
-    subject: u16,
-    property: u16,
-    object: u16,
-) -> usize
-    requires { ⌜ HeldSome (now table) n ⌝ }
-    ensures { λ r. ⌜ ((qs : List Quad) → HeldQuads (now (table .entry)) n qs → Stores qs (quad graph subject property object) r (now (table .exit))) ⌝ }
+// The key of a record's quad.
+fn key_of(graph: u16, numbers: Numbers) -> u64
+    ensures { λ r. ⌜ r ≡ keyOf (quad graph (numbers .subject) (numbers .property) (numbers .object)) ⌝ }
+    ensures { λ _. ⌜ Small (quad graph (numbers .subject) (numbers .property) (numbers .object)) ⌝ }
 {
-    if has_quad(table, n, graph, subject, property, object) {
-        return n;
-    }
-    if QUAD_LIMIT <= n {
-        return n + 1;
-    }
-    put_quad(table, n, graph, subject, property, object);
-    n + 1
+    let subject = numbers.subject;
+    let property = numbers.property;
+    let object = numbers.object;
+    pack(graph as u64, subject as u64, property as u64, object as u64)
 }
 
-// Takes in a record, or skips it.
+// Takes in a record, or skips it: its quad's key comes after those that there are.
 fn take_record(
     page: &[u8],
     at: usize,
@@ -152,28 +142,30 @@ fn take_record(
     graph: u16,
     terms: &mut [u8],
     hashes: &mut [u16],
-    quads: &mut [u8],
+    keys: &mut [u64],
     counts: Counts,
 ) -> Counts
     requires { ⌜ RecordAt (now page) at next ⌝ }
     requires { ⌜ Reads (now schema) (now entries) ⌝ }
-    requires { ⌜ HeldBoth (now terms) (now quads) counts ⌝ }
+    requires { ⌜ HeldBoth (now terms) (now keys) counts ⌝ }
     requires { ⌜ HeldHashes (now terms) (counts .terms) (now hashes) ⌝ }
     requires { ⌜ counts .skipped ≤ at ⌝ }
     requires { ⌜ at ≤ pageLimit ⌝ }
-    ensures { λ r. ⌜ ((S : Schema) (x : Triple) (k : Taken) → readSchema (now (schema .entry)) ≡ some S → TripleAt (now (page .entry)) at x next
-        → HeldTaken (now (terms .entry)) (now (quads .entry)) counts k → Took (now (terms .exit)) (now (quads .exit)) r (takeOne S graph x k)) ⌝ }
+    requires { ⌜ (counts .keys < recordLimit) × (length (now keys) ≡ recordLimit) ⌝ }
+    ensures { λ r. ⌜ ((S : Schema) (x : Triple) (others : List Quad) (k : Taken) → readSchema (now (schema .entry)) ≡ some S → TripleAt (now (page .entry)) at x next
+        → HeldTaken (now (terms .entry)) (now (keys .entry)) others counts k → Took (now (terms .exit)) (now (keys .exit)) others r (takeOne S graph x k)) ⌝ }
     ensures { λ r. ⌜ HeldHashes (now (terms .exit)) (r .terms) (now (hashes .exit)) ⌝ }
     ensures { λ r. ⌜ r .skipped ≤ counts .skipped + 1 ⌝ }
+    ensures { λ r. ⌜ r .keys ≤ counts .keys + 1 ⌝ }
 {
     let n = counts.terms;
-    let m = counts.quads;
+    let m = counts.keys;
     let skipped = counts.skipped;
     if !well_typed(page, at, next, schema, entries) {
         let more = skipped + 1;
         return Counts {
             terms: n,
-            quads: m,
+            keys: m,
             skipped: more,
         };
     }
@@ -182,26 +174,21 @@ fn take_record(
     if TERM_LIMIT < count {
         return Counts {
             terms: count,
-            quads: m,
+            keys: m,
             skipped,
         };
     }
-    let stored = store_quad(
-        quads,
-        m,
-        graph,
-        numbers.subject,
-        numbers.property,
-        numbers.object,
-    );
+    let key = key_of(graph, numbers);
+    keys[m] = key;
+    let gathered = m + 1;
     Counts {
         terms: count,
-        quads: stored,
+        keys: gathered,
         skipped,
     }
 }
 
-// Takes in the records of a page, one by one, as long as there is room.
+// Takes in the records of a page, one by one, as long as there is room for their terms.
 fn take_records(
     page: &[u8],
     schema: &[u8],
@@ -209,17 +196,18 @@ fn take_records(
     graph: u16,
     terms: &mut [u8],
     hashes: &mut [u16],
-    quads: &mut [u8],
+    keys: &mut [u64],
     start: Counts,
 ) -> Counts
     requires { ⌜ PageReads (now page) ⌝ }
     requires { ⌜ length (now page) ≤ pageLimit ⌝ }
     requires { ⌜ Reads (now schema) (now entries) ⌝ }
-    requires { ⌜ HeldBoth (now terms) (now quads) start ⌝ }
+    requires { ⌜ HeldBoth (now terms) (now keys) start ⌝ }
     requires { ⌜ HeldHashes (now terms) (start .terms) (now hashes) ⌝ }
-    requires { ⌜ start .skipped ≡ 0 ⌝ }
-    ensures { λ r. ⌜ ((S : Schema) (rs : List Triple) (k : Taken) → readSchema (now (schema .entry)) ≡ some S → readPage (now (page .entry)) ≡ some rs
-        → HeldTaken (now (terms .entry)) (now (quads .entry)) start k → Took (now (terms .exit)) (now (quads .exit)) r (takeAll S graph rs k)) ⌝ }
+    requires { ⌜ (start .skipped ≡ 0) × (start .keys ≡ 0) × (length (now keys) ≡ recordLimit) ⌝ }
+    ensures { λ r. ⌜ ((S : Schema) (rs : List Triple) (others : List Quad) (k : Taken) → readSchema (now (schema .entry)) ≡ some S → readPage (now (page .entry)) ≡ some rs
+        → HeldTaken (now (terms .entry)) (now (keys .entry)) others start k → Took (now (terms .exit)) (now (keys .exit)) others r (takeAll S graph rs k)) ⌝ }
+    ensures { λ r. ⌜ r .keys ≤ recordLimit ⌝ }
 {
     let mut counts = start;
     let mut at = 0;
@@ -234,13 +222,10 @@ fn take_records(
             graph,
             terms,
             hashes,
-            quads,
+            keys,
             counts,
         );
         if TERM_LIMIT < counts.terms {
-            return counts;
-        }
-        if QUAD_LIMIT < counts.quads {
             return counts;
         }
         at = next;
@@ -248,24 +233,25 @@ fn take_records(
     counts
 }
 
-// Takes a page in. Terms are looked up by hashes, made once for the page.
+// Takes a page's records in: their terms into the table, the keys of their quads one after the other. Terms are looked up by hashes, made once for the page.
 // Ruled out: a page of which only the first record is taken; skipped records that add terms.
-pub fn take_page(
+pub fn take_triples(
     page: &[u8],
     schema: &[u8],
     entries: &[u16],
     graph: u16,
     terms: &mut [u8],
-    quads: &mut [u8],
+    keys: &mut [u64],
     start: Counts,
 ) -> Counts
     requires { ⌜ PageReads (now page) ⌝ }
     requires { ⌜ length (now page) ≤ pageLimit ⌝ }
     requires { ⌜ Reads (now schema) (now entries) ⌝ }
-    requires { ⌜ HeldBoth (now terms) (now quads) start ⌝ }
-    requires { ⌜ start .skipped ≡ 0 ⌝ }
-    ensures { λ r. ⌜ ((S : Schema) (rs : List Triple) (k : Taken) → readSchema (now (schema .entry)) ≡ some S → readPage (now (page .entry)) ≡ some rs
-        → HeldTaken (now (terms .entry)) (now (quads .entry)) start k → Took (now (terms .exit)) (now (quads .exit)) r (takeAll S graph rs k)) ⌝ }
+    requires { ⌜ HeldBoth (now terms) (now keys) start ⌝ }
+    requires { ⌜ (start .skipped ≡ 0) × (start .keys ≡ 0) × (length (now keys) ≡ recordLimit) ⌝ }
+    ensures { λ r. ⌜ ((S : Schema) (rs : List Triple) (others : List Quad) (k : Taken) → readSchema (now (schema .entry)) ≡ some S → readPage (now (page .entry)) ≡ some rs
+        → HeldTaken (now (terms .entry)) (now (keys .entry)) others start k → Took (now (terms .exit)) (now (keys .exit)) others r (takeAll S graph rs k)) ⌝ }
+    ensures { λ r. ⌜ r .keys ≤ recordLimit ⌝ }
 {
     let mut hashes = hash_slots(terms, start.terms);
     take_records(
@@ -275,7 +261,7 @@ pub fn take_page(
         graph,
         terms,
         &mut hashes,
-        quads,
+        keys,
         start,
     )
 }

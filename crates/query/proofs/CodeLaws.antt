@@ -1,4 +1,4 @@
--- What the codes stand for: places of a pattern, and what is known of a variable.
+-- What the codes stand for: the places of names, and what is known of a variable.
 use Prim.Native.Nat.{ℕ, zero, suc, _≤_, _<_}
 use native.Mathlib.Omega.{arith}
 use mathlib.Core.Path.{_≡_, refl, sym, _∙_, ap, subst}
@@ -13,40 +13,11 @@ use Rattle.definitions.specs.Tree.{Name, var, const, Query}
 use Rattle.definitions.specs.Evaluate.{numberOf}
 use Rattle.definitions.specs.Saved.{isBound}
 use Rattle.laws.specs.Sound.{NameBounded}
-use Rattle.query.specs.Seek.{fixed, sought, free, known as placed, placeOf, agrees, pick, nameKnown}
-use Rattle.query.specs.Codes.{soughtCode, freeCode, placeAt, numberAt, bindingsOf, codeOf, Coded}
-
--- no test is both
-pub never : false ≡ true → ⊥
-never e = subst (λ (b : Bool). T (not b)) e tt
-
--- ── places ──────────────────────────────────────────────────────────────────────────────────
-
-module _ (n : ℕ) where
-  pub at-sought : n ≡ soughtCode → placeAt n ≡ sought
-  unfolding placeAt
-  at-sought e = rw (eq-eqb n soughtCode e) refl
-
-  pub at-fixed : n < soughtCode → placeAt n ≡ fixed n
-  unfolding placeAt
-  at-fixed h = rw (ne-eqb n soughtCode (λ e. omega arith), lt-ltb n soughtCode h) refl
-
-  pub at-free : (n ≡ soughtCode → ⊥) → soughtCode ≤ n → placeAt n ≡ free
-  unfolding placeAt
-  at-free d h = rw (ne-eqb n soughtCode d, le-ltb n soughtCode h) refl
-
-  -- what is not sought leaves the other number
-  pub pick-other : (x d : ℕ) → (n ≡ soughtCode → ⊥) → d ≡ pick (placeAt n) x d
-  unfolding placeAt
-  pick-other x d e = rw (ne-eqb n soughtCode e) (go (ltb n soughtCode))
-    where
-      go : (b : Bool) → d ≡ pick (cond b (fixed n) free) x d
-      go true = refl
-      go false = refl
-
-  -- a number that rules the quad out
-  pub miss : (x : ℕ) → n < soughtCode → (n ≡ x → ⊥) → (c : ℕ) → agrees (placeAt n) c x ≡ false
-  miss x h d c = ap (λ p. agrees p c x) (at-fixed h) ∙ ne-eqb x n (λ e. d (sym e))
+use Rattle.scan.specs.Scan.{fixed, sought, free, agrees, pick}
+use Rattle.query.specs.Seek.{known as placed, placeOf, nameKnown}
+use Rattle.scan.proofs.Places.{at-sought, at-fixed, at-free}
+use Rattle.scan.specs.Codes.{soughtCode, freeCode, placeAt}
+use Rattle.query.specs.Codes.{numberAt, bindingsOf, codeOf, Coded}
 
 -- ── names ───────────────────────────────────────────────────────────────────────────────────
 

@@ -30,16 +30,19 @@ use Rattle.laws.specs.Walks.{Walked}
 use Rattle.values.specs.Meaning.{meaning, Good, Gives, Tells, compared, textTest}
 use Rattle.values.specs.Means.{Holds}
 use Rattle.values.specs.declared.Value.{Value}
-use Rattle.query.specs.Seek.{fixed, scan, nameKnown, exprKnown}
-use Rattle.query.specs.Codes.{soughtCode, placeAt, placesAt, numberAt, bindingsOf, codeOf, Coded}
-use Rattle.query.specs.declared.Four.{Four}
+use Rattle.scan.specs.Scan.{fixed, scan}
+use Rattle.query.specs.Seek.{nameKnown, exprKnown}
+use Rattle.scan.specs.Codes.{soughtCode, placeAt, placesAt}
+use Rattle.query.specs.Codes.{numberAt, bindingsOf, codeOf, Coded}
+use Rattle.scan.specs.declared.Four.{Four}
 use borrow.Author.Tests.{ltb-true}
 use Rattle.query.specs.StoreLent.{settingIn}
 use Rattle.query.specs.declared.Context.{Context}
 use Rattle.query.specs.Eval.{Lent, Counts, ValueOf, TruthOf, HoldsOf, NumberGives}
 use Rattle.laws.proofs.NoFault.{ok-is, no-fault, then-ok}
 use Rattle.query.proofs.Patterns.{named-ok, pattern-ok}
-use Rattle.query.proofs.CodeLaws.{at-fixed, code-number}
+use Rattle.scan.proofs.Places.{at-fixed}
+use Rattle.query.proofs.CodeLaws.{code-number}
 use Rattle.query.proofs.FixedScan.{scan-exact}
 
 -- ── a part, and what is made of it ──────────────────────────────────────────────────────────

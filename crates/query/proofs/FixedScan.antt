@@ -8,7 +8,7 @@ use lib.Dec.{T, ltb, nltb→le}
 use borrow.Author.Tests.{le-leb, le-ltb}
 use Rattle.definitions.specs.Evaluate.{Quad, sameQuad, stored}
 use Rattle.laws.proofs.TestEquations.{eqb-swap}
-use Rattle.query.specs.Seek.{fixed, Places, candidate, fits, better, scan}
+use Rattle.scan.specs.Scan.{fixed, Places, candidate, fits, better, scan}
 
 module _ (q : Quad) (lo end : ℕ) (low : lo ≤ end) where
   abbrev four : Places

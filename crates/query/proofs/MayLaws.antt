@@ -28,7 +28,8 @@ use Rattle.laws.proofs.Tests.{trueIs}
 use Rattle.values.specs.Meaning.{meaning, Tells, compared, textTest}
 use Rattle.values.specs.declared.Value.{Value}
 use Rattle.query.specs.Seek.{exprKnown, comesTo, joined, mayTest, may, SureTests}
-use Rattle.query.specs.Codes.{soughtCode, bindingsOf}
+use Rattle.scan.specs.Codes.{soughtCode}
+use Rattle.query.specs.Codes.{bindingsOf}
 use Rattle.query.specs.StoreLent.{settingIn}
 use Rattle.query.specs.declared.Context.{Context}
 use Rattle.query.specs.Eval.{TruthOf, MayOf, Waits, PairOpen}

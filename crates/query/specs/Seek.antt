@@ -4,7 +4,7 @@ use Prim.Native.Nat.{ℕ, zero, suc, _-_, min}
 use mathlib.Core.List.{List, [], _∷_}
 use mathlib.Core.Bool.{Bool, true, false, not, cond, _&&_, _||_}
 use mathlib.Core.Option.{Option, none, some}
-use lib.Dec.{T, eqb, leb, ltb}
+use lib.Dec.{T, eqb, ltb}
 use lib.ListN.{length}
 use Rattle.definitions.specs.Lists.{isIn}
 use Rattle.definitions.specs.Types.{Ty}
@@ -20,18 +20,14 @@ use Rattle.definitions.specs.Saved.{isBound}
 use Rattle.definitions.specs.Sound.{numberHas}
 use Rattle.laws.specs.Outcomes.{Fine, Any}
 use Rattle.laws.specs.ReadAnswers.{isSome}
+use Rattle.scan.specs.Scan.{Place, fixed, sought, free, Places, scan}
 
 -- whether a test holds, a fault being no pass
 abbrev pub passes : Outcome Bool → Bool
 passes (ok b) = b
 passes (fault x) = false
 
--- ── one pattern over the quads ──────────────────────────────────────────────────────────────
-
--- a place of a pattern: of a known number, of the variable sought, of a variable still to choose
-pub data Place : Type 0 where
-  fixed : ℕ → Place
-  sought free : Place
+-- ── the places of a pattern ─────────────────────────────────────────────────────────────────
 
 abbrev pub known : Option ℕ → Place
 known none = free
@@ -41,48 +37,8 @@ abbrev pub placeOf : Bindings → (v : ℕ) → Name → Place
 placeOf γ v (var w) = cond (eqb w v) sought (known (γ w))
 placeOf γ v (const c) = fixed c
 
-pub record Places : Type 0 where
-  pub graph : Place
-  pub subject : Place
-  pub property : Place
-  pub object : Place
-
 abbrev pub placesOf : Bindings → (v : ℕ) → (graph subject property object : Name) → Places
 placesOf γ v g s p o = record { graph = placeOf γ v g; subject = placeOf γ v s; property = placeOf γ v p; object = placeOf γ v o }
-
--- a quad's number x at a place, where the variable sought is c
-abbrev pub agrees : Place → (c x : ℕ) → Bool
-agrees (fixed n) c x = eqb x n
-agrees sought c x = eqb x c
-agrees free c x = true
-
--- the number x at the place sought, or else d
-abbrev pub pick : Place → (x d : ℕ) → ℕ
-pick (fixed n) x d = d
-pick sought x d = x
-pick free x d = d
-
-module _ (P : Places) (lo : ℕ) where
-  -- what a quad gives the variable; the floor, where no place is sought
-  unfoldable pub candidate : Quad → ℕ
-  candidate r = pick (P .graph) (r .graph) (pick (P .subject) (r .subject) (pick (P .property) (r .property) (pick (P .object) (r .object) lo)))
-
-  unfoldable pub fits : Quad → Bool
-  fits r =
-      let c = candidate r in
-      leb lo c
-      && (agrees (P .graph) c (r .graph)
-      && (agrees (P .subject) c (r .subject)
-      && (agrees (P .property) c (r .property)
-      && agrees (P .object) c (r .object))))
-
-  unfoldable pub better : (best : ℕ) → Quad → ℕ
-  better best r = cond (fits r && ltb (candidate r) best) (candidate r) best
-
-  -- the least that a quad gives, below the best so far
-  unfoldable pub scan : (best : ℕ) → List Quad → ℕ
-  scan best [] = best
-  scan best (r ∷ rs) = scan (better best r) rs
 
 -- ── expressions whose variables are all known ───────────────────────────────────────────────
 
@@ -169,6 +125,12 @@ startAt none = zero
 startAt (some []) = zero
 startAt (some (l ∷ ls)) = l
 
+-- a number is the last tuple's own
+abbrev pub isLast : (last : Option Tuple) → ℕ → Bool
+isLast none i = false
+isLast (some []) i = false
+isLast (some (l ∷ ls)) i = eqb i l
+
 abbrev pub restOf : (last : Option Tuple) → ℕ → Option Tuple
 restOf none i = none
 restOf (some []) i = none
@@ -201,6 +163,10 @@ module _ (σ : Setting) (Γ : Typing) (terms : List Term) (quads : List Quad) (q
   unfoldable pub next : Bindings → (v lo : ℕ) → ℕ
   next γ v lo = skip (σ .schema) (Γ v) terms (length terms - least γ v lo) (least γ v lo)
 
+  -- the next number to try: the last tuple's own, which has been sought once, is not sought again
+  unfoldable pub nextAfter : Bindings → (v : ℕ) → (last : Option Tuple) → (lo : ℕ) → ℕ
+  nextAfter γ v last lo = cond (isLast last lo && numberHas (σ .schema) terms lo (Γ v)) lo (next γ v lo)
+
   -- with number i for a variable the query may hold
   abbrev pub mayHold : Bindings → (w i : ℕ) → Bool
   mayHold γ w i = eqb (least (set w i γ) w i) i
@@ -218,7 +184,8 @@ module _ (σ : Setting) (Γ : Typing) (terms : List Term) (quads : List Quad) (q
   find [] γ none = cond (passes (query σ terms quads γ q)) (some []) none
   find [] γ (some l) = none
   find (v ∷ vs) γ last =
-      tries (λ i. cond (hopeful (set v i γ) (ahead (restOf last i) vs)) (find vs (set v i γ) (restOf last i)) none) (next γ v) (length terms) (length terms) (startAt last)
+      tries (λ i. cond (hopeful (set v i γ) (ahead (restOf last i) vs)) (find vs (set v i γ) (restOf last i)) none)
+      (nextAfter γ v last) (length terms) (length terms) (startAt last)
 
   unfoldable pub fastAnswer : Bindings → (variables : List ℕ) → (last : Option Tuple) → Option Tuple
   fastAnswer β vs last = find vs (clear vs β) last

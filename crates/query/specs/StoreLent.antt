@@ -1,7 +1,8 @@
 -- What is lent stands for a store: term table, quads and least types, as the context counts them.
-use Prim.Native.Nat.{ℕ, _*_, _≤_}
+use Prim.Native.Nat.{ℕ, _≤_}
 use mathlib.Core.Path.{_≡_}
 use mathlib.Core.List.{List}
+use mathlib.Core.Bool.{true}
 use mathlib.Core.Option.{some}
 use lib.Dec.{T}
 use lib.ListN.{length}
@@ -11,7 +12,7 @@ use Rattle.definitions.specs.Terms.{Term, Schema, isDateTime}
 use Rattle.definitions.specs.Evaluate.{Setting, Quad}
 use Rattle.definitions.specs.Saved.{termsIn}
 use Rattle.laws.specs.Sorts.{LeastOf}
-use Rattle.laws.specs.Quads.{rowsFrom}
+use Rattle.keys.specs.Keys.{keysFrom, rowsFrom, rising}
 use Rattle.query.specs.declared.Context.{Context}
 
 -- what a tuple is tried under, as the context tells it
@@ -28,12 +29,13 @@ pub record Tabled (table : List ℕ) (x : Context) (terms : List Term) : Type 0 
   pub counted : length terms ≡ x .count
   pub size : length table ≡ termTableWidth
 
--- the quads, by four numbers each
+-- the quads, by a key each
 abbrev pub rowsOf : (quads : List ℕ) → Context → List Quad
 rowsOf quads x = rowsFrom (x .quads) quads 0
 
 pub record Stored (quads : List ℕ) (x : Context) : Type 0 where
-  pub room : 4 * x .quads ≤ length quads
+  pub room : x .quads ≤ length quads
+  pub rises : rising (keysFrom (x .quads) quads 0) ≡ true
 
 -- and the code of each term's least type, under a schema
 pub record StoreLent (table quads leasts : List ℕ) (x : Context) (S : Schema) (terms : List Term) (rows : List Quad) : Type 0 where

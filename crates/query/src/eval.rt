@@ -19,11 +19,9 @@ ghost use Rattle.query.specs.Eval.{Lent, NumberGives, ValueOf, TruthOf, 
 use crate::Context;
 use crate::Held;
 use crate::Judged;
-use crate::SOUGHT;
 use crate::Valued;
 use crate::names::name_at;
 use crate::names::names_at;
-use crate::scan::scan;
 use definitions::LANG_MATCHES_TEXT_OFFSET;
 use definitions::REGEX_TEXT_OFFSET;
 use definitions::SLOT_WIDTH;
@@ -31,6 +29,8 @@ use definitions::Truth;
 use definitions::VARIABLE_LIMIT;
 use ends::after;
 use fields::numbers;
+use scan::SOUGHT;
+use scan::least;
 use truth::and_of;
 use truth::is_true;
 use truth::not_of;
@@ -296,7 +296,7 @@ pub fn eval_query(
     left: u8,
     table: &[u8],
     known: &[usize],
-    quads: &[u16],
+    quads: &[u64],
 ) -> Held
     requires { ⌜ Loads (readQuery (now script) (context .loaded) left at) ⌝ }
     requires { ⌜ Lent (now table) (now known) context ⌝ }
@@ -312,10 +312,10 @@ pub fn eval_query(
     match kind {
         0x61 => {
             let names = names_at(script, context.loaded, first, below, known, VARIABLE_LIMIT);
-            let least = scan(quads, context.quads, names.codes, 0, 1);
+            let found = least(quads, context.quads, names.codes, 0, 1);
             Held {
                 next: names.next,
-                holds: least == 0,
+                holds: found == 0,
                 records: 1,
             }
         }

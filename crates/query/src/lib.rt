@@ -2,15 +2,10 @@
 pub mod eval;
 pub mod may; // may.rt: what a boolean may come to
 pub mod names;
-pub mod scan;
 
 use definitions::Truth;
+use scan::Four;
 use values::Value;
-
-// Codes of a pattern's places: a number below SOUGHT is a term's.
-pub const SOUGHT: usize = 65536;
-
-pub const FREE: usize = 65537;
 
 // What a search is told: how many terms loading numbers, how many are in use, how many quads are stored, and now in two's complement.
 pub struct Context {
@@ -18,14 +13,6 @@ pub struct Context {
     pub count: usize,
     pub quads: usize,
     pub clock: u64,
-}
-
-// Four numbers: a quad's, or the codes of a pattern's places.
-pub struct Four {
-    pub graph: usize,
-    pub subject: usize,
-    pub property: usize,
-    pub object: usize,
 }
 
 // A name read from the script: the offset after it, and its code.

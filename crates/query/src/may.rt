@@ -8,7 +8,6 @@ ghost use Rattle.laws.specs.Ends.{EndsLent};
 ghost use Rattle.laws.specs.Walks.{Loads, Walked};
 ghost use Rattle.query.specs.Eval.{Lent, MayOf, Waits, PairLoads, PairOpen};
 use crate::Context;
-use crate::SOUGHT;
 use crate::Test;
 use crate::eval::eval_expr;
 use crate::names::name_at;
@@ -16,6 +15,7 @@ use definitions::LANG_MATCHES_TEXT_OFFSET;
 use definitions::REGEX_TEXT_OFFSET;
 use definitions::VARIABLE_LIMIT;
 use ends::after;
+use scan::SOUGHT;
 use truth::comes_to;
 
 // Whether the expression at an offset is a variable that is not known.

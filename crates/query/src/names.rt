@@ -9,13 +9,14 @@ ghost use Rattle.laws.specs.Walks.{Walked};
 ghost use Rattle.laws.specs.Sound.{NameBounded};
 ghost use Rattle.query.specs.Codes.{codeOf, Coded};
 ghost use Rattle.definitions.specs.Limits.{variableLimit};
-use crate::FREE;
-use crate::Four;
+ghost use Rattle.scan.specs.Codes.{soughtCode};
 use crate::NameRead;
 use crate::NamesRead;
-use crate::SOUGHT;
 use definitions::VARIABLE_LIMIT;
 use fields::numbers;
+use scan::FREE;
+use scan::Four;
+use scan::SOUGHT;
 
 // What is known of a variable, as the code of its place; where v is the variable sought.
 fn variable_code(known: &[usize], v: usize, w: usize) -> usize
@@ -43,7 +44,7 @@ pub fn name_at(
 ) -> NameRead
     requires { ⌜ Loads (readName (now script) loaded left at) ⌝ }
     requires { ⌜ length (now known) ≡ variableLimit ⌝ }
-    ensures { λ r. ⌜ Walked (λ n. (r .code ≡ codeOf (now (known .entry)) v n) × NameBounded 65536 n) (readName (now (script .entry)) loaded left at) (r .next) ⌝ }
+    ensures { λ r. ⌜ Walked (λ n. (r .code ≡ codeOf (now (known .entry)) v n) × NameBounded soughtCode n) (readName (now (script .entry)) loaded left at) (r .next) ⌝ }
 {
     let kind = script[at];
     let first = at + 1;

@@ -12,7 +12,7 @@ use Rattle.definitions.specs.Terms.{Term, Schema, Triple, datatypeIn, sortOf, h
 use Rattle.definitions.specs.Tree.{Script}
 use Rattle.definitions.specs.Typing.{typeAt}
 use Rattle.definitions.specs.Evaluate.{Bindings, Quad, sameQuad}
-use Rattle.definitions.specs.Machine.{Item, State, Taken, withQuad, store, takeAll, joined, ofGraph, taken, withPage, inLimits}
+use Rattle.definitions.specs.Machine.{Item, State, Taken, inOrder, withQuad, store, takeAll, joined, ofGraph, taken, withPage, inLimits}
 use Rattle.definitions.specs.Result.{passed}
 use Rattle.definitions.specs.Calls.{Checked, isGraph, PageTaken, pageTaken, takeIn}
 use Rattle.laws.specs.Lists.{All}
@@ -22,7 +22,8 @@ use Rattle.laws.proofs.Sorts.{uri-has, of-uri}
 use Rattle.laws.specs.Bindings.{Extends, HoldsURI}
 use Rattle.laws.proofs.Bindings.{holds-more}
 use Rattle.laws.proofs.TermNumbers.{extends-length}
-use Rattle.laws.proofs.Taking.{stored-one, well-typed, with-quad-apart, with-quad-all, joined-has, joined-keeps, joined-apart, joined-all, take-all}
+use Rattle.laws.proofs.QuadOrder.{in-order-keep, with-quad-all, with-quad-order}
+use Rattle.laws.proofs.Taking.{stored-one, well-typed, joined-has, joined-keeps, joined-apart, joined-all, take-all}
 use Rattle.laws.proofs.PageCheck.{page-passed}
 use Rattle.laws.specs.Sound.{Accepted, Sound}
 use Rattle.laws.specs.Quads.{QuadFacts}
@@ -58,7 +59,7 @@ module _ (S : Schema) (g : ℕ) (start : List Term) (fetched : List ℕ) (isFetc
   record TakenFacts (k : Taken) : Type 0 where
     extends : Extends start (k .terms)
     termsApart : T (distinct sameTerm (k .terms))
-    quadsApart : T (distinct sameQuad (k .quads))
+    quadsInOrder : T (inOrder (k .quads))
     quads : All (QuadFacts S (k .terms) fetched) (k .quads)
 
   store-facts : (r : Triple) (k : Taken) → (d : Datatype) → datatypeIn S (r .property) ≡ some d → T (hasType S (r .object) (plain d))
@@ -87,7 +88,7 @@ module _ (S : Schema) (g : ℕ) (start : List Term) (fetched : List ℕ) (isFetc
       record {
         extends = more;
         termsApart = x .apart (h .termsApart);
-        quadsApart = with-quad-apart q (k .quads) (h .quadsApart);
+        quadsInOrder = with-quad-order q (k .quads) (h .quadsInOrder);
         quads = with-quad-all (QuadFacts S terms fetched) q (k .quads) old new;
       } in
       rw (x .is) holds
@@ -95,7 +96,7 @@ module _ (S : Schema) (g : ℕ) (start : List Term) (fetched : List ℕ) (isFetc
   all-facts : (page : List Triple) (k : Taken) → TakenFacts k → TakenFacts (takeAll S g page k)
   all-facts page k h =
       take-all S g TakenFacts page (λ r k m t h. let w = well-typed S r t in store-facts r k (w .0) (w .1) (w .2) h)
-      (λ k h. record { extends = h .extends; termsApart = h .termsApart; quadsApart = h .quadsApart; quads = h .quads }) k h
+      (λ k h. record { extends = h .extends; termsApart = h .termsApart; quadsInOrder = h .quadsInOrder; quads = h .quads }) k h
 
 -- ── the call ────────────────────────────────────────────────────────────────────────────────
 
@@ -122,7 +123,7 @@ module _ (c : Checked) (accepted : Accepted c) (g : ℕ) (triples : List Triple)
       (record {
         extends = λ i t e. e;
         termsApart = h .termsApart;
-        quadsApart = distinct-keep sameQuad same-quad quad-refl (λ q. not (ofGraph g q)) (s .store .quads) (h .quadsApart);
+        quadsInOrder = in-order-keep (λ q. not (ofGraph g q)) (s .store .quads) (h .quadsInOrder);
         quads = all-keep (QuadFacts S old fetched) (λ q. not (ofGraph g q)) (s .store .quads)
             (all-weaken (QuadFacts S old (s .store .fetched)) (QuadFacts S old fetched)
             (quad-more S old old (λ i t e. e) (s .store .fetched) fetched (joined-keeps g (s .store .fetched))) (s .store .quads) (h .quads));
@@ -134,7 +135,7 @@ module _ (c : Checked) (accepted : Accepted c) (g : ℕ) (triples : List Triple)
       record {
         termsApart = end .termsApart;
         extends = λ i t e. more i t (h .extends i t e);
-        quadsApart = end .quadsApart;
+        quadsInOrder = end .quadsInOrder;
         quads = end .quads;
         fetchedApart = joined-apart g (s .store .fetched) (h .fetchedApart);
         fetched = joined-all g (s .store .fetched) (HoldsURI S new) graphs (uri-more g graph);

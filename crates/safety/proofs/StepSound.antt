@@ -80,7 +80,7 @@ module _ (c : Checked) (accepted : Accepted c) where
       record {
         termsApart = h .termsApart;
         extends = h .extends;
-        quadsApart = h .quadsApart;
+        quadsInOrder = h .quadsInOrder;
         quads = h .quads;
         fetchedApart = h .fetchedApart;
         fetched = h .fetched;
@@ -110,7 +110,7 @@ module _ (c : Checked) (accepted : Accepted c) where
         record {
           termsApart = h .termsApart;
           extends = h .extends;
-          quadsApart = h .quadsApart;
+          quadsInOrder = h .quadsInOrder;
           quads = h .quads;
           fetchedApart = h .fetchedApart;
           fetched = h .fetched;

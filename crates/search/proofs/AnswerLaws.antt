@@ -12,7 +12,8 @@ use Rattle.definitions.specs.Lists.{isIn}
 use Rattle.definitions.specs.Outcome.{ok}
 use Rattle.definitions.specs.Evaluate.{Bindings}
 use Rattle.query.specs.Seek.{clear, find, fastAnswer}
-use Rattle.query.specs.Codes.{freeCode, numberAt, bindingsOf}
+use Rattle.scan.specs.Codes.{freeCode}
+use Rattle.query.specs.Codes.{numberAt, bindingsOf}
 use Rattle.query.specs.declared.Context.{Context}
 use Rattle.query.specs.StoreLent.{settingIn}
 use Rattle.search.specs.Ready.{Ready}

@@ -4,7 +4,7 @@ use native.Mathlib.Omega.{arith}
 use mathlib.Core.Path.{_≡_, refl, sym, _∙_, ap, subst, subst⁻¹, fun-ext}
 use mathlib.Core.List.{List, [], _∷_}
 use mathlib.Core.Logic.{⊎-elim}
-use mathlib.Core.Bool.{Bool, true, false, cond, not, _||_}
+use mathlib.Core.Bool.{Bool, true, false, cond, not, _&&_, _||_}
 use mathlib.Core.Option.{Option, none, some}
 use lib.Dec.{T, eqb, eqb→eq, eqb-refl, T-not}
 use lib.ListN.{length}
@@ -15,11 +15,12 @@ use Rattle.definitions.specs.Outcome.{ok}
 use Rattle.definitions.specs.Values.{before}
 use Rattle.definitions.specs.Evaluate.{Setting, Bindings, Quad, query}
 use Rattle.definitions.specs.Search.{Typing, Tuple, earlier, bind, answer}
+use Rattle.definitions.specs.Sound.{numberHas}
 use Rattle.laws.proofs.Tests.{andLeft, andRight, andMake, orLeft, orRight, orCases, by-test, isTrue, isFalse}
 use Rattle.laws.proofs.Options.{some-not-none}
 use Rattle.laws.specs.Bindings.{Holds, Fits}
 use Rattle.laws.proofs.Bindings.{test-holds, holds-test, is-below}
-use Rattle.query.specs.Seek.{passes, seek, set, clear, startAt, restOf, ahead, next, mayHold, hopeAt, hopeful, find, fastAnswer}
+use Rattle.query.specs.Seek.{passes, seek, set, clear, startAt, isLast, restOf, ahead, next, nextAfter, mayHold, hopeAt, hopeful, find, fastAnswer}
 use Rattle.search.specs.Ready.{Ready}
 use Rattle.search.proofs.TupleOrder.{isAfter}
 use Rattle.search.proofs.FirstTuple.{First, first-map, Good as GoodAnswer, answer-first}
@@ -140,6 +141,27 @@ module _ (σ : Setting) (Γ : Typing) (terms : List Term) (quads : List Quad) (q
     unfolding next
     next-holds lo h = test-holds (σ .schema) terms (Γ v) _ (skip-typed (σ .schema) (Γ v) terms (length terms - least γ v lo) (least γ v lo) (omega arith) h)
 
+    module _ (last : Option Tuple) where
+      abbrev isOwn : ℕ → Bool
+      isOwn lo = isLast last lo && numberHas (σ .schema) terms lo (Γ v)
+
+      abbrev stepAfter : ℕ → ℕ
+      stepAfter lo = nextAfter σ Γ terms quads q γ v last lo
+
+      pub after-floor : (lo : ℕ) → stepAfter lo < length terms → lo ≤ stepAfter lo
+      unfolding nextAfter
+      after-floor lo = by-test (λ i. i < length terms → lo ≤ i) (isOwn lo) lo (step lo) (λ t h. omega arith) (λ t. next-floor lo)
+
+      pub after-holds : (lo : ℕ) → stepAfter lo < length terms → Holds (σ .schema) terms (stepAfter lo) (Γ v)
+      unfolding nextAfter
+      after-holds lo =
+          by-test (λ i. i < length terms → Holds (σ .schema) terms i (Γ v)) (isOwn lo) lo (step lo)
+          (λ t h. test-holds (σ .schema) terms (Γ v) lo (andRight (isLast last lo) (numberHas (σ .schema) terms lo (Γ v)) t)) (λ t. next-holds lo)
+
+      after-to : (lo j : ℕ) → lo ≤ j → step lo ≤ j → stepAfter lo ≤ j
+      unfolding nextAfter
+      after-to lo j h k = by-test (λ i. i ≤ j) (isOwn lo) lo (step lo) (λ t. h) (λ t. k)
+
   -- where the query holds, a variable's number is not passed over, and with it the query may hold
   module _ (γ δ : Bindings) (u : Under γ δ) (p : T (holds δ)) where
     module _ (w j : ℕ) (is : δ w ≡ some j) (typed : Holds (σ .schema) terms j (Γ w)) where
@@ -192,8 +214,9 @@ module _ (σ : Setting) (Γ : Typing) (terms : List Term) (quads : List Quad) (q
     widen : (i : ℕ) → Holds (σ .schema) terms i (Γ v) → startAt last ≤ i → (t : Tuple) → Good vs (set v i γ) (restOf last i) t → Good (v ∷ vs) γ last (i ∷ t)
     widen i h l t g = ((h, g .0), after-both last i t l (g .1), subst⁻¹ (λ δ. T (holds δ)) (later i t) (g .2))
 
-    next-reaches : (lo j : ℕ) (t : Tuple) → lo ≤ j → Good (v ∷ vs) γ last (j ∷ t) → step γ v lo ≤ j
-    next-reaches lo j t l g = next-to γ (bind (v ∷ vs) (j ∷ t) γ) (under-bind (v ∷ vs) (j ∷ t) γ c) (g .2) v j (bound-here j t) (g .0 .0) lo l
+    next-reaches : (lo j : ℕ) (t : Tuple) → lo ≤ j → Good (v ∷ vs) γ last (j ∷ t) → stepAfter γ v last lo ≤ j
+    next-reaches lo j t l g =
+        after-to γ v last lo j l (next-to γ (bind (v ∷ vs) (j ∷ t) γ) (under-bind (v ∷ vs) (j ∷ t) γ c) (g .2) v j (bound-here j t) (g .0 .0) lo l)
 
     abbrev asked : ℕ → List ℕ
     asked i = ahead (restOf last i) vs
@@ -226,17 +249,17 @@ module _ (σ : Setting) (Γ : Typing) (terms : List Term) (quads : List Quad) (q
       out (a ∷ s) [] g = g .1
       out l (i ∷ t) g = g .0
   find-first (v ∷ vs) o γ c last =
-      tries-first (Good (v ∷ vs) γ last) body (step γ v) (length terms) (startAt last)
+      tries-first (Good (v ∷ vs) γ last) body (stepAfter γ v last) (length terms) (startAt last)
       (λ g. g .0)
       (λ j t g. is-below terms j (g .0 .0 .term) (g .0 .0 .there))
-      (next-floor γ v)
+      (after-floor γ v last)
       (next-reaches v vs (o .0) γ c last)
       (λ lo l b.
-      let i = step γ v lo in
+      let i = stepAfter γ v last lo in
       by-test (First (λ t. Good (v ∷ vs) γ last (i ∷ t))) (hope i) (rest i) none
       (λ k.
       first-map (Good vs (set v i γ) (restOf last i)) (λ t. Good (v ∷ vs) γ last (i ∷ t))
-      (widen v vs (o .0) γ c last i (next-holds γ v lo b) l) (narrow v vs (o .0) γ c last i)
+      (widen v vs (o .0) γ c last i (after-holds γ v last lo b) l) (narrow v vs (o .0) γ c last i)
       (rest i) (find-first vs (o .1) (set v i γ) (cleared-set v i vs γ (o .0) c) (restOf last i)))
       (no-hope v vs (o .0) γ c last i))
       (length terms) (omega arith) (λ j t g. after-start last j t (g .1))

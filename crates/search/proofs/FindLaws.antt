@@ -6,7 +6,7 @@ use mathlib.Core.Logic.{⊎-elim}
 use mathlib.Core.List.{List, [], _∷_}
 use mathlib.Core.Bool.{Bool, true, false, cond, _&&_}
 use mathlib.Core.Option.{Option, none, some}
-use lib.Dec.{T, eqb, ltb, eqb→eq}
+use lib.Dec.{T, eqb, eqb→eq}
 use lib.ListN.{length, getD, set}
 use lib.Seq.{getD-set-same, getD-set-other}
 use borrow.Author.Tests.{lt-ltb, eq-eqb, ne-eqb}
@@ -15,28 +15,31 @@ use Rattle.definitions.specs.Tree.{Query}
 use Rattle.definitions.specs.Reading.{readQuery}
 use Rattle.definitions.specs.Evaluate.{Bindings, Quad, query}
 use Rattle.definitions.specs.Search.{Tuple}
+use Rattle.definitions.specs.Sound.{numberHas}
+use Rattle.codes.specs.TypeCodes.{codeLeq}
 use Rattle.laws.proofs.Ranges.{split}
 use Rattle.laws.proofs.Reading.{same-read}
 use Rattle.laws.specs.Walks.{Loads, Walked}
 use Rattle.laws.proofs.NoFault.{fine-ok}
 use Rattle.laws.specs.Bindings.{Holds}
 use Rattle.laws.specs.ReadAnswers.{isSome}
-use Rattle.query.specs.Seek.{passes, seek, skip, set as bindTo, restOf, tries, ahead, next, mayHold, hopeAt, hopeful, find}
-use Rattle.query.specs.Codes.{soughtCode, freeCode, numberAt, bindingsOf}
+use Rattle.query.specs.Seek.{passes, seek, skip, set as bindTo, isLast, restOf, tries, ahead, next, nextAfter, mayHold, hopeAt, hopeful, find}
+use Rattle.scan.specs.Codes.{soughtCode, freeCode}
+use Rattle.query.specs.Codes.{numberAt, bindingsOf}
 use Rattle.query.specs.declared.Context.{Context}
 use Rattle.query.specs.StoreLent.{settingIn, rowsOf}
 use Rattle.query.specs.Eval.{Lent, HoldsOf}
 use Rattle.search.specs.Seeking.{SeekOf}
 use Rattle.search.specs.Ready.{Ready}
-use Rattle.search.specs.Finding.{numbersFrom, tupleOf, lastOf, skipTypes, World, later, setting, ReadyFor, NextOf, HopeAt, hopeFrom, HopeOf, findFrom, FindOf}
+use Rattle.search.specs.Finding.{numbersFrom, tupleOf, lastOf, skipTypes, World, later, setting, ReadyFor, NextOf, NextAfter, HopeAt, hopeFrom, HopeOf, findFrom, FindOf}
 use Rattle.search.specs.declared.Block.{Block}
 use Rattle.search.specs.declared.Found.{Found}
 use Rattle.query.proofs.Outcomes.{ok-passes}
 use Rattle.query.proofs.TermLaws.{few}
-use Rattle.search.proofs.TypeLaws.{skip-is, skip-low}
+use Rattle.search.proofs.TypeLaws.{has-code, skip-is, skip-low}
 use Rattle.search.proofs.ReadyLaws.{ready-sure, ready-fine, ready-set, ready-more}
-use Rattle.search.proofs.FastAnswer.{next-floor, next-holds}
-use Rattle.search.proofs.LevelLaws.{level-past, level-none, level-found, level-on, numbers-none, numbers-more, start-of, rest-of, ahead-of, tuple-set}
+use Rattle.search.proofs.FastAnswer.{next-floor, next-holds, after-floor, after-holds}
+use Rattle.search.proofs.LevelLaws.{level-past, level-none, level-found, level-on, numbers-none, numbers-more, start-of, last-of, rest-of, ahead-of, tuple-set}
 
 -- ── one more variable known ─────────────────────────────────────────────────────────────────
 
@@ -100,6 +103,9 @@ module _ {script table quads leasts : List ℕ} {x : Context} {block : Block} (w
     module _ (k : ℕ) (below : k < size) where
       abbrev v : ℕ
       v = getD vars k 0
+
+      coded : (i : ℕ) → i < x .count → codeLeq (getD leasts i 0) (getD (block .types) k 0) ≡ numberHas (w .schema) (w .terms) i (w .typing v)
+      coded i h = has-code (w .schema) (w .terms) leasts (w .lent .leastOf) (getD (block .types) k 0) (w .typing v) (w .types k below) i (omega (arith, counted))
 
       skipped : (i : ℕ) → skipTypes leasts (getD (block .types) k 0) (x .count - i) i ≡ skip (w .schema) (w .typing v) (w .terms) (length (w .terms) - i) i
       unfolding skipTypes skip
@@ -175,29 +181,46 @@ module _ {script table quads leasts : List ℕ} {x : Context} {block : Block} (w
           let δ = bindTo (getD vars k 0) i γ in
           cond (hopeful (setting w) (w .typing) (w .terms) (w .rows) (w .tree) δ (ahead (restOf lastHere i) rest)) (findAt rest δ (restOf lastHere i)) none
 
+      abbrev stepAt : ℕ → ℕ
+      stepAt lo = nextAfter (setting w) (w .typing) (w .terms) (w .rows) (w .tree) γ (getD vars k 0) lastHere lo
+
       abbrev level : ℕ → Option Tuple
-      level lo = tries body (nextAt (getD vars k 0)) (length (w .terms)) (length (w .terms)) lo
+      level lo = tries body stepAt (length (w .terms)) (length (w .terms)) lo
 
       -- the level from lo on gives the result
       abbrev pub SoFar : ℕ → Type 0
       SoFar lo = ReadyFor w known (later block k) → findFrom w known k tight ≡ level lo
 
       module _ (below : k < size) where
+        -- ── the next number, after the last tuple ───────────────────────────────────────────────
+
+        module _ (lo : ℕ) (h : lo < x .count) {t : Bool} (et : t ≡ codeLeq (getD leasts lo 0) (getD (block .types) k 0)) where
+          chosen : isLast lastHere lo && numberHas (w .schema) (w .terms) lo (w .typing (getD vars k 0)) ≡ (tight && eqb lo (getD (block .last) k 0)) && t
+          chosen = ap₂ (λ (a b : Bool). a && b) (last-of tight (block .last) size k below lo) (sym (et ∙ coded k below lo h))
+
+          pub after-own : (tight && eqb lo (getD (block .last) k 0)) && t ≡ true → NextAfter w known k tight lo lo
+          unfolding nextAfter settingIn
+          after-own o = (omega arith, λ vs r. sym (ap (λ (b : Bool). cond b lo (nextAt (getD vars k 0) lo)) (chosen ∙ o)))
+
+          pub after-sought : (tight && eqb lo (getD (block .last) k 0)) && t ≡ false → {r : ℕ} → NextOf w known k lo r → NextAfter w known k tight lo r
+          unfolding nextAfter settingIn
+          after-sought o n = (n .0, λ vs r. n .1 vs r ∙ sym (ap (λ (b : Bool). cond b lo (nextAt (getD vars k 0) lo)) (chosen ∙ o)))
+
         pub level-enter : (lo : ℕ) → lo ≡ cond tight (getD (block .last) k 0) 0 → SoFar lo
         unfolding find
         level-enter lo e r = rw (numbers-more vars size k below) (ap level (start-of tight (block .last) size k below ∙ sym e))
 
         module _ (lo : ℕ) (so-far : SoFar lo) (t : List ℕ) where
-          floor : (lo : ℕ) → nextAt (getD vars k 0) lo < length (w .terms) → lo ≤ nextAt (getD vars k 0) lo
-          floor lo h = next-floor (setting w) (w .typing) (w .terms) (w .rows) (w .tree) γ (getD vars k 0) lo h
+          floor : (lo : ℕ) → stepAt lo < length (w .terms) → lo ≤ stepAt lo
+          floor lo h = after-floor (setting w) (w .typing) (w .terms) (w .rows) (w .tree) γ (getD vars k 0) lastHere lo h
 
           pub find-past : x .count ≤ lo → FindOf w known k tight (record { found = false; tuple = t })
-          find-past h r = level-past body (nextAt (getD vars k 0)) (length (w .terms)) floor lo (findFrom w known k tight) (so-far r) (omega (arith, counted))
+          find-past h r = level-past body stepAt (length (w .terms)) floor lo (findFrom w known k tight) (so-far r) (omega (arith, counted))
 
-          module _ (i : ℕ) (ei : NextOf w known k lo i) where
+          module _ (i : ℕ) (ei : NextAfter w known k tight lo i) where
             pub find-none : x .count ≤ i → FindOf w known k tight (record { found = false; tuple = t })
             find-none h r =
-                level-none body (nextAt (getD vars k 0)) (length (w .terms)) floor lo (findFrom w known k tight) (so-far r) i (ei .1 (later block k) r) (omega (arith, counted))
+                level-none body stepAt (length (w .terms)) floor lo (findFrom w known k tight) (so-far r) i (ei .1 (later block k) r) (omega (arith, counted))
 
             module _ (small : i < x .count) (inside : getD vars k 0 < length known) where
               abbrev with : List ℕ
@@ -213,7 +236,7 @@ module _ {script table quads leasts : List ℕ} {x : Context} {block : Block} (w
               unfolding settingIn
               ready-rest r =
                   let r₁ : ReadyFor w known (getD vars k 0 ∷ rest) = subst (ReadyFor w known) (numbers-more vars size k below) r in
-                  let h = next-holds (setting w) (w .typing) (w .terms) (w .rows) (w .tree) γ (getD vars k 0) lo
+                  let h = after-holds (setting w) (w .typing) (w .terms) (w .rows) (w .tree) γ (getD vars k 0) lastHere lo
                   (subst (λ x. x < length (w .terms)) (ei .1 (later block k) r) (omega (arith, counted))) in
                   subst⁻¹ (λ (δ : Bindings). Ready (w .schema) (w .typing) (w .terms) δ rest (w .tree)) with-is
                   (ready-set (w .schema) (w .typing) (w .terms) γ (w .tree) (getD vars k 0) i rest r₁
@@ -221,7 +244,7 @@ module _ {script table quads leasts : List ℕ} {x : Context} {block : Block} (w
 
               turn : ReadyFor w known (later block k) → body i ≡ none → findFrom w known k tight ≡ level (i + 1)
               turn r b =
-                  level-on body (nextAt (getD vars k 0)) (length (w .terms)) floor lo (findFrom w known k tight) (so-far r) i (ei .1 (later block k) r) (omega (arith, counted)) b
+                  level-on body stepAt (length (w .terms)) floor lo (findFrom w known k tight) (so-far r) i (ei .1 (later block k) r) (omega (arith, counted)) b
 
               -- where the numbers so far are the last tuple's, no variable is asked
               module _ (still : Bool) (es : still ≡ tight && eqb i (getD (block .last) k 0)) (from : ℕ) (ea : from ≡ cond still size (k + 2))
@@ -248,7 +271,7 @@ module _ {script table quads leasts : List ℕ} {x : Context} {block : Block} (w
                   pub find-hit : y .found ≡ true → k < length (y .tuple) → FindOf w known k tight (record { found = true; tuple = set (y .tuple) k i })
                   find-hit g h r =
                       ap some (tuple-set y size k i below h)
-                      ∙ level-found body (nextAt (getD vars k 0)) (length (w .terms)) floor lo (findFrom w known k tight) (so-far r) i (ei .1 (later block k) r) (omega (arith, counted))
+                      ∙ level-found body stepAt (length (w .terms)) floor lo (findFrom w known k tight) (so-far r) i (ei .1 (later block k) r) (omega (arith, counted))
                       (numbersFrom (size - (k + 1)) (y .tuple) (k + 1)) (rest-is r ∙ rw g refl)
 
   -- ── a variable that still has a number ──────────────────────────────────────────────────────

@@ -11,7 +11,7 @@ use lib.ListN.{length, getD, set}
 use lib.Seq.{getD-set-same, getD-set-other}
 use borrow.Author.Tests.{lt-ltb, le-ltb}
 use Rattle.definitions.specs.Search.{Tuple}
-use Rattle.query.specs.Seek.{startAt, restOf, found, tries, but, ahead}
+use Rattle.query.specs.Seek.{startAt, isLast, restOf, found, tries, but, ahead}
 use Rattle.search.specs.Finding.{numbersFrom, lastOf}
 use Rattle.search.specs.declared.Found.{Found}
 
@@ -105,6 +105,13 @@ module _ (tight : Bool) (last : List ℕ) (size k : ℕ) (h : k < size) where
   start-of = go tight
     where
       go : (t : Bool) → startAt (lastOf t last k (size - k)) ≡ cond t (getD last k 0) 0
+      go true = rw (numbers-more last size k h) refl
+      go false = refl
+
+  pub last-of : (i : ℕ) → isLast (lastOf tight last k (size - k)) i ≡ tight && eqb i (getD last k 0)
+  last-of i = go tight
+    where
+      go : (t : Bool) → isLast (lastOf t last k (size - k)) i ≡ t && eqb i (getD last k 0)
       go true = rw (numbers-more last size k h) refl
       go false = refl
 

@@ -13,12 +13,13 @@ use Rattle.definitions.specs.Outcome.{Outcome, ok, fault, _>>=_}
 use Rattle.definitions.specs.Evaluate.{Setting, Bindings, Quad, stored, numberOf, condition, query}
 use Rattle.definitions.specs.Truth.{isTrue}
 use Rattle.laws.proofs.Tests.{andLeft, andRight, by-test, trueIs}
-use Rattle.query.specs.Seek.{passes, sought, known, placeOf, placesOf, comesTo, may, seek}
+use Rattle.scan.specs.Scan.{sought}
+use Rattle.query.specs.Seek.{passes, known, placeOf, placesOf, comesTo, may, seek}
 use Rattle.definitions.specs.Evaluated.{gives}
 use Rattle.definitions.specs.declared.Truth.{Truth}
 use Rattle.query.proofs.Outcomes.{passes-ok}
 use Rattle.query.proofs.Patterns.{pattern-ok}
-use Rattle.query.proofs.ScanLaws.{Meets, Matches, row-top, row-fits, scan-top, scan-floor, scan-here}
+use Rattle.scan.proofs.ScanLaws.{Meets, Matches, row-top, row-fits, scan-top, scan-floor, scan-here}
 use Rattle.search.proofs.Filters.{Under, may-come}
 
 -- ── a name's place ──────────────────────────────────────────────────────────────────────────

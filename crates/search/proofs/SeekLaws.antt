@@ -8,20 +8,22 @@ use mathlib.Core.Option.{some}
 use lib.Dec.{eqb, eqb→eq, leb, leb→le}
 use lib.ListN.{length}
 use Rattle.laws.proofs.Tests.{andLeft, andRight, trueIs}
-use Rattle.definitions.specs.Terms.{Term, Schema}
+use Rattle.definitions.specs.Terms.{Term}
 use Rattle.definitions.specs.Tree.{Cond, Query}
 use Rattle.definitions.specs.Evaluate.{Quad}
 use Rattle.definitions.specs.Saved.{termsIn}
 use Rattle.laws.proofs.Options.{same-some}
-use Rattle.query.specs.Seek.{placesOf, scan, may, seek}
-use Rattle.query.specs.Codes.{placesAt, bindingsOf, Coded}
+use Rattle.scan.specs.Scan.{scan}
+use Rattle.query.specs.Seek.{placesOf, may, seek}
+use Rattle.scan.specs.Codes.{placesAt}
+use Rattle.query.specs.Codes.{bindingsOf, Coded}
 use Rattle.query.specs.declared.Context.{Context}
 use Rattle.query.specs.StoreLent.{settingIn}
 use Rattle.query.specs.Eval.{Lent, MayOf}
 use Rattle.search.specs.Seeking.{SeekOf}
-use Rattle.query.specs.declared.Four.{Four}
+use Rattle.scan.specs.declared.Four.{Four}
 use Rattle.query.proofs.CodeLaws.{code-place}
-use Rattle.query.proofs.ScanLaws.{scan-floor}
+use Rattle.scan.proofs.ScanLaws.{scan-floor}
 use Rattle.search.proofs.Reaches.{seek-floor, seek-end}
 
 module _ (table known : List ℕ) (x : Context) (l : Lent table known x) (rows : List Quad) (v : ℕ) where

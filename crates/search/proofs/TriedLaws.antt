@@ -4,13 +4,12 @@ use native.Mathlib.Omega.{arith}
 use mathlib.Core.Path.{_≡_, refl, sym, _∙_, ap, ap₂, subst, subst⁻¹, fun-ext}
 use mathlib.Core.List.{List, [], _∷_}
 use mathlib.Core.Bool.{Bool, true, false, not, _&&_, true≢false}
-use mathlib.Core.Option.{none, some}
+use mathlib.Core.Option.{none}
 use lib.Dec.{T, eqb}
 use lib.ListN.{length, getD, set, getElem?}
-use Rattle.definitions.specs.Lists.{every, distinct, isIn}
+use Rattle.definitions.specs.Lists.{every, distinct}
 use Rattle.definitions.specs.Terms.{Term}
 use Rattle.definitions.specs.Evaluate.{Bindings, Quad, query}
-use Rattle.definitions.specs.Evaluated.{queryRecords}
 use Rattle.definitions.specs.Search.{bind}
 use Rattle.definitions.specs.Sound.{numberHas}
 use Rattle.definitions.specs.Reading.{readQuery}
@@ -20,7 +19,7 @@ use Rattle.laws.specs.Bindings.{Holds}
 use Rattle.laws.proofs.Bindings.{test-holds}
 use Rattle.laws.proofs.NoFault.{fine-ok}
 use Rattle.laws.proofs.Reading.{same-read}
-use Rattle.laws.proofs.Tests.{andLeft, andRight, trueIs}
+use Rattle.laws.proofs.Tests.{andRight, trueIs}
 use Rattle.query.specs.Seek.{set as bindTo}
 use Rattle.query.specs.Codes.{bindingsOf}
 use Rattle.query.specs.declared.Context.{Context}
@@ -29,7 +28,7 @@ use Rattle.query.specs.Eval.{HoldsOf}
 use Rattle.query.proofs.TermLaws.{few}
 use Rattle.codes.specs.TypeCodes.{codeLeq}
 use Rattle.search.specs.Ready.{Ready}
-use Rattle.search.specs.Finding.{numbersFrom, World, later, setting, ReadyFor}
+use Rattle.search.specs.Finding.{World, later, setting, ReadyFor}
 use Rattle.search.specs.Trying.{tupleFits, numbersAt, TriedOf}
 use Rattle.search.specs.declared.Block.{Block}
 use Rattle.search.specs.declared.Tried.{Tried}

@@ -2,9 +2,9 @@
 use Prim.Native.Nat.{ℕ, zero, suc, _+_, _-_, _≤_, _<_, min}
 use mathlib.Core.Path.{_≡_}
 use mathlib.Core.List.{List, [], _∷_}
-use mathlib.Core.Bool.{Bool, cond}
+use mathlib.Core.Bool.{Bool, false, cond, _&&_, _||_}
 use mathlib.Core.Option.{Option, none, some}
-use lib.Dec.{T, eqb}
+use lib.Dec.{T, eqb, leb}
 use lib.ListN.{getD}
 use Rattle.definitions.specs.Lists.{distinct}
 use Rattle.definitions.specs.Limits.{variableLimit, pairLimit}
@@ -16,13 +16,14 @@ use Rattle.definitions.specs.Evaluate.{Setting, Quad}
 use Rattle.definitions.specs.Outcome.{ok}
 use Rattle.definitions.specs.Search.{Typing, Tuple, answer}
 use Rattle.codes.specs.TypeCodes.{codeLeq}
-use Rattle.query.specs.Seek.{next, hopeAt, hopeful, find}
+use Rattle.query.specs.Seek.{next, nextAfter, hopeAt, hopeful, find}
 use Rattle.query.specs.Codes.{bindingsOf}
 use Rattle.query.specs.StoreLent.{settingIn, Told, StoreLent}
 use Rattle.query.specs.declared.Context.{Context}
 use Rattle.search.specs.Ready.{Ready}
 use Rattle.search.specs.declared.Block.{Block}
 use Rattle.search.specs.declared.Found.{Found}
+use Rattle.search.specs.declared.Under.{Under}
 
 -- so many numbers of an array, from a place on
 unfoldable pub numbersFrom : (count : ℕ) → List ℕ → (k : ℕ) → List ℕ
@@ -36,6 +37,24 @@ tupleOf r k count = cond (r .found) (some (numbersFrom count (r .tuple) k)) none
 -- the last tuple from place k on, where the numbers before it are the last tuple's
 abbrev pub lastOf : (tight : Bool) → List ℕ → (k count : ℕ) → Option Tuple
 lastOf tight last k count = cond tight (some (numbersFrom count last k)) none
+
+-- a code is one of those
+unfoldable pub isUnder : Under → (least : ℕ) → Bool
+isUnder u least = eqb least (u .own) || (eqb least (u .other) || (u .ranges && leb 9 least))
+
+-- so many terms are looked at in one go
+abbrev pub typesBlock : ℕ
+typesBlock = 32
+
+-- one of n numbers, from one on
+unfoldable pub anyUnder : (leasts : List ℕ) → Under → (from n : ℕ) → Bool
+anyUnder leasts u from zero = false
+anyUnder leasts u from (suc n) = anyUnder leasts u from n || isUnder u (getD leasts (from + n) 0)
+
+-- the next of them, n at most
+unfoldable pub skipUnder : (leasts : List ℕ) → Under → (n i : ℕ) → ℕ
+skipUnder leasts u zero i = i
+skipUnder leasts u (suc n) i = cond (isUnder u (getD leasts i 0)) i (skipUnder leasts u n (i + 1))
 
 -- the next number, n at most, whose least type is below a type
 unfoldable pub skipTypes : (leasts : List ℕ) → (type n i : ℕ) → ℕ
@@ -77,6 +96,13 @@ module _ {script table quads leasts : List ℕ} {x : Context} {block : Block} (w
     NextOf k lo r =
         (min lo (x .count) ≤ r)
         × ((vs : List ℕ) → ReadyFor vs → r ≡ next setting (w .typing) (w .terms) (w .rows) (w .tree) (bindingsOf known) (getD (block .vars) k 0) lo)
+
+    -- the same after the last tuple
+    abbrev pub NextAfter : (k : ℕ) (tight : Bool) (lo r : ℕ) → Type 0
+    NextAfter k tight lo r =
+        (min lo (x .count) ≤ r)
+        × ((vs : List ℕ) → ReadyFor vs
+        → r ≡ nextAfter setting (w .typing) (w .terms) (w .rows) (w .tree) (bindingsOf known) (getD (block .vars) k 0) (lastOf tight (block .last) k (block .size - k)) lo)
 
     abbrev pub HopeAt : (j : ℕ) → Bool → Type 0
     HopeAt j r = (vs : List ℕ) → ReadyFor vs → r ≡ hopeAt setting (w .typing) (w .terms) (w .rows) (w .tree) (bindingsOf known) (getD (block .vars) j 0)

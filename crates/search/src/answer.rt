@@ -12,7 +12,7 @@ use crate::Found;
 use crate::find::find;
 use definitions::VARIABLE_LIMIT;
 use query::Context;
-use query::FREE;
+use scan::FREE;
 
 // What is known as a block's search begins: nothing of the block's own variables.
 fn cleared(known: [usize; VARIABLE_LIMIT], block: Block) -> [usize; VARIABLE_LIMIT]
@@ -42,7 +42,7 @@ pub fn answer(
     context: Context,
     block: Block,
     table: &[u8],
-    quads: &[u16],
+    quads: &[u64],
     leasts: &[u8],
     known: [usize; VARIABLE_LIMIT],
     started: bool,

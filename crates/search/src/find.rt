@@ -3,32 +3,18 @@ ghost use mathlib.Core.Path.{_≡_};
 ghost use Rattle.laws.specs.Ends.{EndsLent};
 ghost use mathlib.Core.Bool.{cond};
 ghost use lib.ListN.{length};
-ghost use Prim.Native.Nat.{_-_, _≤_, _<_};
-ghost use Rattle.search.specs.Finding.{skipTypes, World, NextOf, HopeAt, HopeOf, FindOf};
+ghost use Prim.Native.Nat.{_<_};
+ghost use Rattle.search.specs.Finding.{World, NextOf, NextAfter, HopeAt, HopeOf, FindOf};
 use crate::Block;
 use crate::Found;
 use crate::seek::seek;
+use crate::types::skip;
 use codes::has_type;
 ghost use Rattle.definitions.specs.Limits.{pairLimit, variableLimit};
 use definitions::PAIR_LIMIT;
 use definitions::VARIABLE_LIMIT;
 use query::Context;
 use query::eval::eval_query;
-
-// The next term of a type, from a number on.
-fn skip(leasts: &[u8], ty: u8, from: usize, count: usize) -> usize
-    requires { ⌜ count ≤ length (now leasts) ⌝ }
-    ensures { λ r. ⌜ r ≡ skipTypes (now (leasts .entry)) ty (count - from) from ⌝ }
-{
-    let mut i = from;
-    while i < count {
-        if has_type(leasts[i], ty) {
-            return i;
-        }
-        i += 1;
-    }
-    i
-}
 
 // The next number for the variable at place k, from lo on.
 fn next(
@@ -37,7 +23,7 @@ fn next(
     context: Context,
     block: Block,
     table: &[u8],
-    quads: &[u16],
+    quads: &[u64],
     leasts: &[u8],
     known: &[usize],
     k: usize,
@@ -68,6 +54,47 @@ fn next(
     skip(leasts, types[k], s.least, context.count)
 }
 
+// The next number to try, with tight after the last tuple: its own number is not sought again.
+fn next_after(
+    script: &[u8],
+    ends: &[u16],
+    context: Context,
+    block: Block,
+    table: &[u8],
+    quads: &[u64],
+    leasts: &[u8],
+    known: &[usize],
+    k: usize,
+    tight: bool,
+    lo: usize,
+) -> usize
+    requires { ⌜ World (now script) (now table) (now quads) (now leasts) context block ⌝ }
+    requires { ⌜ EndsLent (now script) (now ends) ⌝ }
+    requires { ⌜ length (now known) ≡ variableLimit ⌝ }
+    requires { ⌜ k < block .size ⌝ }
+    requires { ⌜ lo < context .count ⌝ }
+    ensures { λ r. ⌜ ((w : World (now (script .entry)) (now (table .entry)) (now (quads .entry)) (now (leasts .entry)) context block) → NextAfter w (now (known .entry)) k tight lo r) ⌝ }
+{
+    let last = block.last;
+    let types = block.types;
+    let typed = has_type(leasts[lo], types[k]);
+    if tight & (lo == last[k]) & typed {
+        return lo;
+    }
+    next(
+        script,
+        ends,
+        context,
+        block,
+        table,
+        quads,
+        leasts,
+        known,
+        k,
+        lo,
+    )
+}
+
 // Whether the variable at place j still has a number with which the query may hold. What a filter says of that variable alone is so found out before
 // others are chosen.
 fn hope(
@@ -76,7 +103,7 @@ fn hope(
     context: Context,
     block: Block,
     table: &[u8],
-    quads: &[u16],
+    quads: &[u64],
     leasts: &[u8],
     known: [usize; VARIABLE_LIMIT],
     j: usize,
@@ -137,7 +164,7 @@ fn hopeful(
     context: Context,
     block: Block,
     table: &[u8],
-    quads: &[u16],
+    quads: &[u64],
     leasts: &[u8],
     known: [usize; VARIABLE_LIMIT],
     from: usize,
@@ -171,7 +198,7 @@ pub fn find(
     context: Context,
     block: Block,
     table: &[u8],
-    quads: &[u16],
+    quads: &[u64],
     leasts: &[u8],
     known: [usize; VARIABLE_LIMIT],
     k: usize,
@@ -205,7 +232,7 @@ pub fn find(
     let l = last[k];
     let mut lo = either(tight, l, 0);
     while lo < count {
-        let i = next(
+        let i = next_after(
             script,
             ends,
             context,
@@ -215,6 +242,7 @@ pub fn find(
             leasts,
             &known,
             k,
+            tight,
             lo,
         );
         if count <= i {

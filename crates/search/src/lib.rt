@@ -5,6 +5,7 @@ pub mod answer;
 mod find;
 mod seek;
 pub mod trying; // trying.rt: one tuple
+mod types;
 
 // What the seek finds at a query's record: the offset after it, and the least number.
 pub struct Sought {
@@ -35,4 +36,11 @@ pub struct Tried {
     pub fits: bool,
     pub holds: bool,
     pub records: usize,
+}
+
+// The codes below a type's: its own, one other, and with ranges all of range(d).
+pub struct Under {
+    pub own: u8,
+    pub other: u8,
+    pub ranges: bool,
 }

@@ -13,7 +13,7 @@ use ends::after;
 use query::Context;
 use query::may::may_cond;
 use query::names::names_at;
-use query::scan::scan;
+use scan::least;
 
 fn smaller(a: usize, b: usize) -> usize
     ensures { λ r. ⌜ r ≡ min a b ⌝ }
@@ -65,7 +65,7 @@ pub fn seek(
     left: u8,
     table: &[u8],
     known: &[usize],
-    quads: &[u16],
+    quads: &[u64],
     v: usize,
     lo: usize,
 ) -> Sought
@@ -82,10 +82,10 @@ pub fn seek(
     match kind {
         0x61 => {
             let names = names_at(script, context.loaded, first, below, known, v);
-            let least = scan(quads, context.quads, names.codes, lo, context.count);
+            let found = least(quads, context.quads, names.codes, lo, context.count);
             Sought {
                 next: names.next,
-                least,
+                least: found,
             }
         }
         0x62 => {

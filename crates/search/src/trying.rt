@@ -29,7 +29,7 @@ pub fn try_tuple(
     context: Context,
     block: Block,
     table: &[u8],
-    quads: &[u16],
+    quads: &[u64],
     leasts: &[u8],
     known: [usize; VARIABLE_LIMIT],
     tuple: [usize; PAIR_LIMIT],

@@ -12,12 +12,12 @@ use Rattle.definitions.specs.Limits.{quadWidth, termLimit, quadLimit, graphLimi
 use Rattle.definitions.specs.Lists.{every, distinct}
 use Rattle.definitions.specs.Bytes.{allZero, provided, onward}
 use Rattle.definitions.specs.Terms.{Term, Schema, sameTerm}
-use Rattle.definitions.specs.Evaluate.{Quad, sameQuad}
-use Rattle.definitions.specs.Machine.{Store, inLimits}
+use Rattle.definitions.specs.Evaluate.{Quad}
+use Rattle.definitions.specs.Machine.{Store, inLimits, inOrder}
 use Rattle.definitions.specs.Saved.{termsIn, quadsFrom, quadsIn, heldStore}
 use Rattle.definitions.specs.Sound.{beginsWith, quadSound, isURINumber, storeSound}
 use Rattle.definitions.specs.declared.SavedStore.{SavedStore}
-use Rattle.laws.proofs.Tests.{andLeft, trueIs}
+use Rattle.laws.proofs.Tests.{andLeft}
 use Rattle.laws.proofs.Options.{some-is}
 use Rattle.laws.proofs.SlotAt.{terms-few}
 use Rattle.laws.specs.ReadAnswers.{isSome, passes}
@@ -27,13 +27,9 @@ use Rattle.fields.specs.Answers.{distinctIn}
 use Rattle.table.specs.Table.{HoldsTerms}
 use Rattle.laws.proofs.ReadAnswers.{provided-is}
 use Rattle.table.proofs.TableLaws.{terms, terms-length}
-use Rattle.laws.specs.Quads.{rowsFrom}
+use Rattle.keys.specs.Keys.{rowsFrom}
 use Rattle.soundness.specs.Store.{beginsIn, termsSound, uriNumber, quadNumbers, quadsTest, storeTest}
 use Rattle.soundness.proofs.TermTests.{uri-number, quad-numbers, every-same}
-
--- no test is both
-pub never : false ≡ true → ⊥
-never e = trueIs false e
 
 -- ── quads and graphs, one test after another ────────────────────────────────────────────────
 
@@ -48,10 +44,10 @@ module _ (table : List ℕ) (n : ℕ) (fetched leasts : List ℕ) (count : ℕ) 
       unfolding quadsTest
       bad-graphs t = rw (sym ea ∙ not-false a ta, sym eb ∙ not-true b t)
 
-      module _ (tb : not b ≡ false) (rows : List ℕ) (er : rowsFrom n rows 0 ≡ quadsFrom n table 0) {c : Bool} (ec : c ≡ distinct sameQuad (rowsFrom n rows 0)) where
-        pub quads-twice : not c ≡ true → false ≡ quadsTest table n fetched leasts count
+      module _ (tb : not b ≡ false) (rows : List ℕ) (er : rowsFrom n rows 0 ≡ quadsFrom n table 0) {c : Bool} (ec : c ≡ inOrder (rowsFrom n rows 0)) where
+        pub quads-out : not c ≡ true → false ≡ quadsTest table n fetched leasts count
         unfolding quadsTest
-        quads-twice t = rw (sym ea ∙ not-false a ta, sym eb ∙ not-false b tb, ← er, sym ec ∙ not-true c t)
+        quads-out t = rw (sym ea ∙ not-false a ta, sym eb ∙ not-false b tb, ← er, sym ec ∙ not-true c t)
 
         pub quads-all : not c ≡ false → {r : Bool} → r ≡ every (quadNumbers leasts count fetched) (rowsFrom n rows 0) → r ≡ quadsTest table n fetched leasts count
         unfolding quadsTest
@@ -144,6 +140,6 @@ module _ (loading tt qt : List ℕ) (count : ℕ) (ht : HoldsTerms tt count) (sa
     unfolding termsSound beginsIn distinctIn storeTest quadsTest storeSound quadsIn
     store-tests =
         rw (ek, et, provided-is held? quads, every-same (uri-number S ts leasts count size each) fetched, every-same (quad-numbers S ts leasts count size each fetched) quads)
-        (in-all held? few? (beginsWith ks ts) (distinct sameTerm ts) (distinct eqb fetched) (every (isURINumber S ts) fetched) (distinct sameQuad quads)
+        (in-all held? few? (beginsWith ks ts) (distinct sameTerm ts) (distinct eqb fetched) (every (isURINumber S ts) fetched) (inOrder quads)
         (every (quadSound S ts fetched) quads) (inLimits store) limits)
         ∙ sym store-is

@@ -4,25 +4,11 @@ use native.Mathlib.Omega.{arith}
 use native.Mathlib.Numerals.{add-one}
 use mathlib.Core.Path.{_≡_, ap, sym, _∙_}
 use mathlib.Core.List.{List}
-use mathlib.Core.Bool.{Bool, true, false, not, _&&_, _||_}
+use mathlib.Core.Bool.{Bool, true, false, not, _&&_}
 use lib.ListN.{length, getD, take, drop, length-drop, drop-of-length-le}
 use lib.Seq.{drop-cons, take-all}
 use Rattle.definitions.specs.Lists.{every, some?, distinct}
 use Rattle.table.proofs.CountLaws.{none-of}
-
--- some element passes
-module _ {A : Type 0} (p : A → Bool) (l : List A) (i : ℕ) (d : A) (far : some? p l ≡ some? p (drop i l)) where
-  some-from : i < length l → some? p (drop i l) ≡ p (getD l i d) || some? p (drop (i + 1) l)
-  some-from h = ap (some? p) (drop-cons l i d h) ∙ ap (λ (n : ℕ). p (getD l i d) || some? p (drop n l)) (sym (add-one i))
-
-  pub some-next : i < length l → p (getD l i d) ≡ false → some? p l ≡ some? p (drop (i + 1) l)
-  some-next h e = far ∙ (some-from h ∙ ap (λ (b : Bool). b || some? p (drop (i + 1) l)) e)
-
-  pub some-stop : i < length l → p (getD l i d) ≡ true → true ≡ some? p l
-  some-stop h e = sym (far ∙ (some-from h ∙ ap (λ (b : Bool). b || some? p (drop (i + 1) l)) e))
-
-  pub some-none : length l ≤ i → false ≡ some? p l
-  some-none h = sym (far ∙ ap (some? p) (drop-of-length-le l h))
 
 -- all are different; the rest is looked through as the code hands it on, `&l[i + 1..]`
 module _ {A : Type 0} (same : A → A → Bool) (l : List A) (i : ℕ) (d : A) (far : distinct same l ≡ distinct same (drop i l)) where

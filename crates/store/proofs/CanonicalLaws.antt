@@ -5,7 +5,7 @@ use mathlib.Core.Path.{_≡_, refl, ap, sym, _∙_}
 use mathlib.Core.List.{List, [], _∷_, _++_, map, map-append}
 use mathlib.Core.Bool.{Bool, true, false, cond, _&&_, and-false}
 use mathlib.Core.Option.{none, some}
-use lib.Dec.{eqb, ltb, leb, leb→le}
+use lib.Dec.{eqb, ltb, leb→le}
 use lib.ListN.{length, getD, take, replicate, length-take, length-map}
 use lib.Seq.{take-suc, ext-getD}
 use borrow.Author.Tests.{eq-eqb, ne-eqb, lt-ltb, eqb-true}

@@ -2,7 +2,6 @@
 use Prim.Native.Nat.{ℕ, suc, _+_, _-_, _≤_, _<_}
 use native.Mathlib.Omega.{arith}
 use native.Mathlib.Numerals.{add-one}
-use native.Mathlib.Nat.{sub-zero}
 use mathlib.Core.Path.{_≡_, refl, ap, sym, _∙_}
 use mathlib.Core.List.{List, [], _∷_, _++_, map, map-append, map-id}
 use mathlib.Core.Bool.{Bool, true, false, _||_}
@@ -26,9 +25,6 @@ module _ {A B : Type 0} (f : A → B) (z : B) (old : List A) (n : ℕ) where
   -- the first places made from those of a list, zeros after them
   abbrev pub madeTo : ℕ → List B
   madeTo i = map f (take i old) ++ replicate (n - i) z
-
-  pub made-none : replicate n z ≡ madeTo 0
-  made-none = ap (λ (j : ℕ). replicate j z) (sym (sub-zero n))
 
   pub made-next : (i : ℕ) (d : A) → i < length old → i < n → (array : List B) → array ≡ madeTo i → (x : B) → x ≡ f (getD old i d)
       → set array i x ≡ madeTo (i + 1)

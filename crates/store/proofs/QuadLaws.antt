@@ -1,25 +1,21 @@
--- Laws of the quad table: a quad written after the last, a look through the quads, the quads of other graphs.
-use Prim.Native.Nat.{ℕ, zero, suc, _+_, _-_, _*_, _≤_, _<_}
+-- Laws of the quad table: a quad written after the last, and its quads as keys.
+use Prim.Native.Nat.{ℕ, zero, suc, _+_, _-_, _*_, _<_}
 use native.Mathlib.Omega.{arith}
-use native.Mathlib.Nat.{sub-zero}
 use native.Mathlib.Numerals.{add-one}
 use mathlib.Core.Path.{_≡_, refl, ap, ap₂, sym, _∙_}
 use mathlib.Core.List.{List, [], _∷_, _++_, append-nil, append-assoc}
-use mathlib.Core.Bool.{Bool, true, false, cond, not, _&&_, _||_, and-false, and-true}
-use lib.Dec.{eqb}
-use lib.ListN.{length, take, drop, replicate, length-append, length-take, length-drop}
+use lib.ListN.{length, getD, set, take, drop, replicate, length-append, length-take, length-drop}
 use lib.Seq.{take-at, drop-at, take-length, drop-length}
 use borrow.Rule.Slice.PartMut.{putMid}
-use borrow.Author.Tests.{eq-eqb, ne-eqb}
 use Rattle.fields.proofs.PartLaws.{drop-replicate}
 use Rattle.definitions.specs.Limits.{quadWidth, quadLimit, quadTableWidth}
 use Rattle.definitions.specs.Bytes.{littleBytes, filled}
-use Rattle.definitions.specs.Lists.{some?, keep}
-use Rattle.definitions.specs.Evaluate.{Quad, stored, sameQuad}
-use Rattle.definitions.specs.Machine.{ofGraph}
+use Rattle.definitions.specs.Evaluate.{Quad}
 use Rattle.definitions.specs.Saved.{quadBytes, quadTable, quadAt, quadsFrom}
 use Rattle.laws.proofs.Tables.{quads-length, quad-table-length}
-use Rattle.store.specs.Quads.{quadSet, keptCount, keptTable}
+use Rattle.keys.specs.Keys.{keyOf, quadOf, keysFrom, rowsFrom, keysOf}
+use Rattle.keys.proofs.Rise.{snoc}
+use Rattle.store.specs.Quads.{quadSet}
 
 -- ── a quad written ──────────────────────────────────────────────────────────────────────────
 
@@ -62,51 +58,7 @@ quad-added l q n e h =
     (λ t. front t ++ (w ++ back t))
     ∙ (sym (append-assoc b w (replicate (m - quadWidth) 0)) ∙ (λ t. sym (bytes-append l (q ∷ [])) t ++ replicate (left t) 0))
 
--- ── a look through the quads ────────────────────────────────────────────────────────────────
-
--- two quads, by their objects first
-module _ (q r : Quad) where
-  pub objects-differ : (q .object ≡ r .object → ⊥) → false ≡ sameQuad q r
-  objects-differ h =
-      rw (ne-eqb (q .object) (r .object) h, and-false (eqb (q .property) (r .property)), and-false (eqb (q .subject) (r .subject)), and-false (eqb (q .graph) (r .graph)))
-
-  pub objects-same : q .object ≡ r .object
-      → (eqb (q .graph) (r .graph) && (eqb (q .subject) (r .subject) && eqb (q .property) (r .property))) ≡ sameQuad q r
-  objects-same e = rw (eq-eqb (q .object) (r .object) e, and-true (eqb (q .property) (r .property)))
-
--- those from a place on
-module _ (table : List ℕ) (count i : ℕ) (h : i < count) where
-  pub quads-left : quadsFrom (count - i) table (i * quadWidth) ≡ quadAt table (i * quadWidth) ∷ quadsFrom (count - (i + 1)) table ((i + 1) * quadWidth)
-  unfolding quadsFrom
-  quads-left =
-      let a : count - i ≡ suc (count - (i + 1)) = omega arith in
-      let b : i * quadWidth + quadWidth ≡ (i + 1) * quadWidth = omega arith in
-      ap (λ (n : ℕ). quadsFrom n table (i * quadWidth)) a
-      ∙ ap (λ (n : ℕ). quadAt table (i * quadWidth) ∷ quadsFrom (count - (i + 1)) table n) b
-
-module _ (q : Quad) (table : List ℕ) (count i : ℕ)
-    (far : stored q (quadsFrom count table 0) ≡ stored q (quadsFrom (count - i) table (i * quadWidth))) where
-  module _ (h : i < count) {r : Bool} (e : r ≡ sameQuad q (quadAt table (i * quadWidth))) where
-    next : stored q (quadsFrom count table 0) ≡ (r || stored q (quadsFrom (count - (i + 1)) table ((i + 1) * quadWidth)))
-    unfolding stored
-    next =
-        far ∙ (ap (some? (sameQuad q)) (quads-left table count i h)
-        ∙ ap (λ (b : Bool). b || some? (sameQuad q) (quadsFrom (count - (i + 1)) table ((i + 1) * quadWidth))) (sym e))
-
-    pub quad-there : r ≡ true → true ≡ stored q (quadsFrom count table 0)
-    quad-there k = sym (next ∙ ap (λ (b : Bool). b || stored q (quadsFrom (count - (i + 1)) table ((i + 1) * quadWidth))) k)
-
-    pub quad-other : r ≡ false → stored q (quadsFrom count table 0) ≡ stored q (quadsFrom (count - (i + 1)) table ((i + 1) * quadWidth))
-    quad-other k = next ∙ ap (λ (b : Bool). b || stored q (quadsFrom (count - (i + 1)) table ((i + 1) * quadWidth))) k
-
-  pub quad-nowhere : count ≤ i → false ≡ stored q (quadsFrom count table 0)
-  unfolding stored quadsFrom
-  quad-nowhere h = let z : count - i ≡ 0 = omega arith in sym (far ∙ ap (λ (n : ℕ). some? (sameQuad q) (quadsFrom n table (i * quadWidth))) z)
-
-pub quads-all : (q : Quad) (table : List ℕ) (count : ℕ) → stored q (quadsFrom count table 0) ≡ stored q (quadsFrom (count - 0) table (0 * quadWidth))
-quads-all q table count = ap (λ (n : ℕ). stored q (quadsFrom n table 0)) (sym (sub-zero count))
-
--- ── the quads of other graphs ───────────────────────────────────────────────────────────────
+-- ── quads as keys ───────────────────────────────────────────────────────────────────────────
 
 -- one quad more
 quads-more : (table : List ℕ) (n at : ℕ) → quadsFrom (suc n) table at ≡ quadsFrom n table at ++ (quadAt table (at + n * quadWidth) ∷ [])
@@ -117,74 +69,44 @@ quads-more table (suc n) at =
     ap (λ (l : List Quad). quadAt table at ∷ l)
     (quads-more table n (at + quadWidth) ∙ ap (λ (k : ℕ). quadsFrom n table (at + quadWidth) ++ (quadAt table k ∷ [])) e)
 
-keep-end : {A : Type 0} (p : A → Bool) (l : List A) (x : A) → keep p (l ++ (x ∷ [])) ≡ cond (p x) (keep p l ++ (x ∷ [])) (keep p l)
-keep-end p [] x = refl
-keep-end p (y ∷ l) x = ap (λ (k : List _). cond (p y) (y ∷ k) k) (keep-end p l x) ∙ go (p y) (p x)
-  where
-    go : (a b : Bool) → cond a (y ∷ cond b (keep p l ++ (x ∷ [])) (keep p l)) (cond b (keep p l ++ (x ∷ [])) (keep p l))
-        ≡ cond b (cond a (y ∷ keep p l) (keep p l) ++ (x ∷ [])) (cond a (y ∷ keep p l) (keep p l))
-    go true true = refl
-    go true false = refl
-    go false true = refl
-    go false false = refl
+keys-append : (l m : List Quad) → keysOf (l ++ m) ≡ keysOf l ++ keysOf m
+unfolding keysOf
+keys-append [] m = refl
+keys-append (q ∷ l) m = ap (λ (ks : List ℕ). keyOf q ∷ ks) (keys-append l m)
 
-module _ (graph : ℕ) (table : List ℕ) where
-  -- those of other graphs among the first
-  abbrev pub others : ℕ → List Quad
-  others i = keep (λ q. not (ofGraph graph q)) (quadsFrom i table 0)
+-- one key more is read
+pub read-next : (table keys : List ℕ) (i x : ℕ) → i < length keys → keysFrom i keys 0 ≡ keysOf (quadsFrom i table 0) → x ≡ keyOf (quadAt table (i * quadWidth))
+    → keysFrom (i + 1) (set keys i x) 0 ≡ keysOf (quadsFrom (i + 1) table 0)
+unfolding keysOf
+read-next table keys i x h far e =
+    let z : 0 + i * quadWidth ≡ i * quadWidth = omega arith in
+    let more : quadsFrom (i + 1) table 0 ≡ quadsFrom i table 0 ++ (quadAt table (i * quadWidth) ∷ []) =
+    ap (λ (n : ℕ). quadsFrom n table 0) (add-one i) ∙ (quads-more table i 0 ∙ ap (λ (k : ℕ). quadsFrom i table 0 ++ (quadAt table k ∷ [])) z) in
+    snoc keys i x h
+    ∙ ((λ t. far t ++ (e t ∷ []))
+    ∙ (sym (keys-append (quadsFrom i table 0) (quadAt table (i * quadWidth) ∷ [])) ∙ ap keysOf (sym more)))
 
-  module _ (i kept : ℕ) (work : List ℕ) (count : kept ≡ length (others i)) (holds : work ≡ quadTable (others i)) (few : kept ≤ i) (h : i < quadLimit) where
-    abbrev q : Quad
-    q = quadAt table (i * quadWidth)
+rows-more : (f : List ℕ) (n at : ℕ) → rowsFrom (suc n) f at ≡ rowsFrom n f at ++ (quadOf (getD f (at + n) 0) ∷ [])
+unfolding rowsFrom
+rows-more f zero at = let e : at ≡ at + 0 = omega arith in ap (λ (k : ℕ). quadOf (getD f k 0) ∷ []) e
+rows-more f (suc n) at =
+    let e : at + 1 + n ≡ at + suc n = omega arith in
+    ap (λ (l : List Quad). quadOf (getD f at 0) ∷ l)
+    (rows-more f n (at + 1) ∙ ap (λ (k : ℕ). rowsFrom n f (at + 1) ++ (quadOf (getD f k 0) ∷ [])) e)
 
-    more : (b : Bool) → ofGraph graph q ≡ b → others (i + 1) ≡ cond b (others i) (others i ++ (q ∷ []))
-    more b e =
-        let z : 0 + i * quadWidth ≡ i * quadWidth = omega arith in
-        ap others (add-one i)
-        ∙ (ap (keep (λ q. not (ofGraph graph q))) (quads-more table i 0 ∙ ap (λ (k : ℕ). quadsFrom i table 0 ++ (quadAt table k ∷ [])) z)
-        ∙ (keep-end (λ q. not (ofGraph graph q)) (quadsFrom i table 0) q ∙ turn b e))
-      where
-        turn : (b : Bool) → ofGraph graph q ≡ b
-            → cond (not (ofGraph graph q)) (others i ++ (q ∷ [])) (others i) ≡ cond b (others i) (others i ++ (q ∷ []))
-        turn true e = ap (λ (b : Bool). cond (not b) (others i ++ (q ∷ [])) (others i)) e
-        turn false e = ap (λ (b : Bool). cond (not b) (others i ++ (q ∷ [])) (others i)) e
+rows-count : (f : List ℕ) (n at : ℕ) → length (rowsFrom n f at) ≡ n
+unfolding rowsFrom
+rows-count f zero at = refl
+rows-count f (suc n) at = ap suc (rows-count f n (at + 1))
 
-    -- the next quad is kept or not
-    pub keep-next : (k : ℕ) (w : List ℕ) → k ≡ keptCount graph q kept → w ≡ keptTable graph q work kept
-        → (k ≤ i + 1) × (k ≡ length (others (i + 1))) × (w ≡ quadTable (others (i + 1))) × (length w ≡ quadTableWidth)
-    unfolding keptCount keptTable
-    keep-next k w e f = let r = go (ofGraph graph q) refl in (r .0, r .1, r .2, ap length (r .2) ∙ quad-table-length (others (i + 1)) (omega arith))
-      where
-        go : (b : Bool) → ofGraph graph q ≡ b → (k ≤ i + 1) × (k ≡ length (others (i + 1))) × (w ≡ quadTable (others (i + 1)))
-        go true t =
-            let d : k ≡ kept = e ∙ ap (λ (b : Bool). cond b kept (kept + 1)) t in
-            let s : others (i + 1) ≡ others i = more true t in (
-              omega arith,
-              d ∙ (count ∙ ap length (sym s)),
-              f ∙ (ap (λ (b : Bool). cond b work (quadSet work kept q)) t ∙ (holds ∙ ap quadTable (sym s))),
-            )
-        go false t =
-            let d : k ≡ kept + 1 = e ∙ ap (λ (b : Bool). cond b kept (kept + 1)) t in
-            let s : others (i + 1) ≡ others i ++ (q ∷ []) = more false t in (
-              omega arith,
-              omega (arith, ap length s, length-append (others i) (q ∷ [])),
-              f ∙ (ap (λ (b : Bool). cond b work (quadSet work kept q)) t
-                  ∙ (ap (λ (l : List ℕ). quadSet l kept q) holds ∙ (quad-added (others i) q kept count (omega arith) ∙ ap quadTable (sym s)))),
-            )
-
--- as the code answers
-module _ (graph : ℕ) (q : Quad) (work : List ℕ) (kept : ℕ) where
-  pub kept-same : q .graph ≡ graph → (kept ≡ keptCount graph q kept) × (work ≡ keptTable graph q work kept)
-  unfolding keptCount keptTable
-  kept-same e =
-      let b = eq-eqb (q .graph) graph e in
-      (sym (ap (λ (b : Bool). cond b kept (kept + 1)) b), sym (ap (λ (b : Bool). cond b work (quadSet work kept q)) b))
-
-  pub kept-other : (q .graph ≡ graph → ⊥) → (r : Quad) → r ≡ q → (w : List ℕ) → w ≡ quadSet work kept r
-      → (kept + 1 ≡ keptCount graph q kept) × (w ≡ keptTable graph q work kept)
-  unfolding keptCount keptTable
-  kept-other n r e w f =
-      let b = ne-eqb (q .graph) graph n in (
-        sym (ap (λ (b : Bool). cond b kept (kept + 1)) b),
-        f ∙ (ap (quadSet work kept) e ∙ sym (ap (λ (b : Bool). cond b work (quadSet work kept q)) b)),
-      )
+-- one quad more is written
+pub written-next : (keys table after : List ℕ) (i : ℕ) → i < quadLimit → table ≡ quadTable (rowsFrom i keys 0) → after ≡ quadSet table i (quadOf (getD keys i 0))
+    → (after ≡ quadTable (rowsFrom (i + 1) keys 0)) × (length after ≡ quadTableWidth)
+written-next keys table after i h holds e =
+    let z : 0 + i ≡ i = omega arith in
+    let more : rowsFrom (i + 1) keys 0 ≡ rowsFrom i keys 0 ++ (quadOf (getD keys i 0) ∷ []) =
+    ap (λ (n : ℕ). rowsFrom n keys 0) (add-one i) ∙ (rows-more keys i 0 ∙ ap (λ (k : ℕ). rowsFrom i keys 0 ++ (quadOf (getD keys k 0) ∷ [])) z) in
+    let is : after ≡ quadTable (rowsFrom (i + 1) keys 0) =
+    e ∙ (ap (λ (l : List ℕ). quadSet l i (quadOf (getD keys i 0))) holds
+    ∙ (quad-added (rowsFrom i keys 0) (quadOf (getD keys i 0)) i (sym (rows-count keys i 0)) h ∙ ap quadTable (sym more))) in
+    (is, ap length is ∙ quad-table-length (rowsFrom (i + 1) keys 0) (omega (arith, rows-count keys (i + 1) 0)))

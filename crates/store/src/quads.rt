@@ -1,17 +1,19 @@
-// The quad table: four 2-byte numbers for each quad, zeros after the last.
+// The quad table: four 2-byte numbers for each quad, zeros after the last. In a call its quads are held as keys.
 ghost use mathlib.Core.Path.{_≡_};
-ghost use mathlib.Core.Bool.{not};
 ghost use mathlib.Core.List.{[], _∷_};
-ghost use Prim.Native.Nat.{_+_, _*_, _/_, _%_, _≤_, _<_};
+ghost use Prim.Native.Nat.{_+_, _/_, _%_, _≤_, _<_};
 ghost use lib.ListN.{length};
 ghost use Rattle.definitions.specs.Limits.{quadWidth, quadLimit, quadTableWidth};
-ghost use Rattle.definitions.specs.Lists.{keep};
-ghost use Rattle.definitions.specs.Evaluate.{sameQuad, stored};
-ghost use Rattle.definitions.specs.Machine.{ofGraph};
 ghost use Rattle.definitions.specs.Saved.{quadBytes, quadTable, quadAt, quadsFrom};
-ghost use Rattle.store.specs.Quads.{quad, quadSet, keptCount, keptTable};
+ghost use Rattle.keys.specs.Keys.{keyOf, quadOf, keysFrom, rowsFrom, keysOf};
+ghost use Rattle.store.specs.Quads.{quad, quadSet};
 use definitions::QUAD_WIDTH;
 use fields::numbers::number_at;
+use keys::graph_of;
+use keys::object_of;
+use keys::pack;
+use keys::property_of;
+use keys::subject_of;
 
 fn low(n: u16) -> u8
     ensures { λ r. ⌜ r ≡ n % 256 ⌝ }
@@ -41,93 +43,60 @@ fn quad_bytes(graph: u16, subject: u16, property: u16, object: u16) -> [u8; 8]
     ]
 }
 
-// Writes a quad at its place.
-// Ruled out: a quad written over the one before; subject and object exchanged.
-pub fn put_quad(table: &mut [u8], n: usize, graph: u16, subject: u16, property: u16, object: u16)
+// Writes a key's quad at its place.
+fn put_key(table: &mut [u8], n: usize, key: u64)
     requires { ⌜ length (now table) ≡ quadTableWidth ⌝ }
     requires { ⌜ n < quadLimit ⌝ }
-    ensures { λ _. ⌜ now (table .exit) ≡ quadSet (now (table .entry)) n (quad graph subject property object) ⌝ }
+    ensures { λ _. ⌜ now (table .exit) ≡ quadSet (now (table .entry)) n (quadOf key) ⌝ }
 {
     let at = n * QUAD_WIDTH;
     let end = at + QUAD_WIDTH;
+    let graph = graph_of(key) as u16;
+    let subject = subject_of(key) as u16;
+    let property = property_of(key) as u16;
+    let object = object_of(key) as u16;
     let content = quad_bytes(graph, subject, property, object);
     bytes::copy(&content, &mut table[at..end]);
 }
 
-// Whether a quad is the one at an offset; their objects differ most often.
-fn is_quad_at(table: &[u8], at: usize, graph: u16, subject: u16, property: u16, object: u16) -> bool
-    requires { ⌜ at + quadWidth ≤ length (now table) ⌝ }
-    ensures { λ r. ⌜ r ≡ sameQuad (quad graph subject property object) (quadAt (now (table .entry)) at) ⌝ }
+// Writes the quads of the first keys into an empty table.
+// Ruled out: a quad written over the one before; subject and object exchanged.
+pub fn write_keys(keys: &[u64], count: usize, table: &mut [u8])
+    requires { ⌜ count ≤ length (now keys) ⌝ }
+    requires { ⌜ count ≤ quadLimit ⌝ }
+    requires { ⌜ now table ≡ quadTable [] ⌝ }
+    ensures { λ _. ⌜ now (table .exit) ≡ quadTable (rowsFrom count (now (keys .entry)) 0) ⌝ }
 {
-    let o = number_at(table, at + 6);
-    if object != o {
-        return false;
+    let mut i = 0;
+    while i < count {
+        put_key(table, i, keys[i]);
+        i += 1;
     }
-    let g = number_at(table, at);
-    let s = number_at(table, at + 2);
-    let p = number_at(table, at + 4);
-    (graph == g) & ((subject == s) & (property == p))
 }
 
-// Whether a quad is among the first of a table.
-// Ruled out: a look that leaves out the last quad; one that compares no graph.
-pub fn has_quad(
-    table: &[u8],
-    count: usize,
-    graph: u16,
-    subject: u16,
-    property: u16,
-    object: u16,
-) -> bool
+// The key of the quad at an offset.
+fn key_at(table: &[u8], at: usize) -> u64
+    requires { ⌜ at + quadWidth ≤ length (now table) ⌝ }
+    ensures { λ r. ⌜ r ≡ keyOf (quadAt (now (table .entry)) at) ⌝ }
+{
+    let graph = number_at(table, at) as u64;
+    let subject = number_at(table, at + 2) as u64;
+    let property = number_at(table, at + 4) as u64;
+    let object = number_at(table, at + 6) as u64;
+    pack(graph, subject, property, object)
+}
+
+// The keys of a table's first quads, in their order.
+// Ruled out: a reading that leaves out the last quad; one that takes a quad's object for its graph.
+pub fn read_keys(table: &[u8], count: usize, keys: &mut [u64])
     requires { ⌜ length (now table) ≡ quadTableWidth ⌝ }
     requires { ⌜ count ≤ quadLimit ⌝ }
-    ensures { λ r. ⌜ r ≡ stored (quad graph subject property object) (quadsFrom count (now (table .entry)) 0) ⌝ }
+    requires { ⌜ count ≤ length (now keys) ⌝ }
+    ensures { λ _. ⌜ keysFrom count (now (keys .exit)) 0 ≡ keysOf (quadsFrom count (now (table .entry)) 0) ⌝ }
 {
     let mut i = 0;
     while i < count {
-        if is_quad_at(table, i * QUAD_WIDTH, graph, subject, property, object) {
-            return true;
-        }
+        keys[i] = key_at(table, i * QUAD_WIDTH);
         i += 1;
     }
-    false
-}
-
-// A quad of another graph is written after those that were kept.
-fn keep_one(quads: &[u8], i: usize, graph: u16, work: &mut [u8], kept: usize) -> usize
-    requires { ⌜ length (now quads) ≡ quadTableWidth ⌝ }
-    requires { ⌜ i < quadLimit ⌝ }
-    requires { ⌜ length (now work) ≡ quadTableWidth ⌝ }
-    requires { ⌜ kept ≤ i ⌝ }
-    ensures { λ r. ⌜ r ≡ keptCount graph (quadAt (now (quads .entry)) (i * quadWidth)) kept ⌝ }
-    ensures { λ _. ⌜ now (work .exit) ≡ keptTable graph (quadAt (now (quads .entry)) (i * quadWidth)) (now (work .entry)) kept ⌝ }
-{
-    let at = i * QUAD_WIDTH;
-    let g = number_at(quads, at);
-    if g == graph {
-        return kept;
-    }
-    let s = number_at(quads, at + 2);
-    let p = number_at(quads, at + 4);
-    let o = number_at(quads, at + 6);
-    put_quad(work, kept, g, s, p, o);
-    kept + 1
-}
-
-// The quads of other graphs, in their order, in an empty table.
-// Ruled out: the graph's own quads kept; the others in another order.
-pub fn keep_others(quads: &[u8], count: usize, graph: u16, work: &mut [u8]) -> usize
-    requires { ⌜ length (now quads) ≡ quadTableWidth ⌝ }
-    requires { ⌜ count ≤ quadLimit ⌝ }
-    requires { ⌜ now work ≡ quadTable [] ⌝ }
-    ensures { λ r. ⌜ r ≡ length (keep (λ q. not (ofGraph graph q)) (quadsFrom count (now (quads .entry)) 0)) ⌝ }
-    ensures { λ _. ⌜ now (work .exit) ≡ quadTable (keep (λ q. not (ofGraph graph q)) (quadsFrom count (now (quads .entry)) 0)) ⌝ }
-{
-    let mut kept = 0;
-    let mut i = 0;
-    while i < count {
-        kept = keep_one(quads, i, graph, work, kept);
-        i += 1;
-    }
-    kept
 }

@@ -15,5 +15,6 @@ pub mod RoundTrip
 pub mod SavedFits
 pub mod OnBytes
 pub mod ExactSteps
+pub mod OneOrder
 pub mod Truths
 pub mod DemandsApply

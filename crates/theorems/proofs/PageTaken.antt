@@ -12,7 +12,7 @@ use lib.ListN.{length}
 use Rattle.definitions.specs.Lists.{some?, keep, isIn, distinct}
 use Rattle.definitions.specs.Terms.{Term, Schema, Triple, sameTerm}
 use Rattle.definitions.specs.Evaluate.{Quad, sameQuad, stored}
-use Rattle.definitions.specs.Machine.{State, Taken, skip, withQuad, store, wellTyped, takeOne, takeAll, joined, ofGraph, taken, withPage}
+use Rattle.definitions.specs.Machine.{State, Taken, skip, inOrder, withQuad, store, wellTyped, takeOne, takeAll, joined, ofGraph, taken, withPage}
 use Rattle.definitions.specs.Result.{passed}
 use Rattle.definitions.specs.Calls.{Checked, pageIn, PageTaken, pageTaken, takeIn}
 use Rattle.laws.proofs.Tests.{isFalse, trueIs, falseIs, notBoth, by-test}
@@ -23,7 +23,8 @@ use Rattle.laws.proofs.Equality.{same-quad, quad-refl}
 use Rattle.laws.specs.Bindings.{Extends}
 use Rattle.laws.proofs.TermNumbers.{number-unique}
 use Rattle.laws.specs.Quads.{Names}
-use Rattle.laws.proofs.Taking.{names-more, stored-one, with-quad-all, stored-now, stored-still, joined-has, joined-keeps, joined-cases, take-one, take-all}
+use Rattle.laws.proofs.QuadOrder.{in-order-apart, with-quad-all, with-quad-keep, stored-now, stored-still}
+use Rattle.laws.proofs.Taking.{names-more, stored-one, joined-has, joined-keeps, joined-cases, take-one, take-all}
 use Rattle.laws.proofs.PageCheck.{page-passed}
 use Rattle.laws.specs.Sound.{Accepted, Sound}
 use Rattle.laws.proofs.SoundMeans.{Facts, facts}
@@ -33,10 +34,6 @@ use Rattle.theorems.specs.PageLeaves.{FromPage, notOf, PageLeaves}
 -- ── quads ───────────────────────────────────────────────────────────────────────────────────
 
 module _ {A : Type 0} (p : A → Bool) where
-  keep-end : (x : A) (xs : List A) → p x ≡ false → keep p (xs ++ (x ∷ [])) ≡ keep p xs
-  keep-end x [] e = rw e
-  keep-end x (y ∷ xs) e = rw (keep-end x xs e)
-
   keep-keep : (xs : List A) → keep p (keep p xs) ≡ keep p xs
   keep-keep [] = refl
   keep-keep (x ∷ xs) = go (p x) refl (keep-keep xs)
@@ -87,9 +84,7 @@ module _ (S : Schema) (g : ℕ) (page : List Triple) where
   store-others : (r : Triple) (k : Taken) → keep (notOf g) (store g r k .quads) ≡ keep (notOf g) (k .quads)
   store-others r k =
       let x = stored-one g r k in
-      let e : notOf g (x .quad) ≡ false = ap not (eq-eqb (x .quad .graph) g (x .graph)) in
-      rw (x .is) (by-test (λ l. keep (notOf g) l ≡ keep (notOf g) (k .quads)) (stored (x .quad) (k .quads)) (k .quads) (k .quads ++ (x .quad ∷ []))
-      (λ m. refl) (λ m. keep-end (notOf g) (x .quad) (k .quads) e))
+      rw (x .is) (with-quad-keep (notOf g) (x .quad) (ap not (eq-eqb (x .quad .graph) g (x .graph))) (k .quads))
 
   all-others : (k : Taken) → keep (notOf g) (takeAll S g page k .quads) ≡ keep (notOf g) (k .quads)
   all-others k =
@@ -184,9 +179,9 @@ module _ (S : Schema) (g : ℕ) (page : List Triple) (s : State) where
       (λ q n e. absurd (T-not (ofGraph g q) n (trueIs (ofGraph g q) (eq-eqb (q .graph) g e))))
       (keep (notOf g) (s .store .quads)) (kept (notOf g) (s .store .quads))
 
-  leaves : T (distinct sameTerm (end .terms)) → T (distinct sameQuad (end .quads)) → PageLeaves S g page s (pageTaken g (taken S g page (s .store)) s)
+  leaves : T (distinct sameTerm (end .terms)) → T (inOrder (end .quads)) → PageLeaves S g page s (pageTaken g (taken S g page (s .store)) s)
   unfolding taken withPage stored
-  leaves apart once =
+  leaves apart order =
       let others = all-others S g page start ∙ keep-keep (notOf g) (s .store .quads) in
       record {
         numbers = all-extends S g page start;
@@ -202,7 +197,8 @@ module _ (S : Schema) (g : ℕ) (page : List Triple) (s : State) where
         elsewhere = λ q n.
             let t : T (notOf g q) = not-T (ofGraph g q) (λ m. n (eqb→eq (q .graph) g m)) in
             sym (stored-keep (notOf g) q t (end .quads)) ∙ (ap (stored q) others ∙ stored-keep (notOf g) q t (s .store .quads));
-        quadsApart = once;
+        quadsInOrder = order;
+        quadsApart = in-order-apart (end .quads) order;
         skipped = omega (arith, all-skipped S g page start);
         fetched = λ x.
             let before = s .store .fetched in
@@ -221,4 +217,4 @@ module _ (c : Checked) (accepted : Accepted c) (g : ℕ) (page : List ℕ) (s : 
       let f : Facts c (pageTaken g (taken S g (p .triples) (s .store)) s .state) =
       subst (λ (k : PageTaken). Facts c (k .state)) (p .result) (facts c accepted (k .state) (page-sound c accepted g page s k h e)) in
       subst (λ ts. PageLeaves S g ts s k) same
-      (subst⁻¹ (λ k. PageLeaves S g (p .triples) s k) (p .result) (leaves S g (p .triples) s (f .termsApart) (f .quadsApart)))
+      (subst⁻¹ (λ k. PageLeaves S g (p .triples) s k) (p .result) (leaves S g (p .triples) s (f .termsApart) (f .quadsInOrder)))

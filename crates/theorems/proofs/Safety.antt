@@ -15,7 +15,7 @@ use Rattle.definitions.specs.Types.{Datatype, Ty, plain, typeOfCode}
 use Rattle.definitions.specs.Typing.{Written, unbound, undecided, fixed, writtenTypes, typeAt}
 use Rattle.definitions.specs.Outcome.{Outcome, ok}
 use Rattle.definitions.specs.Evaluate.{sameQuad, stored}
-use Rattle.definitions.specs.Machine.{Item, State, Run, lastOf, loaded, inLimits}
+use Rattle.definitions.specs.Machine.{Item, State, Run, lastOf, loaded, inLimits, inOrder}
 use Rattle.definitions.specs.Result.{Result, refused, passed}
 use Rattle.definitions.specs.Calls as Calls
 use Rattle.definitions.specs.Calls.{Checked, check, constantsOf, reported, tablesFit, runIn, PageTaken, takeIn}
@@ -105,18 +105,19 @@ module _ (c : Checked) (accepted : Accepted c) where
         variables = λ v i e. variable-typed s v i (k .bindings v i e);
         triples = λ q m.
             all-at sameQuad same-quad quad-refl (QuadFacts (c .schema) (s .store .terms) (s .store .fetched)) q (s .store .quads) (k .quads) m;
+        quadsInOrder = k .quadsInOrder;
         items = items-typed s (s .control .stack) (k .stack);
       }
 
   -- a load leaves a sound state
   pub loaded-sound : Sound c (loaded (c .terms) (c .root))
-  unfolding loaded inLimits
+  unfolding loaded inLimits inOrder
   loaded-sound =
       sound c accepted (loaded (c .terms) (c .root))
       (record {
         termsApart = accepted .apart;
         extends = λ i t e. e;
-        quadsApart = tt;
+        quadsInOrder = tt;
         quads = tt;
         fetchedApart = tt;
         fetched = tt;

@@ -8,4 +8,5 @@ pub mod Demand3
 pub mod ExportRefusals
 pub mod OnBytes
 pub mod ExactSteps
+pub mod OneOrder
 pub mod Truths

@@ -9,7 +9,7 @@ use lib.ListN.{length}
 use Rattle.definitions.specs.Lists.{keep, isIn, distinct}
 use Rattle.definitions.specs.Terms.{Term, Schema, Triple, sameTerm}
 use Rattle.definitions.specs.Evaluate.{Quad, sameQuad, stored}
-use Rattle.definitions.specs.Machine.{State, wellTyped, ofGraph}
+use Rattle.definitions.specs.Machine.{State, wellTyped, ofGraph, inOrder}
 use Rattle.definitions.specs.Calls.{PageTaken}
 use Rattle.laws.specs.Lists.{_∈_}
 use Rattle.laws.specs.Bindings.{Extends}
@@ -32,10 +32,11 @@ pub record PageLeaves (S : Schema) (g : ℕ) (page : List Triple) (s : State) (k
   pub termsApart : T (distinct sameTerm (k .state .store .terms))
   -- the graph's quads are the page's well typed triples
   pub graph : (q : Quad) → q .graph ≡ g → T (stored q (k .state .store .quads)) ↔ FromPage S page (k .state .store .terms) q
-  -- the quads of other graphs stay, in their order
+  -- the quads of other graphs stay
   pub others : keep (notOf g) (k .state .store .quads) ≡ keep (notOf g) (s .store .quads)
   pub elsewhere : (q : Quad) → (q .graph ≡ g → ⊥) → stored q (k .state .store .quads) ≡ stored q (s .store .quads)
-  -- no quad stands twice
+  -- the quads rise by graph, subject, property and object, so that none stands twice
+  pub quadsInOrder : T (inOrder (k .state .store .quads))
   pub quadsApart : T (distinct sameQuad (k .state .store .quads))
   -- the count of those that are not well typed
   pub skipped : k .skipped ≡ length (keep (λ r. not (wellTyped S r)) page)

@@ -10,7 +10,7 @@ use Rattle.definitions.specs.Types.{Datatype, Ty, plain, typeOfCode}
 use Rattle.definitions.specs.Scope.{variablesOf, bindersOf, isFree}
 use Rattle.definitions.specs.Typing.{scriptTyped}
 use Rattle.definitions.specs.Evaluate.{Quad, stored}
-use Rattle.definitions.specs.Machine.{Item, State}
+use Rattle.definitions.specs.Machine.{Item, State, inOrder}
 use Rattle.definitions.specs.Saved.{placeIn, offsetOf}
 use Rattle.definitions.specs.Calls.{Checked, constantsOf, reported}
 use Rattle.laws.specs.Lists.{All}
@@ -44,5 +44,7 @@ pub record WellTyped (c : Checked) (s : State) : Type 0 where
   pub variables : (v i : ℕ) → s .control .bindings v ≡ some i → VariableTyped c s v i
   -- each stored triple has a property in the schema and an object of its datatype
   pub triples : (q : Quad) → T (stored q (s .store .quads)) → QuadFacts (c .schema) (s .store .terms) (s .store .fetched) q
+  -- the quads stand in one order (document 02, Ask 10)
+  pub quadsInOrder : T (inOrder (s .store .quads))
   -- each stack item keeps the typing rules
   pub items : All (ItemTyped c s) (s .control .stack)

@@ -14,7 +14,7 @@ ghost use Rattle.tuples.specs.Asking.{tupleWidth, tuplesIn, entered, ent
 ghost use Rattle.tuples.specs.Lines.{lineRoom};
 use crate::put_lines;
 use definitions::BAD_RUN;
-use definitions::QUAD_NUMBERS;
+use definitions::QUAD_LIMIT;
 use definitions::SECONDS_AFTER;
 use definitions::SECONDS_BEFORE;
 use definitions::TERM_LIMIT;
@@ -64,7 +64,7 @@ pub fn put_entered(
         return put_refused(UNSOUND, out);
     }
     let run = read.saved;
-    let mut rows = [0u16; QUAD_NUMBERS];
+    let mut keys = [0u64; QUAD_LIMIT];
     let mut leasts = [0u8; TERM_LIMIT];
     let found = enter(
         terms,
@@ -73,7 +73,7 @@ pub fn put_entered(
         table,
         store,
         run,
-        &mut rows,
+        &mut keys,
         &mut leasts,
     );
     if found.refusal != 0 {
@@ -92,5 +92,5 @@ pub fn put_entered(
         quads,
         clock,
     };
-    put_lines(clean, script, context, table, &rows, &leasts, tuples, out)
+    put_lines(clean, script, context, table, &keys, &leasts, tuples, out)
 }

@@ -92,6 +92,7 @@ impl Bench {
         let mut filled = station;
         assert_eq!(filled.call(reference, &page).code, 0);
         self.row("the same page again", "512 quads", &filled, &page);
+        self.row("run call of 0 steps on these", "512 quads", &filled, &Call::run(0, 0));
         self.row("run call of 1 step on these", "512 quads", &filled, &Call::run(1, 0));
         Ok(())
     }

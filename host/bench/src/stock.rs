@@ -90,14 +90,15 @@ pub struct Workload {
     pub most: usize,
 }
 
+/// An each block that binds these variables in this order, over all graphs.
+fn search(name: &'static str, variables: &[u8], query: Query) -> Workload {
+    let open: Vec<_> = variables.iter().map(|v| (*v, None)).collect();
+    Workload { name, script: each(&open, query, success()), graphs: GRAPHS, most: 168 }
+}
+
 /// The searches that the benchmark is about.
 pub fn workloads() -> Vec<Workload> {
     let g = || var(G);
-    let search = |name, variables: &[u8], query| {
-        let open: Vec<_> = variables.iter().map(|v| (*v, None)).collect();
-        let script = each(&open, query, success());
-        Workload { name, script, graphs: GRAPHS, most: 168 }
-    };
     let stock = || both(has(g(), NAME, N), has(g(), SPEED, V));
     let join = |least: u16| both(stock(), filter(less(con(least), var(V))));
     let star = |query: Query| {
@@ -134,6 +135,9 @@ pub fn workloads() -> Vec<Workload> {
             &[G, S, N, V],
             both(join(SIXTY), pattern([con(0), con(0), con(NAME), con(NOBODY)])),
         ),
+        // Where a graph is looked for its subject is known; where a subject is looked for, its graph is not.
+        search("subject known, graph free s g n v", &[S, G, N, V], join(SIXTY)),
+        search("subject and graph free v s g", &[V, S, G], has(g(), SPEED, V)),
         search("join in the worst order n v s g", &[N, V, S, G], join(SIXTY)),
         one_graph(search("star n v a, then s", &[N, V, A, S], star(empty()))),
         one_graph(Workload {

@@ -161,9 +161,15 @@ impl<'a> Case<'a> {
             let what = format!("{} {label}: {} and {}: {}", call.name(), names[0], names[1], difference.what);
             Difference { what, ..difference }
         })?;
+        if let Some(how) = self.history.alike {
+            self.coverage.add("a store again", how);
+        }
         let (station, answer) = made.into_first();
         self.station = station;
         self.last = Some(answer.clone());
+        if answer.code == 0 && tampering.is_none() {
+            self.draw.answered(call);
+        }
         // A total is told without the tables, which may be of another length.
         if answer.code == 0 && !matches!(call, Call::Total { .. }) {
             self.evaluate()?;
@@ -187,6 +193,7 @@ impl<'a> Case<'a> {
     /// Makes a call on a station that was tampered with, and goes on from there now and then.
     fn tampered_call(&mut self) -> Result<(), Difference> {
         let kept = (self.station.clone(), self.last.clone(), self.history.steps);
+        let stores = self.history.stores.len();
         let (label, call) = self.draw.tampered_call(&mut self.station, self.last.as_ref());
         let tampering = match &self.watch {
             Watch::Keep(_) => Tampering::between(label, &kept.0, &self.station),
@@ -195,8 +202,10 @@ impl<'a> Case<'a> {
         let answer = self.call(&call, Some(&tampering))?;
         if answer.code == 0 && self.draw.rng.one_in(2) {
             self.history.tampered = true;
+            self.draw.answered(&call);
         } else {
             (self.station, self.last, self.history.steps) = kept;
+            self.history.stores.truncate(stores);
             if let Watch::Keep(replay) = &mut self.watch {
                 replay.moves.pop();
             }

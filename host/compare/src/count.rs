@@ -40,7 +40,11 @@ impl Coverage {
             self.add("reasons", format!("{} {} {why}", call.name(), answer.code));
         }
         if !tamper.is_empty() {
-            let verdict = if answer.code == 10 { "unsound" } else { "sound" };
+            let verdict = match answer.code {
+                1 => "not looked at",
+                10 => "unsound",
+                _ => "sound",
+            };
             self.add("tampered", format!("{tamper} {verdict}"));
         }
         if let Some(report) = answer.ran() {

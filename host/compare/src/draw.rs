@@ -11,11 +11,12 @@ pub mod tamper;
 pub mod tuples;
 pub mod wild;
 
-use crate::call::Station;
+use crate::call::{Call, Station};
 use pool::Pool;
 use rng::Rng;
 use second::check::Loaded;
 use second::script::{Kind, Node};
+use std::collections::BTreeMap;
 
 /// What a case draws from.
 #[derive(Clone, Debug)]
@@ -30,6 +31,8 @@ pub struct Draw {
     pub witnesses: Vec<(usize, Vec<u8>)>,
     /// Whether the loaded script has an each block.
     pub each: bool,
+    /// The page that each graph had last, with the graph's number.
+    taken: BTreeMap<u64, Vec<u8>>,
 }
 
 /// Whether a node is a block of this mode.
@@ -44,12 +47,20 @@ impl Draw {
         let pool = Pool::new(&mut rng);
         let (station, sort) = first::station(&mut rng, &pool);
         let asking = Rng::new(!seed, index);
-        (Draw { rng, asking, pool, witnesses: Vec::new(), each: false }, station, sort)
+        let draw = Draw { rng, asking, pool, witnesses: Vec::new(), each: false, taken: BTreeMap::new() };
+        (draw, station, sort)
     }
 
     /// Learns what the load has found.
     pub fn loaded(&mut self, loaded: &Loaded) {
         self.witnesses = pages::witnesses(&mut self.rng, loaded);
         self.each = loaded.script.nodes.iter().any(|node| is_block(node, true));
+    }
+
+    /// Learns of a call that was not refused.
+    pub fn answered(&mut self, call: &Call) {
+        if let Call::Page { graph, page, .. } = call {
+            self.taken.insert(*graph, page.clone());
+        }
     }
 }

@@ -1,5 +1,9 @@
 //! Judging: what two engines owe each other on one call, and what either of them promises.
 
+mod stores;
+
+pub use stores::Stores;
+
 use crate::call::{Call, Made};
 use crate::draw::is_block;
 use second::calls::FAULT;
@@ -24,6 +28,8 @@ pub enum Breach {
     Steps,
     /// Steps, what is left on the stack and the end do not go with the total of a script without an each block.
     Total,
+    /// Two stations with the same terms by number and the same quads have other bytes.
+    Stores,
     /// What the type printers wrote differs.
     Printer,
     /// What an evaluator of tuples wrote is not what the definitions give.
@@ -57,6 +63,10 @@ pub struct History {
     pub once: Option<Once>,
     /// Steps taken since the load.
     pub steps: u64,
+    /// The stores met since the load.
+    pub stores: Stores,
+    /// How the last call came to a store that was there before, if it is a page that did.
+    pub alike: Option<&'static str>,
 }
 
 /// A script with no each block: how many records of kinds 71 to 74 stand from each one down, by its offset.
@@ -116,6 +126,11 @@ pub fn judge(made: &Made, tampered: bool, history: &mut History) -> Result<(), D
     }
     if answer.code == 10 && !tampered {
         return differs(Breach::Unsound, "refusal 10 without tampering".to_string());
+    }
+    history.alike = None;
+    // A total is not lent the tables.
+    if answer.code == 0 && !matches!(made.call, Call::Total { .. }) {
+        history.alike = history.stores.meet(made.call, station)?;
     }
     if let (Call::Run { budget, .. }, 0) = (made.call, answer.code) {
         ran(answer.ran(), *budget, history)?;

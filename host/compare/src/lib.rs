@@ -8,7 +8,7 @@
 //! |---|---|
 //! | [`draw`] | draws words, scripts, pages, calls, damage and tuples |
 //! | [`call`] | stations, calls and engines: the proved one, the second, and the second by the definitions; type printer and evaluator as programs |
-//! | [`judge`] | what two engines owe each other on one call |
+//! | [`judge`] | what two engines owe each other on one call, and what either owes over the calls of a case |
 //! | [`count`] | what was met, and whether it was met often enough |
 //! | [`case`] | one case, from drawing to judging |
 //! | [`replay`], [`shrink`] | a case as a list of moves without chance, and made smaller while it still shows its difference |

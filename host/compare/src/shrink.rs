@@ -4,6 +4,7 @@ pub mod tree;
 
 use crate::call::Call;
 use crate::replay::{Asked, Move, Replay, Tampering};
+use std::collections::BTreeSet;
 use std::time::{Duration, Instant};
 use tree::Node;
 use willetcoffer::limits::{SLOT_WIDTH, TEXT_WIDTH};
@@ -43,6 +44,7 @@ pub fn shrink(replay: Replay, patience: Patience, fails: &mut dyn FnMut(&Replay)
         shrink.moves();
         shrink.asked();
         shrink.calls();
+        shrink.shared_records();
         shrink.tampering();
         for place in 0..shrink.cards() {
             shrink.card(place);
@@ -158,6 +160,23 @@ impl Shrink<'_> {
                 }
             }
         }
+    }
+
+    /// Fewer records, each left out of all pages at once, as what shows may be that two pages have the same ones.
+    fn shared_records(&mut self) {
+        let pages = self.best.moves.iter().filter_map(|m| match &m.call {
+            Call::Page { page, .. } => Some(page),
+            _ => None,
+        });
+        let all: BTreeSet<Vec<u8>> = pages.flat_map(|page| records(page)).map(<[u8]>::to_vec).collect();
+        self.pieces(all.into_iter().collect(), &|replay, rest: &[Vec<u8>]| {
+            for m in &mut replay.moves {
+                if let Call::Page { page, .. } = &mut m.call {
+                    let kept: Vec<&[u8]> = records(page).filter(|record| rest.iter().any(|r| r == record)).collect();
+                    *page = kept.concat();
+                }
+            }
+        });
     }
 
     /// No tampering, the old card, fewer changed bytes.

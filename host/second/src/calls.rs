@@ -5,20 +5,23 @@ use crate::check::{check, read, Typer};
 use crate::eval::{Fault, Quad, Store};
 use crate::limits::{BUDGET, PAGE_REPORT, QUAD_TABLE, RUN_REPORT, SAVED, SLOT, TERM_TABLE, TOTAL_REPORT};
 use crate::machine::{Machine, State, World};
+use crate::order::{self, Order};
 use crate::refusal::{demand, Refusal};
 use crate::saved;
 use crate::search::{Naive, Search};
 use crate::seek::Seek;
-use crate::sound::{sound, Lent};
+use crate::sound::{sound, Held, Lent};
 use crate::term::is_second;
 use crate::terms::Terms;
 use crate::{arcs, assignments, page as pages};
 
-/// An engine: how it works out types and how it finds answers.
+/// An engine: how it works out types, keeps quads in order and finds answers.
 #[derive(Clone, Copy)]
 pub struct Engine<'a> {
     /// How types are worked out.
     pub typer: Typer,
+    /// How quads are kept in order.
+    pub order: Order,
     /// How answers are found.
     pub search: &'a dyn Search,
 }
@@ -60,12 +63,12 @@ pub(crate) fn faulted(fault: Fault) -> Refusal {
 impl Engine<'_> {
     /// The fast engine.
     pub const fn fast() -> Engine<'static> {
-        Engine { typer: arcs::solve, search: &Seek }
+        Engine { typer: arcs::solve, order: order::FAST, search: &Seek }
     }
 
     /// The engine by the definitions.
     pub const fn plain() -> Engine<'static> {
-        Engine { typer: assignments::solve, search: &Naive }
+        Engine { typer: assignments::solve, order: order::PLAIN, search: &Naive }
     }
 
     /// Loads terms, schema and script: writes both tables and the saved run.
@@ -95,7 +98,7 @@ impl Engine<'_> {
         lengths(term_table, quad_table)?;
         let saved = lent::<SAVED>(saved)?;
         let report = lent::<RUN_REPORT>(report)?;
-        let mut held = sound(self.typer, &Lent { terms, schema, script, term_table, quad_table, saved })?;
+        let mut held = sound(self.typer, self.order, &Lent { terms, schema, script, term_table, quad_table, saved })?;
         demand(budget <= BUDGET, 11, "budget")?;
         demand(is_second(now), 11, "now")?;
         let store = Store { terms: &held.loaded.terms, quads: &held.quads, now };
@@ -129,21 +132,21 @@ impl Engine<'_> {
         lengths(term_table, quad_table)?;
         let saved = lent::<SAVED>(saved)?;
         let report = lent::<PAGE_REPORT>(report)?;
-        let mut held = sound(self.typer, &Lent { terms, schema, script, term_table, quad_table, saved })?;
-        let loaded = &mut held.loaded;
+        let mut held = sound(self.typer, self.order, &Lent { terms, schema, script, term_table, quad_table, saved })?;
+        let terms = &held.loaded.terms;
         let number = usize::try_from(graph).unwrap_or(usize::MAX);
-        demand(number < loaded.terms.len(), 12, "page graph no term")?;
-        demand(loaded.terms.is_uri(number), 12, "page graph no URI")?;
+        demand(number < terms.len(), 12, "page graph no term")?;
+        demand(terms.is_uri(number), 12, "page graph no URI")?;
         let triples = pages::read(page)?;
-        let machine = &mut held.machine;
-        let skipped =
-            pages::take_in(&triples, number as u16, &loaded.schema, &mut loaded.terms, &mut held.quads, machine)?;
+        let skipped = pages::take_in(&triples, number as u16, self.order, &mut held)?;
+        let Held { loaded, quads, machine } = &held;
         write_terms(&loaded.terms, term_table);
-        write_quads(&held.quads, quad_table);
-        *saved = saved::encode(&loaded.script, &loaded.types, machine, held.quads.len());
+        write_quads(quads, quad_table);
+        *saved = saved::encode(&loaded.script, &loaded.types, machine, quads.len());
         *report = skipped.to_le_bytes();
         Ok(())
     }
+
     /// Tells how many steps the script takes in all: writes the report, 0 where an each block leaves that open.
     pub fn total(&self, [terms, schema, script]: [&[u8]; 3], report: &mut [u8]) -> Outcome {
         let report = lent::<TOTAL_REPORT>(report)?;

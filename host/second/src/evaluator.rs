@@ -18,6 +18,7 @@ use crate::check::Typer;
 use crate::count;
 use crate::eval::{Evaluate, Store};
 use crate::limits::{EVALUATOR, QUAD_TABLE, SAVED, TERM_TABLE, TUPLE};
+use crate::order::{self, Order};
 use crate::refusal::{demand, Refusal};
 use crate::script::Kind;
 use crate::sound::{sound, Held, Lent};
@@ -86,13 +87,28 @@ impl Asked<'_> {
     }
 }
 
+/// How types are worked out, the order of quads is tested, and tuples are evaluated.
+#[derive(Clone, Copy)]
+pub struct Ways {
+    /// The types.
+    pub typer: Typer,
+    /// The order.
+    pub order: Order,
+    /// The tuples.
+    pub evaluate: Evaluate,
+}
+
+/// Outcomes and counts as they are defined.
+pub const DEFINED: Ways = Ways { typer: arcs::solve, order: order::PLAIN, evaluate: count::evaluate };
+
 /// Sees a line for each tuple; gives the only line where there is no tuple to speak of.
-fn tuples(typer: Typer, evaluate: Evaluate, input: &[u8], see: &mut dyn FnMut(Line)) -> Result<(), Line> {
+fn tuples(ways: Ways, input: &[u8], see: &mut dyn FnMut(Line)) -> Result<(), Line> {
     if input.len() > EVALUATOR {
         return Err(Line::TooLong);
     }
+    let Ways { typer, order, evaluate } = ways;
     let Asked { lent, now, tuples } = Asked::read(input).ok_or(Line::CutOff)?;
-    let Held { loaded, quads, mut machine } = sound(typer, &lent)?;
+    let Held { loaded, quads, mut machine } = sound(typer, order, &lent)?;
     demand(is_second(now), 11, "now")?;
     let top = machine.stack.last().map(|item| &loaded.script.nodes[item.node].kind);
     let Some(Kind::Block(block)) = top else { return Err(Line::NoBlock) };
@@ -115,21 +131,21 @@ fn tuples(typer: Typer, evaluate: Evaluate, input: &[u8], see: &mut dyn FnMut(Li
     Ok(())
 }
 
-/// Sees each line that the evaluator writes for this input, with types worked out and tuples evaluated in these ways.
-pub fn each_line(typer: Typer, evaluate: Evaluate, input: &[u8], see: &mut dyn FnMut(Line)) {
-    if let Err(line) = tuples(typer, evaluate, input, see) {
+/// Sees each line that the evaluator writes for this input, worked out in these ways.
+pub fn each_line(ways: Ways, input: &[u8], see: &mut dyn FnMut(Line)) {
+    if let Err(line) = tuples(ways, input, see) {
         see(line);
     }
 }
 
-/// What the evaluator writes for this input, with types worked out and tuples evaluated in these ways.
-pub fn evaluate_with(typer: Typer, evaluate: Evaluate, input: &[u8]) -> String {
+/// What the evaluator writes for this input, worked out in these ways.
+pub fn evaluate_with(ways: Ways, input: &[u8]) -> String {
     let mut text = String::new();
-    each_line(typer, evaluate, input, &mut |line| text += &format!("{line}\n"));
+    each_line(ways, input, &mut |line| text += &format!("{line}\n"));
     text
 }
 
 /// What the evaluator writes for this input: outcomes and counts as they are defined.
 pub fn evaluate(input: &[u8]) -> String {
-    evaluate_with(arcs::solve, count::evaluate, input)
+    evaluate_with(DEFINED, input)
 }

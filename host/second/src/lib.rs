@@ -10,9 +10,10 @@
 //! |---|---|---|
 //! | types of a script | [`assignments`]: every assignment, judged by [`rules`] | [`arcs`]: arc consistency on sets of types |
 //! | first answer of a block | [`search::Naive`]: every tuple, all parts evaluated | [`seek::Seek`]: driven by the patterns |
+//! | order of the quads | [`order::PLAIN`]: each before all after it | [`order::FAST`]: a quad as one number |
 //! | outcome and count of a tuple | [`count`]: all parts evaluated, then counted by their outcomes | [`early`]: one walk that leaves parts out |
 //!
-//! An [`Engine`] holds a typer and a search; [`Engine::fast`] and [`Engine::plain`] are the two that the comparison uses. The
+//! An [`Engine`] holds a typer, an order and a search; [`Engine::fast`] and [`Engine::plain`] are the two that the comparison uses. The
 //! calls take and give the bytes of the C interface; each returns nothing, or its refusal.
 //!
 //! It shares no code with the rest of the workspace: limits, offsets and records stand here in its own words, so that a slip
@@ -34,6 +35,7 @@ pub mod lang;
 pub mod limits;
 pub mod machine;
 pub mod note;
+pub mod order;
 pub mod page;
 pub mod pattern;
 pub mod printer;

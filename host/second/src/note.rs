@@ -1,4 +1,4 @@
-//! What an evaluation meets on its way, noted for a comparison to count.
+//! What a call meets on its way, noted for a comparison to count.
 
 use std::cell::Cell;
 
@@ -19,6 +19,12 @@ pub enum Note {
     Or,
     /// The boolean of a filter was unknown.
     Filter,
+    /// A page's records gave its quads in another order than the store's.
+    AnotherOrder,
+    /// A page gave a quad twice.
+    Twice,
+    /// A page's quads went before those of another graph.
+    BeforeAnother,
     /// The count leaves the second part of an or out.
     OrLeftOut,
     /// The count leaves the second part of an and out.
@@ -43,8 +49,18 @@ pub enum Note {
 
 impl Note {
     /// Those that a call takes.
-    pub const OF_CALLS: [Note; 7] =
-        [Note::Untagged, Note::Tagged, Note::HyphensOnly, Note::Not, Note::And, Note::Or, Note::Filter];
+    pub const OF_CALLS: [Note; 10] = [
+        Note::Untagged,
+        Note::Tagged,
+        Note::HyphensOnly,
+        Note::Not,
+        Note::And,
+        Note::Or,
+        Note::Filter,
+        Note::AnotherOrder,
+        Note::Twice,
+        Note::BeforeAnother,
+    ];
     /// Those that the count of a tuple takes.
     pub const OF_COUNTS: [Note; 10] = [
         Note::OrLeftOut,
@@ -69,6 +85,9 @@ impl Note {
             Note::And => ("unknown under", "and"),
             Note::Or => ("unknown under", "or"),
             Note::Filter => ("unknown under", "filter"),
+            Note::AnotherOrder => ("a page's quads", "in another order"),
+            Note::Twice => ("a page's quads", "one twice"),
+            Note::BeforeAnother => ("a page's quads", "before another graph's"),
             Note::OrLeftOut => ("second part", "of 52 left out"),
             Note::AndLeftOut => ("second part", "of 53 left out"),
             Note::BothLeftOut => ("second part", "of 62 left out"),

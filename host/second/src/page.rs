@@ -1,13 +1,13 @@
 //! Pages: reading their records and taking their triples in.
 
+use crate::check::Loaded;
 use crate::eval::Quad;
-use crate::hash::Set;
 use crate::limits::{GRAPHS, PAGE, QUADS, TERMS, TEXT};
-use crate::machine::Machine;
+use crate::note::{note, Note};
+use crate::order::Order;
 use crate::refusal::{demand, refuse, Refusal};
-use crate::schema::Schema;
+use crate::sound::Held;
 use crate::term::{uri_body, Term, Uri};
-use crate::terms::Terms;
 
 /// A triple of a page.
 #[derive(Clone, Copy, PartialEq, Eq, Debug)]
@@ -49,19 +49,12 @@ pub fn read(mut page: &[u8]) -> Result<Vec<Triple>, Refusal> {
 }
 
 /// Takes a graph's page in: its triples replace the quads that the graph had, new terms are numbered in page order, the
-/// graph joins the fetched list. Gives the number of skipped records, or refusal 14 if a limit is passed in the end. Quads
-/// of other graphs stay in their order; the page's follow in page order, each at its first place.
-pub fn take_in(
-    triples: &[Triple],
-    graph: u16,
-    schema: &Schema,
-    terms: &mut Terms,
-    quads: &mut Vec<Quad>,
-    machine: &mut Machine,
-) -> Result<u32, Refusal> {
+/// graph joins the fetched list, and all quads stand in order. Gives the number of skipped records, or refusal 14 if a limit is
+/// passed in the end.
+pub fn take_in(triples: &[Triple], graph: u16, order: Order, held: &mut Held) -> Result<u32, Refusal> {
+    let Held { loaded: Loaded { schema, terms, .. }, quads, machine } = held;
     let mut skipped = 0;
-    let mut seen = Set::default();
-    quads.retain(|quad| quad[0] != graph);
+    let mut page = Vec::new();
     for Triple { subject, property, object } in triples {
         if !schema.datatype(property).is_some_and(|datatype| object.has_datatype(datatype)) {
             skipped += 1;
@@ -70,11 +63,10 @@ pub fn take_in(
         let subject = terms.add(Term::Uri(*subject), schema);
         let property = terms.add(Term::Uri(*property), schema);
         let object = terms.add(*object, schema);
-        let quad = [graph, subject as u16, property as u16, object as u16];
-        if seen.insert(quad) {
-            quads.push(quad);
-        }
+        page.push([graph, subject as u16, property as u16, object as u16]);
     }
+    quads.retain(|quad| quad[0] != graph);
+    put(order, page, quads);
     if !machine.fetched.contains(&graph) {
         machine.fetched.push(graph);
     }
@@ -82,4 +74,19 @@ pub fn take_in(
     demand(quads.len() <= QUADS, 14, "quads")?;
     demand(machine.fetched.len() <= GRAPHS, 14, "graphs")?;
     Ok(skipped)
+}
+
+/// Puts a page's quads to those of the other graphs; where that is more than to append them, it is noted.
+fn put(order: Order, page: Vec<Quad>, quads: &mut Vec<Quad>) {
+    if !page.is_sorted() {
+        note(Note::AnotherOrder);
+    }
+    if page.first().zip(quads.last()).is_some_and(|(page, last)| page[0] < last[0]) {
+        note(Note::BeforeAnother);
+    }
+    let given = page.len() + quads.len();
+    (order.put)(quads, page);
+    if quads.len() < given {
+        note(Note::Twice);
+    }
 }

@@ -6,10 +6,14 @@
 //! ([`crate::early`]): it holds then or, false or unknown, never. What is skipped cannot hold. Before going deeper, the
 //! variables after the next are asked too, so that a hopeless choice ends early.
 //!
+//! The quads stand in their order ([`crate::order`]), so those of one graph, or of one graph and subject, stand together, and
+//! bisection finds the first of them.
+//!
 //! It gives the same first answer as [`crate::search::Naive`] wherever that meets no fault. A fault counts as not holding.
 
 use crate::early;
-use crate::eval::{Bindings, Fault};
+use crate::eval::{Bindings, Fault, Quad};
+use crate::order::packed;
 use crate::script::{Name, Query};
 use crate::search::{Search, Task, Tuple};
 
@@ -118,40 +122,93 @@ impl Seeker<'_> {
     /// The least number from `from` on that the variable has in a quad that fits the pattern; `from` itself if the pattern
     /// does not name the variable and some quad fits.
     fn scan(&self, names: &[Name; 4], variable: u8, from: u16) -> u16 {
-        let (mut mask, mut fixed) = (0u64, 0u64);
-        let mut sought = [0u32; 4];
-        let mut count = 0;
-        for (place, name) in names.iter().enumerate() {
-            let shift = 16 * place as u32;
+        let wanted = Wanted::new(names, variable, &self.chosen);
+        let rows = wanted.may_fit(self.task.store.quads, from).iter().map(row);
+        let first = wanted.first();
+        if first == 0 {
+            return wanted.least(rows, from, self.end);
+        }
+        wanted.least(rows.take_while(|row| row & first == wanted.fixed & first), from, self.end)
+    }
+}
+
+/// A quad as it stands, in one number: the graph lowest. It is tested in this form, which takes no turning round.
+fn row(quad: &Quad) -> u64 {
+    quad.iter().rev().fold(0, |bits, number| bits << 16 | u64::from(*number))
+}
+
+/// What a pattern asks of a quad, in one number as [`row`] has it.
+struct Wanted {
+    /// The places whose numbers are known.
+    mask: u64,
+    /// These numbers.
+    fixed: u64,
+    /// In how many places the sought variable stands.
+    sought: usize,
+    /// How far from the lowest bit each of these is.
+    shifts: [u32; 4],
+}
+
+impl Wanted {
+    fn new(names: &[Name; 4], variable: u8, chosen: &Bindings) -> Wanted {
+        let mut wanted = Wanted { mask: 0, fixed: 0, sought: 0, shifts: [0; 4] };
+        for (name, shift) in names.iter().zip([0, 16, 32, 48]) {
             let number = match name {
                 Name::Const(number) => Some(*number),
                 Name::Var(v) if *v == variable => {
-                    sought[count] = shift;
-                    count += 1;
+                    wanted.shifts[wanted.sought] = shift;
+                    wanted.sought += 1;
                     None
                 }
-                Name::Var(v) => self.chosen[usize::from(*v)],
+                Name::Var(v) => chosen[usize::from(*v)],
             };
             if let Some(number) = number {
-                mask |= 0xffff << shift;
-                fixed |= u64::from(number) << shift;
+                wanted.mask |= 0xffff << shift;
+                wanted.fixed |= u64::from(number) << shift;
             }
         }
-        let mut best = self.end;
-        for quad in self.task.store.quads {
-            let row = pack(quad);
-            if row & mask != fixed {
+        wanted
+    }
+
+    /// Those of the known places that weigh most: no unknown one stands before them. All quads that fit agree in them, and stand together.
+    fn first(&self) -> u64 {
+        let bits = self.mask.trailing_ones();
+        u64::MAX.checked_shr(u64::BITS - bits).unwrap_or(0)
+    }
+
+    /// Whether the variable stands right after these, so that among the quads that agree in them its numbers rise.
+    fn rises(&self) -> bool {
+        self.sought > 0 && self.shifts[0] == self.mask.trailing_ones()
+    }
+
+    /// The quads from the first on that may fit.
+    fn may_fit<'a>(&self, quads: &'a [Quad], from: u16) -> &'a [Quad] {
+        let next = if self.rises() { u64::from(from) << self.shifts[0] } else { 0 };
+        let least = self.fixed & self.first() | next;
+        if least == 0 {
+            return quads;
+        }
+        let least = packed(&[0, 16, 32, 48].map(|shift| (least >> shift) as u16));
+        &quads[quads.partition_point(|quad| packed(quad) < least)..]
+    }
+
+    /// The least number from `from` on that the variable has in one of the rows that fit, or `end`; `from` where it stands nowhere
+    /// and one fits.
+    fn least(&self, rows: impl Iterator<Item = u64>, from: u16, end: u16) -> u16 {
+        let mut best = end;
+        for row in rows {
+            if row & self.mask != self.fixed {
                 continue;
             }
-            if count == 0 {
+            let Some((shift, others)) = self.shifts[..self.sought].split_first() else {
                 return from;
-            }
-            let number = (row >> sought[0]) as u16;
-            let agree = sought[1..count].iter().all(|shift| (row >> shift) as u16 == number);
+            };
+            let number = (row >> shift) as u16;
+            let agree = others.iter().all(|shift| (row >> shift) as u16 == number);
             if agree && from <= number && number < best {
                 best = number;
-                if best == from {
-                    return best;
+                if best == from || self.rises() {
+                    break;
                 }
             }
         }
@@ -162,9 +219,4 @@ impl Seeker<'_> {
 /// Whether it was found to hold.
 fn held(evaluated: Result<(bool, u32), Fault>) -> bool {
     evaluated.is_ok_and(|(holds, _)| holds)
-}
-
-/// A quad as one number, the graph lowest.
-fn pack(quad: &[u16; 4]) -> u64 {
-    quad.iter().rev().fold(0, |bits, number| bits << 16 | u64::from(*number))
 }

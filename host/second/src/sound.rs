@@ -5,6 +5,7 @@ use crate::eval::Quad;
 use crate::hash::Set;
 use crate::limits::{SAVED, SLOT};
 use crate::machine::{Item, Machine};
+use crate::order::Order;
 use crate::refusal::{demand, refuse, Refusal};
 use crate::saved::{self, SavedRun};
 use crate::scope;
@@ -35,14 +36,14 @@ pub struct Lent<'a> {
 pub struct Held {
     /// Schema, script and types; its terms are all terms in use.
     pub loaded: Loaded,
-    /// The stored quads in table order.
+    /// The stored quads, in their order.
     pub quads: Vec<Quad>,
     /// The machine.
     pub machine: Machine,
 }
 
 /// Everything decoded, or refusal 10.
-pub fn sound(typer: Typer, lent: &Lent) -> Result<Held, Refusal> {
+pub fn sound(typer: Typer, order: Order, lent: &Lent) -> Result<Held, Refusal> {
     let loaded = check(typer, lent.terms, lent.schema, lent.script);
     let Ok(mut loaded) = loaded else {
         return refuse(10, "terms, schema or script do not load");
@@ -53,6 +54,7 @@ pub fn sound(typer: Typer, lent: &Lent) -> Result<Held, Refusal> {
     use_terms(&mut loaded, lent.term_table)?;
     let fetched = fetched_graphs(&loaded.terms, &run)?;
     let quads = stored_quads(&loaded.terms, &run, lent.quad_table)?;
+    demand((order.stands)(&quads), 10, "quads not in rising order")?;
     let stack = stack(&loaded, &run)?;
     bindings(&loaded, &run)?;
     let machine = Machine { stack, bindings: run.bound, fetched };
@@ -88,13 +90,12 @@ fn fetched_graphs(terms: &Terms, run: &SavedRun) -> Result<Vec<u16>, Refusal> {
     Ok(run.fetched.clone())
 }
 
-/// Quads are distinct, well typed, in fetched graphs, the rest of their table zero.
+/// Quads are well typed, in fetched graphs, the rest of their table zero. That they are distinct is part of their order.
 fn stored_quads(terms: &Terms, run: &SavedRun, table: &[u8]) -> Result<Vec<Quad>, Refusal> {
     let (used, free) = table.split_at(8 * run.quads);
     demand(all_zero(free), 10, "free quad place not zero")?;
     let number = |row: &[u8], at: usize| u16::from_le_bytes([row[at], row[at + 1]]);
     let quads: Vec<Quad> = used.chunks(8).map(|row| [0, 2, 4, 6].map(|at| number(row, at))).collect();
-    let mut seen = Set::default();
     for quad in &quads {
         let [_, subject, property, object] = quad.map(usize::from);
         demand(run.fetched.contains(&quad[0]), 10, "quad in no fetched graph")?;
@@ -102,7 +103,6 @@ fn stored_quads(terms: &Terms, run: &SavedRun, table: &[u8]) -> Result<Vec<Quad>
         let typed = terms.range(property).map(|datatype| terms.has_type(object, Type::Data(datatype)));
         demand(typed.is_some(), 10, "quad's property no schema URI")?;
         demand(typed == Some(true), 10, "quad's object of another type")?;
-        demand(seen.insert(*quad), 10, "quad twice")?;
     }
     Ok(quads)
 }

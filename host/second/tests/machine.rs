@@ -250,7 +250,7 @@ fn a_page_names_any_uri_and_replaces_only_its_graph() {
     let quads = s.quads();
     assert_eq!(quads, vec![[0, 5, 4, 6], [0, 7, 4, 8], [5, 5, 4, 6]]);
     assert_eq!(s.page(0, &name("l:b", "c")), Ok(0));
-    assert_eq!(s.quads(), vec![[5, 5, 4, 6], [0, 7, 4, 9]]);
+    assert_eq!(s.quads(), vec![[0, 7, 4, 9], [5, 5, 4, 6]], "graph 0 comes before graph 5");
     assert_eq!(s.terms_in_use().len(), 10, "terms stay");
     assert_eq!((s.number(4), s.number(70), s.number(72), s.number(74)), (3, 0, 5, 4));
     // A bad triple given twice counts 2; a wholly skipped page empties its graph.

@@ -5,15 +5,16 @@ use crate::raw::{TablesMut, TablesRef};
 use crate::saved::SavedRun;
 use crate::term::Term;
 
-/// A term table and a quad table. A load fills them anew, a page call writes them, a run call only reads them.
+/// A term table and a quad table. A load fills them anew, a page call writes them, a run call only reads them. Where terms by number and
+/// quads agree, so do the bytes.
 #[derive(Clone, PartialEq, Eq, Debug)]
 pub struct Tables {
     terms: Box<[u8; TERM_TABLE_WIDTH]>,
     quads: Box<[u8; QUAD_TABLE_WIDTH]>,
 }
 
-/// A stored quad, by term numbers.
-#[derive(Clone, Copy, PartialEq, Eq, Hash, Debug)]
+/// A stored quad, by term numbers. Quads are in the order in which a store has them: by graph, then subject, property, object.
+#[derive(Clone, Copy, PartialEq, Eq, PartialOrd, Ord, Hash, Debug)]
 pub struct Quad {
     /// The graph that it was fetched from.
     pub graph: u16,
@@ -68,7 +69,7 @@ impl Tables {
         u16::try_from(place).ok()
     }
 
-    /// The quads in use, in table order; their number stands in the saved run.
+    /// The quads in use, rising and each once; their number stands in the saved run.
     pub fn quads<'a>(&'a self, saved: &SavedRun) -> impl Iterator<Item = Quad> + use<'a> {
         self.quads.chunks(QUAD_WIDTH).take(saved.quads()).map(|row| {
             let [graph, subject, property, object] = [0, 2, 4, 6].map(|at| u16::from_le_bytes([row[at], row[at + 1]]));

@@ -4,7 +4,8 @@ use willetcoffer::limits::{
     BUDGET_LIMIT, GRAPH_LIMIT, PAGE_LIMIT, SECONDS_AFTER, SECONDS_BEFORE, SLOT_WIDTH, TEXT_WIDTH,
 };
 use willetcoffer::limits::{
-    PAGE_REPORT_WIDTH, QUAD_TABLE_WIDTH, RUN_REPORT_WIDTH, SAVED_WIDTH, TERM_TABLE_WIDTH, TOTAL_REPORT_WIDTH,
+    PAGE_REPORT_WIDTH, QUAD_TABLE_WIDTH, QUAD_WIDTH, RUN_REPORT_WIDTH, SAVED_WIDTH, TERM_TABLE_WIDTH,
+    TOTAL_REPORT_WIDTH,
 };
 use willetcoffer::page::{record_width, records, triple};
 use willetcoffer::raw::{self, TablesMut, TablesRef};
@@ -208,6 +209,42 @@ fn from_load_to_end() {
     assert_eq!((saved.stack().count(), saved.quads()), (0, 1));
     assert_eq!(saved.variable_type(16), None);
     assert_eq!(saved.binding(255), None);
+}
+
+/// Two yards with the speeds of two locomotives. Terms: 0 and 1 the yards, 2 and 3 the locomotives, 4 and 5 the integers 1 and 2; then
+/// p:speed 6.
+#[test]
+fn one_order_for_quads() {
+    let listed = [uri("u:north"), uri("u:south"), uri("u:a"), uri("u:b"), integer(1), integer(2)];
+    let card = Card::new(&listed, &[(uri("p:speed"), Datatype::Decimal)], success());
+    let filled = |pages: [(u16, Vec<u8>); 2]| {
+        let mut tables = Tables::new();
+        let mut saved = card.load(&mut tables).unwrap();
+        for (graph, page) in pages {
+            assert_eq!(card.page(&mut tables, &mut saved, graph, &page), Ok(PageReport { skipped: 0 }));
+        }
+        (tables, saved)
+    };
+    let [a_1, a_2, b_1, b_2] = [("u:a", 1), ("u:a", 2), ("u:b", 1), ("u:b", 2)].map(|(loco, n)| speed(loco, n));
+    let backwards = [(1, [&b_2[..], &a_1].concat()), (0, [&b_1[..], &a_2, &b_1].concat())];
+    let (mut tables, mut saved) = filled(backwards);
+    let quads: Vec<[u16; 4]> = tables.quads(&saved).map(|q| [q.graph, q.subject, q.property, q.object]).collect();
+    assert_eq!(quads, [[0, 2, 6, 5], [0, 3, 6, 4], [1, 2, 6, 4], [1, 3, 6, 5]]);
+    assert!(tables.quads(&saved).is_sorted());
+
+    // Filled alike, the same bytes; and a page taken twice changes nothing.
+    let (forwards, _) = filled([(0, [&a_2[..], &b_1].concat()), (1, [&a_1[..], &b_2].concat())]);
+    assert_eq!(tables, forwards);
+    assert_eq!(card.page(&mut tables, &mut saved, 0u16, &[b_1, a_2].concat()), Ok(PageReport { skipped: 0 }));
+    assert_eq!(tables, forwards);
+
+    // Another order is unsound, though it is the same set of quads.
+    let mut bytes = *tables.quad_bytes();
+    bytes[..2 * QUAD_WIDTH].rotate_left(QUAD_WIDTH);
+    let mut turned = Tables::from_bytes(Box::new(*tables.term_bytes()), Box::new(bytes));
+    assert_eq!(card.run(&tables, &mut saved, 0, 0), Ok(RunReport { steps: 0, state: State::Spent }));
+    assert_eq!(card.run(&turned, &mut saved, 0, 0), Err(Refusal::Unsound));
+    assert_eq!(card.page(&mut turned, &mut saved, 0u16, &[]), Err(Refusal::Unsound));
 }
 
 #[test]

@@ -265,7 +265,7 @@ returns-7 c =
     all-found _ _ _ (c₁₅ .args .table .now) (c₁₅ .args .store .now) (c₁₅ .args .saved) (c₁₄ .check-card .ensures .0) (c₁₂ .if1 .left) (c₁₄ .check-card .ensures .1) (c₁₅ .pre .0)
     (c₁₁ .counted .ensures) (c₁₀ .count .given .1) (c₇ .terms-sound .ensures) (not-false _ (c₆ .if3 .left)) (omega (arith, c₁₃ .leasts .given, c₁₅ .pre .1 .1 .1))
     (c₅ .least-codes .ensures) (c₄ .store-sound .ensures .0) (not-false _ (c₂ .if4 .left)) (c₉ .same .ensures .0) (not-false _ (c₈ .if2 .left)) (c₁ .control-sound .ensures)
-    (not-false _ (c .if5 .left)) _ (omega (arith, c₃ .rows .given, c₁₅ .pre .1 .1 .0)) (c₄ .store-sound .ensures .1)
+    (not-false _ (c .if5 .left)) _ (omega (arith, c₃ .keys .given, c₁₅ .pre .1 .1 .0)) (c₄ .store-sound .ensures .1)
 
 pub sound-spec : {M : Type 1} → statement M
 sound-spec =

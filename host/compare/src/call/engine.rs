@@ -6,8 +6,9 @@ use second::assignments;
 use second::count;
 use second::early;
 use second::eval::{Evaluate, Fault};
-use second::evaluator::evaluate_with;
+use second::evaluator::{evaluate_with, Ways};
 use second::note::{take_notes, Note};
+use second::order::{self, Order};
 use second::printer::print_with;
 use second::rules::Env;
 use second::script::Script;
@@ -60,15 +61,17 @@ pub struct Second<S> {
     /// For loads and the printer, and for the other calls.
     typers: [second::check::Typer; 2],
     search: S,
+    order: Order,
     evaluate: Evaluate,
     why: Cell<&'static str>,
     notes: RefCell<Vec<Note>>,
 }
 
 /// An engine with these parts: how types are worked out in loads and by the printer, and in the other calls; and how
-/// answers are found. It evaluates tuples by giving up early.
+/// answers are found. It keeps quads in order as the fast engine does, and evaluates tuples by giving up early.
 pub fn with<S>(name: &'static str, typers: [second::check::Typer; 2], search: S) -> Second<S> {
-    Second { name, typers, search, evaluate: early::evaluate, why: Cell::new(""), notes: RefCell::default() }
+    let (why, notes) = (Cell::new(""), RefCell::default());
+    Second { name, typers, search, order: order::FAST, evaluate: early::evaluate, why, notes }
 }
 
 /// The fast engine.
@@ -101,10 +104,16 @@ fn counted(script: &Script, terms: &Terms) -> Result<Env, Refusal> {
 
 /// The engine by the definitions, its search bounded by [`Bounded`].
 pub fn plain() -> Second<Bounded> {
-    with("plain", [counted, assignments::solve_again], Bounded::default()).evaluating(count::evaluate)
+    let plain = with("plain", [counted, assignments::solve_again], Bounded::default());
+    plain.ordering(order::PLAIN).evaluating(count::evaluate)
 }
 
 impl<S> Second<S> {
+    /// The same, quads kept in this order.
+    pub fn ordering(self, order: Order) -> Second<S> {
+        Second { order, ..self }
+    }
+
     /// The same, tuples evaluated in this way.
     pub fn evaluating(self, evaluate: Evaluate) -> Second<S> {
         Second { evaluate, ..self }
@@ -113,7 +122,7 @@ impl<S> Second<S> {
 
 impl<S: Search + Counts> Second<S> {
     fn engine(&self, again: bool) -> second::Engine<'_> {
-        second::Engine { typer: self.typers[usize::from(again)], search: &self.search }
+        second::Engine { typer: self.typers[usize::from(again)], order: self.order, search: &self.search }
     }
 
     fn code(&self, outcome: Result<(), Refusal>) -> u32 {
@@ -154,7 +163,8 @@ impl<S: Search + Counts> Engine for Second<S> {
     }
 
     fn evaluate(&self, input: &[u8]) -> Option<String> {
-        Some(evaluate_with(self.typers[1], self.evaluate, input))
+        let ways = Ways { typer: self.typers[1], order: self.order, evaluate: self.evaluate };
+        Some(evaluate_with(ways, input))
     }
 
     fn why(&self) -> &'static str {

@@ -4,9 +4,8 @@ use super::program::Program;
 use super::Engine;
 use crate::count::Coverage;
 use crate::judge::{Breach, Difference};
-use second::evaluator::{each_line, Line};
+use second::evaluator::{each_line, Line, DEFINED};
 use second::note::take_notes;
-use second::{arcs, count};
 use std::path::PathBuf;
 
 /// Which cases are given to the evaluators, and the program, where there is one.
@@ -35,7 +34,7 @@ impl Evaluator {
     ) -> Result<(), Difference> {
         let mut expected = String::new();
         take_notes();
-        each_line(arcs::solve, count::evaluate, input, &mut |line| {
+        each_line(DEFINED, input, &mut |line| {
             self.tuples += u64::from(matches!(line, Line::Bad | Line::Evaluated(..)));
             coverage.line(line, &take_notes());
             expected += &format!("{line}\n");

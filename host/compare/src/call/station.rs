@@ -1,11 +1,12 @@
 //! A station: what the calls are lent, and one call on it.
 
 use super::Engine;
+use second::eval::Quad;
 use willetcoffer::limits::{
-    FETCHED_OFFSET, GRAPH_LIMIT, PAGE_REPORT_WIDTH, QUAD_TABLE_WIDTH, RUN_REPORT_WIDTH, SAVED_WIDTH, SLOT_WIDTH,
-    TERM_TABLE_WIDTH, TOTAL_REPORT_WIDTH,
+    FETCHED_OFFSET, GRAPH_LIMIT, PAGE_REPORT_WIDTH, QUAD_TABLE_WIDTH, QUAD_WIDTH, RUN_REPORT_WIDTH, SAVED_WIDTH,
+    SLOT_WIDTH, TERM_TABLE_WIDTH, TOTAL_REPORT_WIDTH,
 };
-use willetcoffer::saved::GRAPHS;
+use willetcoffer::saved::{GRAPHS, QUADS};
 use willetcoffer::{Card, PageReport, RunReport};
 
 /// A card and lent buffers of any lengths.
@@ -159,6 +160,24 @@ impl Station {
     pub fn fetched(&self) -> Vec<usize> {
         let count = self.number(GRAPHS).min(GRAPH_LIMIT);
         (0..count).map(|i| self.number(FETCHED_OFFSET + 2 * i)).collect()
+    }
+
+    /// The quads in use, as they stand.
+    pub fn quads(&self) -> Vec<Quad> {
+        let (numbers, _) = self.quad_table.as_chunks::<2>();
+        let (quads, _) = numbers.as_chunks::<4>();
+        let count = self.number(QUADS).min(quads.len());
+        quads[..count].iter().map(|quad| quad.map(u16::from_le_bytes)).collect()
+    }
+
+    /// Lets these quads be the ones in use, as many as there is room for.
+    pub fn set_quads(&mut self, quads: &[Quad]) {
+        let count = quads.len().min(self.quad_table.len() / QUAD_WIDTH);
+        self.quad_table.fill(0);
+        for (place, number) in self.quad_table.chunks_mut(2).zip(quads.iter().flatten()) {
+            place.copy_from_slice(&number.to_le_bytes());
+        }
+        self.set(QUADS, count);
     }
 
     /// Where two stations differ first.

@@ -12,8 +12,9 @@ pub struct Coverage {
 
 /// How often each of what is required is to be met.
 const ENOUGH: u64 = 100;
-/// What evaluation notes is to be met by one call for so many cases: each note 1,000 times in the gate's 50,000.
-const CASES_FOR_A_NOTE: u64 = 50;
+/// What a call notes, a store in another order and a store that a page leaves again are to be met by one call for so many cases: each
+/// 1,000 times in the gate's 50,000.
+const CASES_FOR_ONE: u64 = 50;
 
 /// The lines of an evaluator that are a tuple's.
 const OF_TUPLES: [&str; 3] = ["bad", "true", "false"];
@@ -21,7 +22,7 @@ const OF_TUPLES: [&str; 3] = ["bad", "true", "false"];
 const TUPLES: u64 = 50_000;
 
 /// What a long enough run of so many cases has to meet, and how often: each refusal of each call, each script kind, each state, also
-/// where the total is known, each place of each blocks, each type, each note.
+/// where the total is known, each place of each blocks, each type, each note, each change of a store's order, each way to a store again.
 fn required(cases: u64) -> Vec<(&'static str, String, u64)> {
     let mut all = Vec::new();
     let mut add = |section, keys: &[u32]| all.extend(keys.iter().map(|k| (section, format!("{k:02}"))));
@@ -40,10 +41,19 @@ fn required(cases: u64) -> Vec<(&'static str, String, u64)> {
     all.extend(each.map(|place| ("total of", place.to_string())));
     all.extend(willetcoffer::Type::all().map(|t| ("type", t.to_string())));
     all.extend((0x81..=0x85).map(|kind: u32| ("page record", format!("{kind:x}"))));
+    let in_order = ["order: one taken out sound", "order: another, in its place sound"];
+    all.extend(in_order.map(|key| ("tampered", key.to_string())));
     let mut all: Vec<_> = all.into_iter().map(|(section, key)| (section, key, ENOUGH)).collect();
-    let notes = Note::OF_CALLS.map(Note::name);
-    all.extend(notes.map(|(section, key)| (section, key.to_string(), cases / CASES_FOR_A_NOTE)));
+    all.extend(often().map(|(section, key)| (section, key.to_string(), cases / CASES_FOR_ONE)));
     all
+}
+
+/// What grows with the number of cases.
+fn often() -> impl Iterator<Item = (&'static str, &'static str)> {
+    let orders = ["order: two swapped unsound", "order: one moved unsound", "order: one twice unsound"];
+    let again = ["by the same page", "by another page"];
+    let notes = Note::OF_CALLS.into_iter().map(Note::name);
+    notes.chain(orders.map(|key| ("tampered", key))).chain(again.map(|key| ("a store again", key)))
 }
 
 /// What a long enough list of tuples has to meet: each line of an evaluator, and each second part left out and taken in.

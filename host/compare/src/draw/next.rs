@@ -9,6 +9,7 @@ use super::tamper::tamper;
 use super::Draw;
 use crate::call::{Answer, Call, Station};
 use willetcoffer::limits::{BUDGET_LIMIT, PAGE_LIMIT, SECONDS_AFTER, SECONDS_BEFORE};
+use willetcoffer::page::records;
 use willetcoffer::State;
 
 /// A value of now: mostly one of few days, now and then a limit or no dateTime.
@@ -21,8 +22,12 @@ pub(super) fn now(rng: &mut Rng) -> i64 {
 }
 
 impl Draw {
-    /// The next call: the wanted graph's page where one is wanted, else a run or a page.
+    /// The next call: now and then a page again, the wanted graph's page where one is wanted, else a run or a page.
     pub fn next_call(&mut self, station: &Station, last: Option<&Answer>) -> Call {
+        let again = if self.rng.one_in(12) { self.page_again() } else { None };
+        if let Some(call) = again {
+            return call;
+        }
         let state = last.and_then(Answer::ran).map(|report| report.state);
         let wanted = match state {
             Some(State::Wanted(graph)) => Some(usize::from(graph)),
@@ -113,5 +118,20 @@ impl Draw {
             *graph = self.rng.one(&[u64::MAX, 1 << 16, (1 << 16) + *graph, (1 << 32) + *graph]);
         }
         call
+    }
+
+    /// The page that some graph had last: as it is, its records mixed, or each of them twice and mixed. Their terms are numbered, so the
+    /// store stays as it is.
+    fn page_again(&mut self) -> Option<Call> {
+        let (graph, page) = self.taken.iter().nth(self.rng.below(self.taken.len()))?;
+        let mut all: Vec<&[u8]> = records(page).collect();
+        let way = self.rng.below(3);
+        if way == 2 && 2 * page.len() <= PAGE_LIMIT {
+            all.extend_from_within(..);
+        }
+        if way > 0 {
+            self.rng.shuffle(&mut all);
+        }
+        Some(Call::page(*graph as usize, all.concat()))
     }
 }

@@ -1,6 +1,7 @@
 //! Saved runs and tables tampered with: most of it unsound, some of it sound though no run reaches it.
 
 mod craft;
+mod order;
 
 use crate::call::Station;
 use crate::draw::damage::damage;
@@ -15,13 +16,16 @@ use willetcoffer::saved::{GRAPHS, HEIGHT, ITEM_MARK, ITEM_TUPLE, ITEM_ZERO, QUAD
 
 /// Changes inputs, tables or saved run of a loaded station; gives the name of the change.
 pub fn tamper(rng: &mut Rng, pool: &Pool, station: &mut Station) -> &'static str {
-    match rng.weighted(&[30, 14, 14, 8, 12, 3]) {
+    // One quad alone has no other order.
+    let order = if station.number(QUADS) < 2 { 0 } else { 30 };
+    match rng.weighted(&[30, 12, 14, 8, 12, 3, order]) {
         0 => saved_run(rng, station),
         1 => quads(rng, station),
         2 => terms(rng, station),
         3 => inputs(rng, pool, station),
         4 => craft::craft(rng, station),
-        _ => craft::crowd(rng, station),
+        5 => craft::crowd(rng, station),
+        _ => order::order(rng, station),
     }
 }
 
@@ -154,25 +158,15 @@ fn nonsense(rng: &mut Rng, station: &mut Station) {
 fn quads(rng: &mut Rng, station: &mut Station) -> &'static str {
     let count = station.number(QUADS).min(QUAD_LIMIT);
     let number = number(rng, station) as u16;
-    let (first, second) = (QUAD_WIDTH * rng.below(count), QUAD_WIDTH * rng.below(count));
+    let first = QUAD_WIDTH * rng.below(count);
     let table = &mut station.quad_table;
-    match rng.below(6) {
+    match rng.below(4) {
         0 | 1 => {
             let at = first + 2 * rng.below(4);
             table[at..at + 2].copy_from_slice(&number.to_le_bytes());
             "quads: a number"
         }
         2 => {
-            table.copy_within(first..first + QUAD_WIDTH, second);
-            "quads: one over another"
-        }
-        3 if count > 0 => {
-            let row: Vec<u8> = table[first..first + QUAD_WIDTH].to_vec();
-            table.copy_within(second..second + QUAD_WIDTH, first);
-            table[second..second + QUAD_WIDTH].copy_from_slice(&row);
-            "quads: two changed about"
-        }
-        4 => {
             let last = table.len() - 1;
             let at = rng.within((QUAD_WIDTH * count).min(last), last);
             table[at] = rng.next() as u8;

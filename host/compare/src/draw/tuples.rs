@@ -8,11 +8,11 @@ use super::tamper::{number, tamper};
 use super::Draw;
 use crate::call::Station;
 use crate::replay::{Asked, Numbers, Tampering};
-use second::arcs;
 use second::eval::{Bindings, Quad};
 use second::limits::EVALUATOR;
 use second::script::{Block, Kind, Name};
 use second::sound::{sound, Held, Lent};
+use second::{arcs, order};
 use willetcoffer::limits::PAIR_LIMIT;
 
 /// Tuples of a list, at most.
@@ -62,7 +62,7 @@ fn held(station: &Station) -> Option<Held> {
     let Station { card, term_table, quad_table, saved } = station;
     let saved = saved[..].try_into().ok()?;
     let (terms, schema, script) = (&card.terms, &card.schema, &card.script);
-    sound(arcs::solve, &Lent { terms, schema, script, term_table, quad_table, saved }).ok()
+    sound(arcs::solve, order::FAST, &Lent { terms, schema, script, term_table, quad_table, saved }).ok()
 }
 
 fn top_block(held: &Held) -> Option<&Block> {

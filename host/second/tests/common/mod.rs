@@ -81,21 +81,25 @@ impl Station {
         Ok((steps, report[4], u16::from_le_bytes([report[6], report[7]])))
     }
 
-    /// The skipped count, or the refusal.
+    /// The skipped count, or the refusal; both engines must agree.
     pub fn page(&mut self, graph: u64, page: &[u8]) -> Result<u32, u32> {
-        let mut report = vec![0xaa; PAGE_REPORT];
         let before = self.buffers();
-        let outcome = Engine::fast().page(
-            [&self.terms, &self.schema, &self.script],
-            [&mut self.term_table, &mut self.quad_table, &mut self.saved],
-            graph,
-            page,
-            &mut report,
-        );
-        if let Err(refusal) = outcome {
-            assert_eq!((self.buffers(), report), (before, vec![0xaa; PAGE_REPORT]));
-            return Err(refusal.number);
+        let mut results = Vec::new();
+        for engine in ENGINES {
+            let mut report = vec![0xaa; PAGE_REPORT];
+            let [mut terms, mut quads, mut saved] = before.clone();
+            let inputs = [&self.terms[..], &self.schema, &self.script];
+            let outcome = engine.page(inputs, [&mut terms, &mut quads, &mut saved], graph, page, &mut report);
+            let after = [terms, quads, saved];
+            if outcome.is_err() {
+                assert_eq!((&after, &report), (&before, &vec![0xaa; PAGE_REPORT]));
+            }
+            results.push((outcome.map_err(|r| r.number), after, report));
         }
+        assert_eq!(results[0], results[1]);
+        let (outcome, after, report) = results.remove(0);
+        [self.term_table, self.quad_table, self.saved] = after;
+        outcome?;
         Ok(u32::from_le_bytes(report.try_into().unwrap()))
     }
 

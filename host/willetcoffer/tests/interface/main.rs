@@ -70,9 +70,8 @@ fn the_definitions_agree_with_the_shared_data() {
     for (name, number) in REFUSALS.iter().zip(1..) {
         assert_eq!(shared.remove(*name), Some(number), "{name}");
     }
-    // what the code alone has: the places of the stack, and the quads as numbers, four each
+    // what the code alone has: the places of the stack
     assert_eq!(shared.remove("ITEM_LIMIT"), defined.get("DEPTH_LIMIT").copied());
-    assert_eq!(shared.remove("QUAD_NUMBERS"), defined.get("QUAD_LIMIT").map(|limit| 4 * limit));
     for (name, number) in shared {
         assert_eq!(defined.get(&name), Some(&number), "{name}");
     }

@@ -3,7 +3,7 @@ use Prim.Native.Nat.{_≤_, _-_}
 use native.Mathlib.Omega.{arith}
 use mathlib.Core.Path.{_≡_, refl}
 use Rattle.definitions.specs.Scope.{variables}
-use Rattle.query.specs.Codes.{freeCode}
+use Rattle.scan.specs.Codes.{freeCode}
 use Rattle.machine.specs.Answers.{knownCode, knownOf}
 use Rattle.store.proofs.FillLaws.{madeTo, made-variable, made-variables}
 use Rattle.machine.proofs.answers.known_of.Statement.{statement}

@@ -15,11 +15,10 @@ add-more c = search needs
 
 returns : tie.Need-returns
 returns c =
-    let c₁ = c .before in
-    let c₂ = c₁ .before .before .before .before .before .before .before in (
-      (λ S x k e r h. take-skipped S (c₂ .args .graph) x k (c₂ .args .counts) (c₂ .args .terms .now) (c₂ .args .quads .now) h
-          (sym (c₁ .well-typed .ensures S x e r) ∙ not-true _ (c .if1 .taken))),
-      (c₂ .pre .1 .1 .1 .0, omega arith),
+    let c₁ = c .before in let c₂ = c₁ .before .before .before .before .before .before .before in (
+      (λ S x o k e r h. take-skipped S (c₂ .args .graph) x k (c₂ .args .counts) (c₂ .args .terms .now) (c₂ .args .keys .now) o h (sym (c₁ .well-typed .ensures S x e r) ∙ not-true _
+          (c .if1 .taken))),
+      (c₂ .pre .1 .1 .1 .0, (omega arith, omega arith)),
     )
 
 number-triple-requires : tie.Need-number-triple-requires
@@ -35,13 +34,28 @@ returns-2 : tie.Need-returns-2
 returns-2 c =
     let c₁ = c .before .before .before .before .before in let c₂ = c₁ .before .before .before in let c₃ = c₂ .before in
     let c₄ = c₃ .before .before .before .before .before .before .before in (
-      (λ S x k e r h. take-over S (c₄ .args .graph) x k (c₄ .args .counts) (c₄ .args .terms .now) (c₄ .args .quads .now) h
-          (sym (c₃ .well-typed .ensures S x e r) ∙ not-false _ (c₂ .if1 .left)) (c₁ .number-triple .result) _ (c₁ .number-triple .ensures .0 (k .terms) x (h .terms) r) (c .if2 .taken)),
-      (c₁ .number-triple .ensures .1, omega arith),
+      (λ S x o k e r h. take-over S (c₄ .args .graph) x k (c₄ .args .counts) (c₄ .args .terms .now) (c₄ .args .keys .now) o h (sym (c₃ .well-typed .ensures S x e r) ∙ not-false _
+          (c₂ .if1 .left)) (c₁ .number-triple .result) _ (c₁ .number-triple .ensures .0 (k .terms) x (h .terms) r) (c .if2 .taken)),
+      (c₁ .number-triple .ensures .1, (omega arith, omega arith)),
     )
 
-store-quad-requires : tie.Need-store-quad-requires
-store-quad-requires c κs = (_, c .before .before .before .before .before .before .before .before .before .before .before .before .before .before .before .before .before .pre .1 .1 .0 .1 .quads)
+key-of-requires : tie.Need-key-of-requires
+key-of-requires c κs = search needs
+
+mul-keys : tie.Need-mul-keys
+mul-keys c =
+    let c₁ = c .before .before .before .before .before .before .before .before .before .before .before .before .before .before .before .before .before in
+    omega (arith, c₁ .pre .1 .1 .1 .1 .1 .1 .0)
+
+slice-write-keys : tie.Need-slice-write-keys
+slice-write-keys c =
+    let c₁ = c .before .before .before .before .before .before .before .before .before .before .before .before .before .before .before .before .before in
+    omega (arith, c₁ .pre .1 .1 .1 .1 .1 .1 .0, c₁ .pre .1 .1 .1 .1 .1 .1 .1)
+
+add-gathered : tie.Need-add-gathered
+add-gathered c =
+    let c₁ = c .before .before .before .before .before .before .before .before .before .before .before .before .before .before .before .before .before in
+    omega (arith, c₁ .pre .1 .1 .1 .1 .1 .1 .0)
 
 same-length-3 : tie.Need-same-length-3
 same-length-3 c = search needs
@@ -54,13 +68,15 @@ same-length-5 c = search needs
 
 returns-3 : tie.Need-returns-3
 returns-3 c =
-    let c₁ = c .before .before in let c₂ = c₁ .before .before in let c₃ = c₂ .before .before .before .before .before in let c₄ = c₃ .before .before .before in
-    let c₅ = c₄ .before in
-    let c₆ = c₅ .before .before .before .before .before .before .before in (
-      (λ S x k e r h. take-stored S (c₆ .args .graph) x k (c₆ .args .counts) (c₆ .args .terms .now) (c₆ .args .quads .now) h
-          (sym (c₅ .well-typed .ensures S x e r) ∙ not-false _ (c₄ .if1 .left)) (c₃ .number-triple .result) _ (c₃ .number-triple .ensures .0 (k .terms) x (h .terms) r) (c₂ .if2 .left)
-          (c₁ .store-quad .result) _ (c₁ .store-quad .ensures (k .quads) (h .quads))),
-      (c₃ .number-triple .ensures .1, omega arith),
+    let c₁ = c .before in let c₂ = c₁ .before .before .before .before .before in let c₃ = c₂ .before .before .before in let c₄ = c₃ .before in
+    let c₅ = c₄ .before .before .before .before .before .before .before in (
+      (λ S x o k e r h. take-stored S (c₅ .args .graph) x k (c₅ .args .counts) (c₅ .args .terms .now) (c₅ .args .keys .now) o h (sym (c₄ .well-typed .ensures S x e r) ∙ not-false _
+          (c₃ .if1 .left)) (c₂ .number-triple .result) _ (c₂ .number-triple .ensures .0 (k .terms) x (h .terms) r) (c₁ .if2 .left) (omega (
+            arith,
+            c₅ .pre .1 .1 .1 .1 .1 .1 .0,
+            c₅ .pre .1 .1 .1 .1 .1 .1 .1,
+          )) _ (c .key-of .ensures .0) (c .key-of .ensures .1)),
+      (c₂ .number-triple .ensures .1, (omega arith, omega arith)),
     )
 
 pub take-record-spec : {M : Type 1} → statement M
@@ -74,7 +90,10 @@ take-record-spec =
     same-length
     same-length-2
     returns-2
-    store-quad-requires
+    key-of-requires
+    mul-keys
+    slice-write-keys
+    add-gathered
     same-length-3
     same-length-4
     same-length-5

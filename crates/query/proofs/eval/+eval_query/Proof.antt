@@ -20,7 +20,7 @@ use Rattle.query.proofs.eval.eval_query.Kinds as eval-query-kinds
 use Rattle.query.proofs.eval.+eval_query.Lts-eval_query as lts
 use Rattle.query.proofs.eval.eval_cond.Reads as eval-cond
 use Rattle.query.proofs.names.names_at.Reads as names-at
-use Rattle.query.proofs.scan.scan.Reads as scan
+use Rattle.scan.proofs.least.Reads as least
 use Rattle.ends.proofs.after.Reads as after
 use Rattle.truth.proofs.is_true.Reads as is-true
 use Rattle.query.proofs.eval.+eval_query.{statement}
@@ -39,8 +39,8 @@ abbrev calls : ℕ → lts.Claims
 calls t = (
   names-at.Asked,
   names-at.Learnt,
-  scan.Asked,
-  scan.Learnt,
+  least.Asked,
+  least.Learnt,
   eval-query-below t,
   eval-query.Post,
   after.Asked,
@@ -76,8 +76,8 @@ module _ (t : ℕ) where
   names-at-requires : lts.Need-names-at-requires (calls t) (eval-query-at t) eval-query.Post
   names-at-requires c κs = (here (c .before) .pattern (c .match .keys1) .all, start (c .before) .pre .1 .1 .0 .variables)
 
-  scan-requires : lts.Need-scan-requires (calls t) (eval-query-at t) eval-query.Post
-  scan-requires c κs = start (c .before .before) .pre .1 .1 .1 .1 .room
+  least-requires : lts.Need-least-requires (calls t) (eval-query-at t) eval-query.Post
+  least-requires c κs = let s = start (c .before .before) .pre .1 .1 .1 .1 in (s .room, (s .rises, omega arith))
 
   eval-query-requires : lts.Need-eval-query-requires (calls t) (eval-query-at t) eval-query.Post
   eval-query-requires c κs = let n = here (c .before) .both (c .match .keys2) in (n .falls, (n .first, start (c .before) .pre .1 .1))
@@ -151,7 +151,7 @@ module _ (t : ℕ) where
   returns-3 : lts.Need-returns-3 (calls t) (eval-query-at t) eval-query.Post
   returns-3 c =
       let w = walked-as (here (c .before .before .before) .pattern (c .before .before .match .keys1) .read)
-      (walked-more (c .before .names-at .ensures) (λ q h. pattern-holds _ _ _ _ q _ _ h (c .scan .ensures))) in
+      (walked-more (c .before .names-at .ensures) (λ q h. pattern-holds _ _ _ _ q _ _ h (c .least .ensures))) in
       (w, omega (arith, query-within _ _ _ _ _ _ (w .read)))
 
   returns-4 : lts.Need-returns-4 (calls t) (eval-query-at t) eval-query.Post
@@ -183,7 +183,7 @@ module _ (t : ℕ) where
   returns-7 c = (leaf-walked (here (c .before) .empty (c .match .rest)) (empty-holds _ _ _ _), omega arith)
 
   closed : {M : Type 1} → lts.Closed (calls t) (eval-query-at t) eval-query.Post M
-  closed = lts.spec (calls t) (eval-query-at t) eval-query.Post (λ c. here c .inside) (λ c. omega (arith, here c .inside)) (λ c. here c .pos) names-at-requires scan-requires
+  closed = lts.spec (calls t) (eval-query-at t) eval-query.Post (λ c. here c .inside) (λ c. omega (arith, here c .inside)) (λ c. here c .pos) names-at-requires least-requires
       eval-query-requires add-counted after-requires returns eval-query-requires-2 add-records eval-query-requires-3 add-counted-2 after-requires-2 returns-2 eval-query-requires-4
       add-records-2 eval-cond-requires is-true-requires add-records-3 returns-3 returns-4 returns-5 returns-6 returns-7
 

@@ -4,7 +4,7 @@ use mathlib.Core.Bool.{true≢false}
 use lib.Dec.{ltb}
 use Rattle.laws.proofs.Productions.{expr-at}
 use Rattle.query.specs.Seek.{exprKnown}
-use Rattle.query.specs.Codes.{soughtCode}
+use Rattle.scan.specs.Codes.{soughtCode}
 use Rattle.query.proofs.CodeLaws.{code-bound}
 use Rattle.query.proofs.MayLaws.{code-waits}
 use Rattle.query.proofs.may.is_open.Statement.{statement}

@@ -19,7 +19,7 @@ use Rattle.search.proofs.find.+find.Lts-find as lts
 use Rattle.query.proofs.eval.eval_query.Reads as eval-query
 use Rattle.search.proofs.find.either.Reads as either
 use Rattle.search.proofs.find.hopeful.Reads as hopeful
-use Rattle.search.proofs.find.next.Reads as next
+use Rattle.search.proofs.find.next_after.Reads as next-after
 use Rattle.search.proofs.find.+find.{statement}
 use Rattle.search.proofs.find.+find.Tie.{close}
 
@@ -40,7 +40,7 @@ abbrev find-μ-loop : lts.MeasureT-loop
 find-μ-loop script ends context block table quads leasts k tight known at left size count v l lo₀ lo = count - lo
 
 abbrev calls : ℕ → lts.Claims
-calls t = (eval-query.Asked, eval-query.Learnt, either.Asked, either.Learnt, next.Asked, next.Learnt, hopeful.Asked, hopeful.Learnt, find-below t, find.Post)
+calls t = (eval-query.Asked, eval-query.Learnt, either.Asked, either.Learnt, next-after.Asked, next-after.Learnt, hopeful.Asked, hopeful.Learnt, find-below t, find.Post)
 
 module _ (t : ℕ) where
   -- where the search begins, of a level, and that level, of a choice in it
@@ -75,15 +75,17 @@ module _ (t : ℕ) where
       let s = start e in
       λ w. level-enter w _ (s .args .k) (s .args .tight) (e .if1 .left) _ (c .either .ensures)
 
-  next-requires : lts.Need-next-requires (calls t) (find-at t) find.Post find-Inv-loop find-μ-loop
-  next-requires c κs = let e = c .before .before .before .before .before .before in (start e .pre .1 .0, (start e .pre .1 .1, (sixteen (start e), e .if1 .left)))
+  next-after-requires : lts.Need-next-after-requires (calls t) (find-at t) find.Post find-Inv-loop find-μ-loop
+  next-after-requires c κs =
+      let e = c .before .before .before .before .before .before in
+      (start e .pre .1 .0, (start e .pre .1 .1, (sixteen (start e), (e .if1 .left, c .before .loop-test .taken))))
 
   returns-3 : lts.Need-returns-3 (calls t) (find-at t) find.Post find-Inv-loop find-μ-loop
   returns-3 c =
       let d = c .before .before .before .before in
       let e = d .before .before .before .before in
       let s = start e in
-      (λ w. find-none w _ (s .args .k) (s .args .tight) (e .if1 .left) _ (d .loop .inv w) [] _ (c .before .next .ensures w) (c .if3 .taken), refl)
+      (λ w. find-none w _ (s .args .k) (s .args .tight) (e .if1 .left) _ (d .loop .inv w) [] _ (c .before .next-after .ensures w) (c .if3 .taken), refl)
 
   mul-with : lts.Need-mul-with (calls t) (find-at t) find.Post find-Inv-loop find-μ-loop
   mul-with c = let s = start (level c) in omega (arith, s .pre .1 .0 .small (s .args .k))
@@ -113,15 +115,15 @@ module _ (t : ℕ) where
       let s = start e in
       let g = s .pre .1 .0 in
       let r = c .before .before .find in (
-        λ w. find-hit w _ (s .args .k) (s .args .tight) (e .if1 .left) _ (d .before .before .before .before .loop .inv w) [] _ (d .before .next .ensures w) (d .if3 .left)
+        λ w. find-hit w _ (s .args .k) (s .args .tight) (e .if1 .left) _ (d .before .before .before .before .loop .inv w) [] _ (d .before .next-after .ensures w) (d .if3 .left)
             (omega (arith, g .small (s .args .k), sixteen s)) _ refl _ (c .before .before .before .before .before .either2 .ensures) _
             (c .before .before .before .before .hopeful .ensures w) (c .before .before .before .if4 .taken) _ (r .ensures .0 w) (c .before .if5 .taken)
             (omega (arith, r .ensures .1, g .size, e .if1 .left)),
-        length-set (r .result .tuple) (s .args .k) (d .before .next .result) ∙ r .ensures .1,
+        length-set (r .result .tuple) (s .args .k) (d .before .next-after .result) ∙ r .ensures .1,
       )
 
   loop-less : lts.Need-loop-less (calls t) (find-at t) find.Post find-Inv-loop find-μ-loop
-  loop-less c = let d = c .before .before .before in omega (arith, d .before .next .ensures (start (level d) .pre .1 .0) .0, d .if3 .left, d .before .before .before .loop-test .taken)
+  loop-less c = let d = c .before .before .before in omega (arith, d .before .next-after .ensures (start (level d) .pre .1 .0) .0, d .if3 .left, d .before .before .before .loop-test .taken)
 
   loop-again : lts.Need-loop-again (calls t) (find-at t) find.Post find-Inv-loop find-μ-loop
   loop-again c =
@@ -130,10 +132,10 @@ module _ (t : ℕ) where
       let s = start e in
       let g = s .pre .1 .0 in
       ⊎-elim
-      (λ h w. find-on w _ (s .args .k) (s .args .tight) (e .if1 .left) _ (d .before .before .before .before .loop .inv w) [] _ (d .before .next .ensures w) (d .if3 .left)
+      (λ h w. find-on w _ (s .args .k) (s .args .tight) (e .if1 .left) _ (d .before .before .before .before .loop .inv w) [] _ (d .before .next-after .ensures w) (d .if3 .left)
       (omega (arith, g .small (s .args .k), sixteen s)) _ refl _ (c .before .before .either2 .ensures) _ (c .before .hopeful .ensures w)
       (h .0 .taken) _ (h .1 .ensures .0 w) (h .2 .left))
-      (λ h w. find-skip w _ (s .args .k) (s .args .tight) (e .if1 .left) _ (d .before .before .before .before .loop .inv w) [] _ (d .before .next .ensures w) (d .if3 .left)
+      (λ h w. find-skip w _ (s .args .k) (s .args .tight) (e .if1 .left) _ (d .before .before .before .before .loop .inv w) [] _ (d .before .next-after .ensures w) (d .if3 .left)
       (omega (arith, g .small (s .args .k), sixteen s)) _ refl _ (c .before .before .either2 .ensures) _ (c .before .hopeful .ensures w) (h .left))
       (c .if4 .came)
 
@@ -147,7 +149,7 @@ module _ (t : ℕ) where
   closed = lts.spec (calls t) (find-at t) find.Post find-Inv-loop find-μ-loop returns (λ c. omega arith) eval-query-requires returns-2
       (λ c. omega (arith, start (c .before) .pre .1 .0 .size)) (λ c. omega (arith, start (c .before) .pre .1 .0 .size)) (λ c. omega (arith, start (c .before .before) .pre .1 .0 .size))
       (λ c. omega (arith, start (c .before .before) .pre .1 .0 .size)) (λ c κs. tt) loop-holds
-      (λ c. omega (arith, start (c .before .before .before .before .before .before) .pre .1 .0 .size)) next-requires returns-3 mul-with array-write-with add-either (λ c κs. tt)
+      (λ c. omega (arith, start (c .before .before .before .before .before .before) .pre .1 .0 .size)) next-after-requires returns-3 mul-with array-write-with add-either (λ c κs. tt)
       hopeful-requires (λ c. omega (arith, start (level (c .before .before .before)) .pre .1 .0 .size))
       find-requires mul-tuple array-write-tuple returns-4
       (λ c. let d = c .before .before .before in omega (arith, few _ _ _ (start (level d) .pre .1 .0 .lent .tabled), d .if3 .left)) loop-less loop-again returns-5

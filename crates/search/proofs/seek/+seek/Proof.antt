@@ -16,8 +16,9 @@ use Rattle.search.proofs.seek.seek.Reads as seek
 use Rattle.search.proofs.seek.seek.Kinds as seek-kinds
 use Rattle.search.proofs.seek.+seek.Lts-seek as lts
 use Rattle.ends.proofs.after.Reads as after
+use Rattle.query.proofs.TermLaws.{few}
 use Rattle.query.proofs.names.names_at.Reads as names-at
-use Rattle.query.proofs.scan.scan.Reads as scan
+use Rattle.scan.proofs.least.Reads as least
 use Rattle.search.proofs.seek.seek_filter.Reads as seek-filter
 use Rattle.search.proofs.seek.smaller.Reads as smaller
 use Rattle.search.proofs.seek.+seek.{statement}
@@ -36,8 +37,8 @@ abbrev calls : ℕ → lts.Claims
 calls t = (
   names-at.Asked,
   names-at.Learnt,
-  scan.Asked,
-  scan.Learnt,
+  least.Asked,
+  least.Learnt,
   seek-below t,
   seek.Post,
   after.Asked,
@@ -66,8 +67,10 @@ module _ (t : ℕ) where
   names-at-requires : lts.Need-names-at-requires (calls t) (seek-at t) seek.Post
   names-at-requires c κs = (here (c .before) .pattern (c .match .keys1) .all, start (c .before) .pre .1 .1 .0 .variables)
 
-  scan-requires : lts.Need-scan-requires (calls t) (seek-at t) seek.Post
-  scan-requires c κs = start (c .before .before) .pre .1 .1 .1 .1 .room
+  least-requires : lts.Need-least-requires (calls t) (seek-at t) seek.Post
+  least-requires c κs =
+      let p = start (c .before .before) .pre .1 .1 in
+      (p .1 .1 .room, (p .1 .1 .rises, omega (arith, few _ _ _ (p .0 .tabled))))
 
   seek-requires : lts.Need-seek-requires (calls t) (seek-at t) seek.Post
   seek-requires c κs = let n = here (c .before) .both (c .match .keys2) in (n .falls, (n .first, start (c .before) .pre .1 .1))
@@ -114,7 +117,7 @@ module _ (t : ℕ) where
   returns-3 : lts.Need-returns-3 (calls t) (seek-at t) seek.Post
   returns-3 c =
       walked-as (here (c .before .before .before) .pattern (c .before .before .match .keys1) .read)
-      (walked-more (c .before .names-at .ensures) (λ q h. pattern-seeks _ _ _ (start (c .before .before .before) .pre .1 .1 .0) _ _ q _ _ _ h (c .scan .ensures)))
+      (walked-more (c .before .names-at .ensures) (λ q h. pattern-seeks _ _ _ (start (c .before .before .before) .pre .1 .1 .0) _ _ q _ _ _ h (c .least .ensures)))
 
   returns-4 : lts.Need-returns-4 (calls t) (seek-at t) seek.Post
   returns-4 c =
@@ -134,7 +137,7 @@ module _ (t : ℕ) where
   returns-7 c = leaf-walked (here (c .before) .empty (c .match .rest)) (empty-seeks _ _ _ (start (c .before) .pre .1 .1 .0) _ _ _)
 
   closed : {M : Type 1} → lts.Closed (calls t) (seek-at t) seek.Post M
-  closed = lts.spec (calls t) (seek-at t) seek.Post (λ c. here c .inside) (λ c. omega (arith, here c .inside)) (λ c. here c .pos) names-at-requires scan-requires seek-requires
+  closed = lts.spec (calls t) (seek-at t) seek.Post (λ c. here c .inside) (λ c. omega (arith, here c .inside)) (λ c. here c .pos) names-at-requires least-requires seek-requires
       after-requires returns seek-requires-2 seek-requires-3 after-requires-2 returns-2 seek-requires-4 smaller-requires seek-filter-requires returns-3 returns-4 returns-5
       returns-6 returns-7
 

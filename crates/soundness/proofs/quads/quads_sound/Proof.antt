@@ -5,33 +5,36 @@ use borrow.Author.Needs.{needs}
 use borrow.Author.Tests.{not-true, not-false}
 use mathlib.Core.Path.{_≡_, sym, ap, _∙_}
 use Rattle.definitions.specs.Lists.{every}
-use Rattle.laws.specs.Quads.{rowsFrom}
+use Rattle.keys.specs.Keys.{rowsFrom}
 use Rattle.soundness.specs.Store.{quadNumbers}
 use Rattle.soundness.proofs.QuadLaws.{rowsLeft, rows-all, row-fails, row-passes, rows-pass}
 use Rattle.soundness.proofs.quads.quads_sound.Statement.{statement}
 use Rattle.soundness.proofs.quads.quads_sound.Tie as tie
 
 abbrev Inv-loop : tie.InvT-loop
-Inv-loop leasts count fetched rows n i₀ i = every (quadNumbers leasts count fetched) (rowsFrom n rows 0) ≡ every (quadNumbers leasts count fetched) (rowsLeft rows n i)
+Inv-loop leasts count fetched keys n i₀ i = every (quadNumbers leasts count fetched) (rowsFrom n keys 0) ≡ every (quadNumbers leasts count fetched) (rowsLeft keys n i)
 
 abbrev μ-loop : tie.MeasureT-loop
-μ-loop leasts count fetched rows n i₀ i = n - i
+μ-loop leasts count fetched keys n i₀ i = n - i
 
 loop-holds : tie.Need-loop-holds Inv-loop μ-loop
 loop-holds c =
     let c₁ = c .before .before .before in
-    ap (every (quadNumbers (c₁ .args .leasts .now) (c₁ .args .count) (c₁ .args .fetched .now))) (rows-all (c₁ .args .rows .now) (c₁ .args .n))
+    ap (every (quadNumbers (c₁ .args .leasts .now) (c₁ .args .count) (c₁ .args .fetched .now))) (rows-all (c₁ .args .keys .now) (c₁ .args .n))
 
-mul-at : tie.Need-mul-at Inv-loop μ-loop
-mul-at c = search needs
+mul-quad-sound : tie.Need-mul-quad-sound Inv-loop μ-loop
+mul-quad-sound c = search needs
+
+shared-slice-read-quad-sound : tie.Need-shared-slice-read-quad-sound Inv-loop μ-loop
+shared-slice-read-quad-sound c = search needs
 
 quad-sound-requires : tie.Need-quad-sound-requires Inv-loop μ-loop
 quad-sound-requires c κs = search needs
 
 returns : tie.Need-returns Inv-loop μ-loop
 returns c =
-    let c₁ = c .before in let c₂ = c₁ .before .before in let c₃ = c₂ .before .before .before .before in
-    row-fails (c₃ .args .rows .now) (c₃ .args .n) (quadNumbers (c₃ .args .leasts .now) (c₃ .args .count) (c₃ .args .fetched .now)) (c₂ .loop .i) (c₂ .loop .inv) (omega arith)
+    let c₁ = c .before in let c₂ = c₁ .before .before .before in let c₃ = c₂ .before .before .before .before in
+    row-fails (c₃ .args .keys .now) (c₃ .args .n) (quadNumbers (c₃ .args .leasts .now) (c₃ .args .count) (c₃ .args .fetched .now)) (c₂ .loop .i) (c₂ .loop .inv) (omega arith)
     (sym (c₁ .quad-sound .ensures) ∙ not-true _ (c .if1 .taken))
 
 add-i : tie.Need-add-i Inv-loop μ-loop
@@ -42,14 +45,14 @@ loop-less c = search needs
 
 loop-again : tie.Need-loop-again Inv-loop μ-loop
 loop-again c =
-    let c₁ = c .before in let c₂ = c₁ .before .before in let c₃ = c₂ .before .before .before .before in
-    row-passes (c₃ .args .rows .now) (c₃ .args .n) (quadNumbers (c₃ .args .leasts .now) (c₃ .args .count) (c₃ .args .fetched .now)) (c₂ .loop .i) (c₂ .loop .inv) (omega arith)
+    let c₁ = c .before in let c₂ = c₁ .before .before .before in let c₃ = c₂ .before .before .before .before in
+    row-passes (c₃ .args .keys .now) (c₃ .args .n) (quadNumbers (c₃ .args .leasts .now) (c₃ .args .count) (c₃ .args .fetched .now)) (c₂ .loop .i) (c₂ .loop .inv) (omega arith)
     (sym (c₁ .quad-sound .ensures) ∙ not-false _ (c .if1 .left))
 
 returns-2 : tie.Need-returns-2 Inv-loop μ-loop
 returns-2 c =
     let c₁ = c .before in let c₂ = c₁ .before .before .before .before in
-    rows-pass (c₂ .args .rows .now) (c₂ .args .n) (quadNumbers (c₂ .args .leasts .now) (c₂ .args .count) (c₂ .args .fetched .now)) (c₁ .loop .i) (c₁ .loop .inv) (omega arith)
+    rows-pass (c₂ .args .keys .now) (c₂ .args .n) (quadNumbers (c₂ .args .leasts .now) (c₂ .args .count) (c₂ .args .fetched .now)) (c₁ .loop .i) (c₁ .loop .inv) (omega arith)
 
 pub quads-sound-spec : {M : Type 1} → statement M
 quads-sound-spec =
@@ -58,7 +61,8 @@ quads-sound-spec =
     Inv-loop
     μ-loop
     loop-holds
-    mul-at
+    mul-quad-sound
+    shared-slice-read-quad-sound
     quad-sound-requires
     returns
     add-i

@@ -1,0 +1,5 @@
+pub mod ScanLaws
+pub mod Places
+pub mod StretchScan
+pub mod Stretches
+pub mod Graphs
