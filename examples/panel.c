@@ -123,6 +123,7 @@ static void print_text(uint32_t term)
 static int load(void)
 {
     uint32_t refusal = willetcoffer_load(
+        willetcoffer_built_in_ranks, WILLETCOFFER_RANKS_WIDTH,
         terms.at, terms.length, schema.at, schema.length, script, sizeof script,
         term_table, sizeof term_table, quad_table, sizeof quad_table, saved, sizeof saved);
     int variable;
@@ -144,6 +145,7 @@ static int run(int64_t now)
     int state;
     do {
         uint32_t refusal = willetcoffer_run(
+            willetcoffer_built_in_ranks, WILLETCOFFER_RANKS_WIDTH,
             terms.at, terms.length, schema.at, schema.length, script, sizeof script,
             term_table, sizeof term_table, quad_table, sizeof quad_table, saved, sizeof saved,
             1, now, run_report, sizeof run_report);
@@ -170,6 +172,7 @@ static int run(int64_t now)
 static int take_page(const struct bytes *page)
 {
     uint32_t refusal = willetcoffer_page(
+        willetcoffer_built_in_ranks, WILLETCOFFER_RANKS_WIDTH,
         terms.at, terms.length, schema.at, schema.length, script, sizeof script,
         term_table, sizeof term_table, quad_table, sizeof quad_table, saved, sizeof saved,
         number(run_report + 6, 2), page->at, page->length, page_report, sizeof page_report);

@@ -9,6 +9,9 @@
  *     willetcoffer_page(..)      for a wanted graph, and whenever a page has changed
  *     willetcoffer_total(..)     whenever a display wants to know how long the script takes
  *
+ * Load, run and page are lent ranks too, the order in which a club sorts its texts; a club that has none of its own lends
+ * willetcoffer_built_in_ranks.
+ *
  * For C99 and C++. Link with -lwilletcoffer (pkg-config --cflags --libs willetcoffer). A test compares the numbers and the
  * declarations of this file with the definitions that the engine is proved to meet.
  *
@@ -42,6 +45,8 @@ extern "C" {
    use stand first (the saved run counts them), each once, rising by graph, then subject, property and object number; zeros after.
    So the same terms by number and the same quads are always the same bytes. */
 #define WILLETCOFFER_QUAD_TABLE_WIDTH 4096
+/* The ranks of bytes in texts; see RANKS. */
+#define WILLETCOFFER_RANKS_WIDTH 95
 /* The saved run; see THE SAVED RUN. */
 #define WILLETCOFFER_SAVED_WIDTH 486
 /* The report of a run call; see willetcoffer_run. */
@@ -93,6 +98,28 @@ extern "C" {
 #define WILLETCOFFER_SECONDS_BEFORE 62135596800LL         /* the first dateTime, 0001-01-01T00:00:00Z, before 1970 */
 #define WILLETCOFFER_SECONDS_AFTER 253402300799LL         /* the last dateTime, 9999-12-31T23:59:59Z, after 1970 */
 
+/* ---- RANKS -----------------------------------------------------------------------------------------------------------------
+ *
+ * The order of strings is the club's own: a rank for each byte from 20 to 7E (hexadecimal), in the order of the bytes. Each rank
+ * from 0 to 94 stands once, else refusal 21. Less on strings goes by text, then by tag, both byte by byte by rank, the shorter
+ * first where one begins the other. Nothing else goes by ranks: not equal, not less on URIs, numbers or dateTimes, not the
+ * numbers of terms nor the order of quads.
+ *
+ * A host lends the same ranks to all calls on a card, from its load on. The saved run does not hold them: a call that is lent other
+ * good ones takes them, and goes by those.
+ */
+
+/* The ranks to lend where a club has none of its own: the blank, the digits, the letters as A a B b to Z z, then the other bytes in
+   their order. */
+static const uint8_t willetcoffer_built_in_ranks[WILLETCOFFER_RANKS_WIDTH] = {
+     0, 63, 64, 65, 66, 67, 68, 69, 70, 71, 72, 73, 74, 75, 76, 77,  /* 20 to 2F */
+     1,  2,  3,  4,  5,  6,  7,  8,  9, 10, 78, 79, 80, 81, 82, 83,  /* 30 to 3F */
+    84, 11, 13, 15, 17, 19, 21, 23, 25, 27, 29, 31, 33, 35, 37, 39,  /* 40 to 4F */
+    41, 43, 45, 47, 49, 51, 53, 55, 57, 59, 61, 85, 86, 87, 88, 89,  /* 50 to 5F */
+    90, 12, 14, 16, 18, 20, 22, 24, 26, 28, 30, 32, 34, 36, 38, 40,  /* 60 to 6F */
+    42, 44, 46, 48, 50, 52, 54, 56, 58, 60, 62, 91, 92, 93, 94       /* 70 to 7E */
+};
+
 /* ---- THE SAVED RUN -------------------------------------------------------------------------------------------------------
  *
  *     at   bytes  what
@@ -138,7 +165,7 @@ extern "C" {
 
 /* ---- refusals ------------------------------------------------------------------------------------------------------------- */
 
-#define WILLETCOFFER_REFUSED_LENGTH 1          /* a lent table, saved run or report of another length */
+#define WILLETCOFFER_REFUSED_LENGTH 1          /* lent ranks, a lent table, saved run or report of another length */
 #define WILLETCOFFER_REFUSED_TERM_RECORD 2     /* a bad term record */
 #define WILLETCOFFER_REFUSED_TERM_TWICE 3      /* a term listed twice */
 #define WILLETCOFFER_REFUSED_SCHEMA_RECORD 4   /* a bad schema record */
@@ -154,12 +181,14 @@ extern "C" {
 #define WILLETCOFFER_REFUSED_PAGE_GRAPH 12     /* the page's graph is no URI of the term table */
 #define WILLETCOFFER_REFUSED_PAGE 13           /* page over WILLETCOFFER_PAGE_LIMIT bytes, or a bad record in it */
 #define WILLETCOFFER_REFUSED_ROOM 14           /* terms, quads or graphs would pass their limits */
+#define WILLETCOFFER_REFUSED_RANKS 21          /* ranks that are not each rank from 0 to 94 once; straight after 1 */
 
 /* ---- the calls ------------------------------------------------------------------------------------------------------------ */
 
 /*
  * Loads a card.
  *
+ *   ranks       the club's ranks, or willetcoffer_built_in_ranks
  *   terms       the listed terms' records (kinds 11 to 15), any length
  *   schema      the schema's records (kind 21), any length
  *   script      the script's records (kinds 31 to 74) in prefix order, any length
@@ -167,9 +196,10 @@ extern "C" {
  *   quad_table  written: zeros
  *   saved       written: the script's root alone on the stack, nothing bound or fetched, the reported types
  *
- * Refusals: 1 to 9, in this order. What the buffers written held before means nothing.
+ * Refusals: 1, 21, 2 to 9, in this order. What the buffers written held before means nothing.
  */
 uint32_t willetcoffer_load(
+    const uint8_t *ranks, size_t ranks_length,
     const uint8_t *terms, size_t terms_length,
     const uint8_t *schema, size_t schema_length,
     const uint8_t *script, size_t script_length,
@@ -180,6 +210,7 @@ uint32_t willetcoffer_load(
 /*
  * Takes steps, as many as the budget has, or until a page is wanted, a block waits or the script has ended.
  *
+ *   ranks       those lent at the load
  *   terms, schema, script       the card that was loaded
  *   term_table, quad_table      read: as the last call left them
  *   saved       read and written: as the last call left it
@@ -191,9 +222,10 @@ uint32_t willetcoffer_load(
  *                 at 5, 1 byte   zero
  *                 at 6, 2 bytes  the wanted graph's term number, else zero
  *
- * Refusals: 1, 10, 11, in this order.
+ * Refusals: 1, 21, 10, 11, in this order.
  */
 uint32_t willetcoffer_run(
+    const uint8_t *ranks, size_t ranks_length,
     const uint8_t *terms, size_t terms_length,
     const uint8_t *schema, size_t schema_length,
     const uint8_t *script, size_t script_length,
@@ -208,6 +240,7 @@ uint32_t willetcoffer_run(
  * Takes in a graph's page: its triples become that graph's quads, each once, and replace those it had. A record is skipped where
  * its property has no schema entry or its object has another datatype than the entry asks for.
  *
+ *   ranks       those lent at the load
  *   terms, schema, script       the card that was loaded
  *   term_table, quad_table      read and written: as the last call left them
  *   saved       read and written: as the last call left it
@@ -216,9 +249,10 @@ uint32_t willetcoffer_run(
  *   report      written:
  *                 at 0, 4 bytes  records skipped
  *
- * Refusals: 1, 10, 12, 13, 14, in this order.
+ * Refusals: 1, 21, 10, 12, 13, 14, in this order.
  */
 uint32_t willetcoffer_page(
+    const uint8_t *ranks, size_t ranks_length,
     const uint8_t *terms, size_t terms_length,
     const uint8_t *schema, size_t schema_length,
     const uint8_t *script, size_t script_length,

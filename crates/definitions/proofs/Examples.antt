@@ -6,6 +6,7 @@ use mathlib.Core.Option.{none, some}
 use lib.IntN.{negsuc}
 use lib.ListN.{replicate}
 use Rattle.definitions.specs.Limits.{termTableWidth, quadTableWidth, textWidth}
+use Rattle.definitions.specs.Alphabet.{builtIn}
 use Rattle.definitions.specs.Ascii.{ascii}
 use Rattle.definitions.specs.Bytes.{filled, littleBytes}
 use Rattle.definitions.specs.Terms.{Term, readTerms}
@@ -32,7 +33,7 @@ printer = refl
 -- terms, schema and script, with tables of zeros
 lend : (terms schema script : List ℕ) → Lent
 lend terms schema script =
-    record { terms = terms; schema = schema; script = script; termTable = replicate termTableWidth 0; quadTable = replicate quadTableWidth 0 }
+    record { ranks = builtIn; terms = terms; schema = schema; script = script; termTable = replicate termTableWidth 0; quadTable = replicate quadTableWidth 0 }
 
 loadOf : (terms schema script : List ℕ) → ℕ
 loadOf terms schema script = loadNumber (load (lend terms schema script) .returned .answer)
@@ -51,7 +52,7 @@ block : (count : ℕ) → (query : List ℕ) → List ℕ
 block count query = 0x73 ∷ 0 ∷ count ∷ replicate 8 0 ++ (query ++ success)
 
 -- a quad table of 0 bytes
-refusal-1 : loadNumber (load (record { terms = []; schema = []; script = success; termTable = replicate termTableWidth 0; quadTable = [] }) .returned .answer) ≡ 1
+refusal-1 : loadNumber (load (record { ranks = builtIn; terms = []; schema = []; script = success; termTable = replicate termTableWidth 0; quadTable = [] }) .returned .answer) ≡ 1
 unfolding success opened
 refusal-1 = refl
 

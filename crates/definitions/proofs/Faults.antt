@@ -30,7 +30,7 @@ terms = withProperties schema (Term.uri (ascii "c:club") ∷ Term.integer (pos 3
 outcome : List ℕ → Option (Outcome Run × Verdict)
 outcome script =
     onward (parsed (length terms) script) (λ root. provided (inScope root) (some (
-      run (record { schema = schema; clock = pos 0 }) (λ v. plain Datatype.anyURI) 10 (loaded terms root),
+      run (record { schema = schema; ranks = []; clock = pos 0 }) (λ v. plain Datatype.anyURI) 10 (loaded terms root),
       verdict (constantsOf schema terms) (writtenTypes root) root,
     )))
 

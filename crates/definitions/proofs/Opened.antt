@@ -1,5 +1,6 @@
 -- One name for each file of specs/ that opens its definitions, and one that opens all: for closed examples, which compute.
 -- Written by tools/opened.py.
+use Rattle.definitions.specs.Alphabet as Alphabet
 use Rattle.definitions.specs.Bytes as Bytes
 use Rattle.definitions.specs.Ascii as Ascii
 use Rattle.definitions.specs.Terms as Terms
@@ -23,6 +24,10 @@ use Rattle.definitions.specs.Calls as Calls
 use Rattle.definitions.specs.CallList as CallList
 use Rattle.definitions.specs.Exports as Exports
 use Rattle.definitions.specs.Printer as Printer
+
+unfoldable pub openAlphabet : Unit {0}
+unfolding Alphabet.below Alphabet.occurs Alphabet.isAlphabet Alphabet.builtIn
+openAlphabet = tt
 
 unfoldable pub openBytes : Unit {0}
 unfolding Bytes.little Bytes.littleBytes Bytes.signed Bytes.unsigned Bytes.filled Bytes.unfilled Bytes.provided Bytes.onward Bytes.inFront Bytes.recordsFrom Bytes.records
@@ -75,8 +80,8 @@ openTruth = tt
 
 unfoldable pub openValues : Unit {0}
 unfolding Values.valueOf Values.numberIn Values.lifted Values.lifted₂ Values.sum Values.difference Values.absolute Values.shortDigits Values.naturalText Values.signText
-    Values.integerText Values.fractionText Values.decimalText Values.textOf Values.ranks Values.rankIn Values.before Values.stringBefore Values.paired Values.present
-    Values.sameTagged Values.equalPair Values.lessPair Values.stringIn Values.truthIn
+    Values.integerText Values.fractionText Values.decimalText Values.textOf Values.rankIn Values.before Values.stringBefore Values.paired Values.present Values.sameTagged
+    Values.equalPair Values.lessPair Values.stringIn Values.truthIn
 openValues = tt
 
 unfoldable pub openEvaluate : Unit {0}
@@ -131,6 +136,6 @@ unfolding Printer.entryBody Printer.endFrom Printer.termsEnd Printer.schemaEnd P
 openPrinter = tt
 
 unfoldable pub opened : Unit {0}
-unfolding openBytes openAscii openTerms openText openReading openScope openTotal openTyping openCalendar openOutcome openTruth openValues openEvaluate openEvaluated openSearch
-    openMachine openSaved openSound openResult openCalls openCallList openExports openPrinter
+unfolding openAlphabet openBytes openAscii openTerms openText openReading openScope openTotal openTyping openCalendar openOutcome openTruth openValues openEvaluate openEvaluated
+    openSearch openMachine openSaved openSound openResult openCalls openCallList openExports openPrinter
 opened = tt

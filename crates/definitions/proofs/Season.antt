@@ -4,11 +4,12 @@ use mathlib.Core.Path.{_≡_, refl}
 use mathlib.Core.List.{List, [], _∷_, _++_}
 use lib.IntN.{ℤ, pos, negsuc}
 use lib.ListN.{replicate, set}
-use Rattle.definitions.specs.Limits.{termTableWidth, quadTableWidth, textWidth, tagWidth}
+use Rattle.definitions.specs.Limits.{ranksWidth, termTableWidth, quadTableWidth, textWidth, tagWidth}
+use Rattle.definitions.specs.Alphabet.{below, builtIn}
 use Rattle.definitions.specs.Ascii.{ascii}
 use Rattle.definitions.specs.Bytes.{filled, littleBytes, unsigned}
 use Rattle.definitions.specs.Outcome.{Outcome, ok, fault}
-use Rattle.definitions.specs.Calls.{Lent, load, runCall, PageResult, pageCall}
+use Rattle.definitions.specs.Calls.{Lengths, Lent, load, runCall, PageResult, pageCall}
 use Rattle.definitions.specs.CallList.{Call, running, paging, Answer, ran, paged}
 use Rattle.definitions.specs.declared.SavedRun.{SavedRun}
 use Rattle.definitions.specs.declared.Ran.{Ran}
@@ -21,7 +22,7 @@ use Rattle.definitions.proofs.Opened.{opened}
 -- ── calls one after the other, each with the tables and the saved run as the one before left them ──
 
 unfoldable pub withTables : Lent → (termTable quadTable : List ℕ) → Lent
-withTables l t q = record { terms = l .terms; schema = l .schema; script = l .script; termTable = t; quadTable = q }
+withTables l t q = record { ranks = l .ranks; terms = l .terms; schema = l .schema; script = l .script; termTable = t; quadTable = q }
 
 -- a call's answer, and what it left; a fault answers nothing
 record Left : Type 0 where
@@ -39,8 +40,8 @@ afterPage l r =
 
 -- the lengths are those of the tables lent
 afterCall : Lent → SavedRun → Call → Left
-afterCall l saved (running m n budget now) = afterRun l saved (runCall l saved budget now)
-afterCall l saved (paging m n g page) = afterPage l (pageCall l saved g page)
+afterCall l saved (running n budget now) = afterRun l saved (runCall l saved budget now)
+afterCall l saved (paging n g page) = afterPage l (pageCall l saved g page)
 
 afterCalls : List Call → Left → Left
 afterCalls [] x = x
@@ -63,6 +64,7 @@ number n = littleBytes 8 (unsigned n)
 unfoldable pub card : Lent
 card =
     record {
+      ranks = builtIn;
       terms = 0x13 ∷ number (pos 3) ++ (0x11 ∷ uri (ascii "c:club") ++ (0x11 ∷ uri (ascii "l:1")));
       schema = 0x21 ∷ uri (ascii "p:speed") ++ (3 ∷ []);
       -- from named c:club: each $0 $1 where { c:club: $0 p:speed $1 }: success
@@ -87,11 +89,14 @@ page =
     ++ (triple 0x84 (ascii "l:2") (ascii "p:speed") (number (negsuc 4))
     ++ triple 0x83 (ascii "l:1") (ascii "p:speed") (number (pos 3)))))
 
+whole : Lengths
+whole = record { ranks = ranksWidth; termTable = termTableWidth; quadTable = quadTableWidth }
+
 runFor : ℕ → Call
-runFor budget = running termTableWidth quadTableWidth budget (pos 0)
+runFor budget = running whole budget (pos 0)
 
 take : (graph : ℕ) → List ℕ → Call
-take g p = paging termTableWidth quadTableWidth g p
+take g p = paging whole g p
 
 ranFor : ℕ → RunState → Answer
 ranFor steps state = ran (RunAnswers.Ran steps state)
@@ -101,18 +106,18 @@ ranFor steps state = ran (RunAnswers.Ran steps state)
 season :
     afterCalls (
     runFor 10 ∷ take 1 page ∷ runFor 3 ∷ runFor 10 ∷ runFor 0
-    ∷ runFor 60001 ∷ running termTableWidth quadTableWidth 0 (pos 253402300800) ∷ take 0 [] ∷ take 600 [] ∷ take 1 (0x81 ∷ []) ∷ []
+    ∷ runFor 60001 ∷ running whole 0 (pos 253402300800) ∷ take 0 [] ∷ take 600 [] ∷ take 1 (0x81 ∷ []) ∷ []
     ) (afterLoad card) .answers
     ≡ ranFor 0 (Wanted 1) ∷ paged (PageAnswers.Taken 2) ∷ ranFor 3 Spent ∷ ranFor 3 Ended ∷ ranFor 0 Ended
     ∷ ran (RunAnswers.Refused 11) ∷ ran (RunAnswers.Refused 11) ∷ paged (PageAnswers.Refused 12) ∷ paged (PageAnswers.Refused 12) ∷ paged (PageAnswers.Refused 13) ∷ []
-unfolding withTables afterRun afterPage afterCall afterCalls afterLoad uri number card triple page runFor take ranFor opened
+unfolding withTables afterRun afterPage afterCall afterCalls afterLoad uri number card triple page whole runFor take ranFor opened
 season = refl
 
 -- Answers are looked for in the store of that moment: an empty page between two answers, and the block is dropped.
 noneLeft :
     afterCalls (take 1 page ∷ runFor 3 ∷ take 1 [] ∷ runFor 10 ∷ []) (afterLoad card) .answers
     ≡ paged (PageAnswers.Taken 2) ∷ ranFor 3 Spent ∷ paged (PageAnswers.Taken 0) ∷ ranFor 1 Ended ∷ []
-unfolding withTables afterRun afterPage afterCall afterCalls afterLoad uri number card triple page runFor take ranFor opened
+unfolding withTables afterRun afterPage afterCall afterCalls afterLoad uri number card triple page whole runFor take ranFor opened
 noneLeft = refl
 
 -- ── refusal 10: a quad naming term 600 of 4 ─────────────────────────────────────────────────
@@ -133,11 +138,6 @@ unsound = refl
 
 -- ── refusal 14: a 65th graph ────────────────────────────────────────────────────────────────
 
--- the numbers below n, from the last on
-below : ℕ → List ℕ
-below zero = []
-below (suc n) = n ∷ below n
-
 -- 65 URIs, and the script success
 graphURIs : List ℕ → List ℕ
 graphURIs [] = []
@@ -145,7 +145,7 @@ graphURIs (n ∷ ns) = 0x11 ∷ uri (0x67 ∷ (0x21 + n) ∷ []) ++ graphURIs ns
 
 graphCard : Lent
 graphCard =
-    record { terms = graphURIs (below 65); schema = []; script = 0x71 ∷ []; termTable = replicate termTableWidth 0; quadTable = replicate quadTableWidth 0 }
+    record { ranks = builtIn; terms = graphURIs (below 65); schema = []; script = 0x71 ∷ []; termTable = replicate termTableWidth 0; quadTable = replicate quadTableWidth 0 }
 
 -- the first 64 are fetched
 with64 : Left → Left

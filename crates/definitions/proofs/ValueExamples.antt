@@ -17,7 +17,8 @@ use Rattle.definitions.specs.Outcome.{Outcome, ok}
 use Rattle.definitions.specs.Search.{Tuple, answer}
 use Rattle.definitions.specs.Text.{patternOf, accepts, languageRangeOf, matches}
 use Rattle.definitions.specs.Calendar.{dateTimeText}
-use Rattle.definitions.specs.Values.{integerText, decimalText, ranks, rankIn, stringBefore, Tagged}
+use Rattle.definitions.specs.Values.{integerText, decimalText, rankIn, stringBefore, Tagged}
+use Rattle.definitions.specs.Alphabet.{isAlphabet, builtIn}
 use Rattle.definitions.proofs.Opened.{opened}
 
 -- ── str ─────────────────────────────────────────────────────────────────────────────────────
@@ -111,7 +112,7 @@ alphabet : Text
 alphabet = ascii " 0123456789AaBbCcDdEeFfGgHhIiJjKkLlMmNnOoPpQqRrSsTtUuVvWwXxYyZz!\"#$%&'()*+,-./:;<=>?@[\\]^_`{|}~"
 
 -- of 95 bytes, each has its place in that order as its rank
-ranked : map (rankIn ranks) alphabet ≡ upFrom 0 95
+ranked : map (rankIn builtIn) alphabet ≡ upFrom 0 95
 unfolding upFrom alphabet opened
 ranked = refl
 
@@ -120,19 +121,24 @@ complete : T (every (λ b. isIn b alphabet) (upFrom 0x20 95))
 unfolding upFrom alphabet opened
 complete = tt
 
+-- ranks that are lent: those built in, and among lists of 95 one with a rank twice and one with 95
+alphabets : map isAlphabet (builtIn ∷ upFrom 0 95 ∷ (0 ∷ upFrom 0 94) ∷ upFrom 1 95 ∷ []) ≡ true ∷ true ∷ false ∷ false ∷ []
+unfolding upFrom opened
+alphabets = refl
+
 -- ── the order of strings ────────────────────────────────────────────────────────────────────
 
 tagged : String → String → Tagged
 tagged g t = record { tag = ascii g; text = ascii t }
 
 strings :
-    stringBefore ranks (tagged "" "a") (tagged "" "B")
-    ∷ stringBefore ranks (tagged "" "B") (tagged "" "a")
-    ∷ stringBefore ranks (tagged "" "9") (tagged "" "A")
-    ∷ stringBefore ranks (tagged "" "z") (tagged "" "!")
-    ∷ stringBefore ranks (tagged "zz" "ab") (tagged "" "abc")
-    ∷ stringBefore ranks (tagged "de" "ab") (tagged "en" "ab")
-    ∷ stringBefore ranks (tagged "en" "ab") (tagged "en" "ab")
+    stringBefore builtIn (tagged "" "a") (tagged "" "B")
+    ∷ stringBefore builtIn (tagged "" "B") (tagged "" "a")
+    ∷ stringBefore builtIn (tagged "" "9") (tagged "" "A")
+    ∷ stringBefore builtIn (tagged "" "z") (tagged "" "!")
+    ∷ stringBefore builtIn (tagged "zz" "ab") (tagged "" "abc")
+    ∷ stringBefore builtIn (tagged "de" "ab") (tagged "en" "ab")
+    ∷ stringBefore builtIn (tagged "en" "ab") (tagged "en" "ab")
     ∷ []
     ≡ true ∷ false ∷ true ∷ true ∷ true ∷ true ∷ false ∷ []
 unfolding tagged opened
@@ -149,7 +155,7 @@ notLess : Cond
 notLess = Cond.not (Cond.less (Expr.plus (Expr.name (var 0)) (Expr.name (const 0))) (Expr.name (const 1)))
 
 selected : Cond → Option Tuple → Outcome (Option Tuple)
-selected c last = answer (record { schema = []; clock = pos 0 }) (λ v. plain Datatype.integer) speeds [] (λ v. none) (0 ∷ []) (Query.filter c) last
+selected c last = answer (record { schema = []; ranks = builtIn; clock = pos 0 }) (λ v. plain Datatype.integer) speeds [] (λ v. none) (0 ∷ []) (Query.filter c) last
 
 -- 0 alone is selected: past the limit a sum with 10^12, 5 or 1 is no value, and that with −10^12 is less; not twice, −10^12 alone
 overflows :

@@ -6,8 +6,9 @@ use mathlib.Core.Option.{Option, none, some}
 use lib.Dec.{eqb, leb}
 use lib.ListN.{length, getD, getElem?}
 use lib.IntN.{ℤ}
-use Rattle.definitions.specs.Limits.{termLimit, entryLimit, scriptLimit, budgetLimit, pageLimit, termTableWidth, quadTableWidth}
+use Rattle.definitions.specs.Limits.{termLimit, entryLimit, scriptLimit, budgetLimit, pageLimit, ranksWidth, termTableWidth, quadTableWidth}
 use Rattle.definitions.specs.Lists.{distinct}
+use Rattle.definitions.specs.Alphabet.{isAlphabet}
 use Rattle.definitions.specs.Bytes.{sameBytes, provided, onward}
 use Rattle.definitions.specs.Types.{Ty, typeCode}
 use Rattle.definitions.specs.Terms.{Term, Schema, Triple, Sort, sortOf, sameTerm, sameProperty, isDateTime, readTerms, readSchema, readPage}
@@ -118,22 +119,32 @@ reported c = reportedTypes (writtenTypes (c .root)) (c .types)
 
 -- ── what is lent ────────────────────────────────────────────────────────────────────────────
 
--- terms, schema and script with the two tables, as bytes
+-- ranks, terms, schema and script with the two tables, as bytes
 pub record Lent : Type 0 where
+  pub ranks : List ℕ
   pub terms : List ℕ
   pub schema : List ℕ
   pub script : List ℕ
   pub termTable : List ℕ
   pub quadTable : List ℕ
 
--- 1: a lent table of another length
-unfoldable pub tablesFit : (termBytes quadBytes : ℕ) → Bool
-tablesFit termBytes quadBytes = eqb termBytes termTableWidth && eqb quadBytes quadTableWidth
+-- the lengths of ranks and tables
+pub record Lengths : Type 0 where
+  pub ranks : ℕ
+  pub termTable : ℕ
+  pub quadTable : ℕ
+
+abbrev pub lengthsOf : Lent → Lengths
+lengthsOf l = record { ranks = length (l .ranks); termTable = length (l .termTable); quadTable = length (l .quadTable) }
+
+-- 1: ranks or a lent table of another length
+unfoldable pub tablesFit : Lengths → Bool
+tablesFit n = eqb (n .ranks) ranksWidth && (eqb (n .termTable) termTableWidth && eqb (n .quadTable) quadTableWidth)
 
 abbrev pub lengthsFit : Lent → Bool
-lengthsFit l = tablesFit (length (l .termTable)) (length (l .quadTable))
+lengthsFit l = tablesFit (lengthsOf l)
 
--- ── load: 1 to 9 ────────────────────────────────────────────────────────────────────────────
+-- ── load: 1, 21, 2 to 9 ──────────────────────────────────────────────────────────────────────
 
 -- what the call returns, and both tables at its end
 pub record LoadResult : Type 0 where
@@ -144,6 +155,7 @@ pub record LoadResult : Type 0 where
 unfoldable pub loadTests : Lent → Result Checked
 loadTests l = do
   require 1 (lengthsFit l)
+  require 21 (isAlphabet (l .ranks))
   check (l .terms) (l .schema) (l .script)
 
 unfoldable pub loadResult : Lent → Result Checked → LoadResult
@@ -178,23 +190,24 @@ soundIn l saved =
     provided (sameBytes (saved .control .types) (reported c)) (onward (held (c .root) (l .termTable) (l .quadTable) saved) (λ s.
     provided (stateSound (c .schema) (c .types) (c .terms) (c .root) s) (some (record { checked = c; state = s })))))
 
--- what a call on a saved run begins with: 1, 10
+-- what a call on a saved run begins with: 1, 21, 10
 unfoldable pub entryTests : Lent → SavedRun → Result Sound
 entryTests l saved = do
   require 1 (lengthsFit l)
+  require 21 (isAlphabet (l .ranks))
   given 10 (soundIn l saved)
 
--- ── run: 1, 10, 11 ──────────────────────────────────────────────────────────────────────────
+-- ── run: 1, 21, 10, 11 ──────────────────────────────────────────────────────────────────────────
 
 -- what a run's tuples are tried under
-abbrev pub settingOf : Checked → (now : ℤ) → Setting
-settingOf c now = record { schema = c .schema; clock = now }
+abbrev pub settingOf : Checked → (ranks : List ℕ) → (now : ℤ) → Setting
+settingOf c ranks now = record { schema = c .schema; ranks = ranks; clock = now }
 
 -- the machine's part of a run call
-unfoldable pub runIn : Checked → (budget : ℕ) → (now : ℤ) → State → Result (Outcome Run)
-runIn c budget now s = do
+unfoldable pub runIn : Checked → (ranks : List ℕ) → (budget : ℕ) → (now : ℤ) → State → Result (Outcome Run)
+runIn c ranks budget now s = do
   require 11 (leb budget budgetLimit && isDateTime now)
-  passed (run (settingOf c now) (typeAt (c .types)) budget s)
+  passed (run (settingOf c ranks now) (typeAt (c .types)) budget s)
 
 -- where the machine runs: what loading finds, the state before, and the run
 pub record Running : Type 0 where
@@ -205,7 +218,7 @@ pub record Running : Type 0 where
 unfoldable pub runTests : Lent → SavedRun → (budget : ℕ) → (now : ℤ) → Result Running
 runTests l saved budget now = do
   x ← entryTests l saved
-  r ← runIn (x .checked) budget now (x .state)
+  r ← runIn (x .checked) (l .ranks) budget now (x .state)
   passed (record { checked = x .checked; state = x .state; run = r })
 
 -- the steps taken and how the run ended, with the state after its last step
@@ -220,7 +233,7 @@ runResult saved (passed x) = Outcomes._>>=_ (x .run) (λ r. ok (ranOf (x .checke
 unfoldable pub runCall : Lent → SavedRun → (budget : ℕ) → (now : ℤ) → Outcome Ran
 runCall l saved budget now = runResult saved (runTests l saved budget now)
 
--- ── page: 1, 10, 12, 13, 14 ─────────────────────────────────────────────────────────────────
+-- ── page: 1, 21, 10, 12, 13, 14 ─────────────────────────────────────────────────────────────────
 
 abbrev pub isGraph : Option Term → Bool
 isGraph none = false

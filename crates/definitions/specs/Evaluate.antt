@@ -74,9 +74,10 @@ propertyDatatype S (Term.integer n) = fault propertyNotInSchema
 propertyDatatype S (Term.decimal n) = fault propertyNotInSchema
 propertyDatatype S (Term.dateTime n) = fault propertyNotInSchema
 
--- what a tuple is tried under: the schema, and the value of now
+-- what a tuple is tried under: the schema, the ranks of the alphabet, and the value of now
 pub record Setting : Type 0 where
   pub schema : Schema
+  pub ranks : List ℕ
   pub clock : ℤ
 
 -- over the terms by number, the quads and the bindings
@@ -132,7 +133,7 @@ module _ (σ : Setting) (terms : List Term) (quads : List Quad) (β : Bindings) 
     a ← expression e
     b ← expression f
     p ← paired a b
-    ok (lessPair p)
+    ok (lessPair (σ .ranks) p)
 
   -- pattern, quad stored; both, and; union, or; filter, its boolean true; empty, always
   unfoldable pub query : Query → Outcome Bool

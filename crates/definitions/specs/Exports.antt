@@ -9,6 +9,7 @@ use lib.ListN.{length}
 use Rattle.definitions.specs.Limits.{variableLimit, graphLimit, depthLimit, pairLimit}
 use Rattle.definitions.specs.Limits.{typesOffset, boundOffset, bindingsOffset, fetchedOffset, itemsOffset, itemWidth, savedWidth, runReportWidth, pageReportWidth, totalReportWidth}
 use Rattle.definitions.specs.Lists.{every}
+use Rattle.definitions.specs.Alphabet.{isAlphabet}
 use Rattle.definitions.specs.Bytes.{byte, word, littleBytes, part, provided}
 use Rattle.definitions.specs.Outcome.{Outcome, ok, _>>=_}
 use Rattle.definitions.specs.Saved.{zeroItem}
@@ -157,7 +158,10 @@ runOn l budget now saved report (some r) = runCall l r budget now >>= λ x. ok (
 unfoldable pub runExport : Lent → (saved : List ℕ) → (budget : ℕ) → (now : ℤ) → (report : List ℕ) → Outcome RunExport
 runExport l saved budget now report =
     elim (lengthsFit l && (eqb (length saved) savedWidth && eqb (length report) runReportWidth)) [
-      | true ↦ runOn l budget now saved report (savedFrom saved)
+      | true ↦ elim (isAlphabet (l .ranks)) [
+        | true ↦ runOn l budget now saved report (savedFrom saved)
+        | false ↦ ok (refusedRun 21 saved report)
+      ]
       | false ↦ ok (refusedRun 1 saved report)
     ]
 
@@ -182,7 +186,10 @@ pageOn l g page saved report (some r) = pagedExport saved report (pageCall l r g
 unfoldable pub pageExport : Lent → (saved : List ℕ) → (graph : ℕ) → (page : List ℕ) → (report : List ℕ) → PageExport
 pageExport l saved g page report =
     elim (lengthsFit l && (eqb (length saved) savedWidth && eqb (length report) pageReportWidth)) [
-      | true ↦ pageOn l g page saved report (savedFrom saved)
+      | true ↦ elim (isAlphabet (l .ranks)) [
+        | true ↦ pageOn l g page saved report (savedFrom saved)
+        | false ↦ refusedPage 21 l saved report
+      ]
       | false ↦ refusedPage 1 l saved report
     ]
 

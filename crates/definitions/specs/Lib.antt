@@ -1,5 +1,6 @@
 pub mod Limits
 pub mod Lists
+pub mod Alphabet
 pub mod Bytes
 pub mod Types
 pub mod Ascii

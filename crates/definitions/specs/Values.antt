@@ -7,6 +7,7 @@ use lib.Dec.{ltb, eqb}
 use lib.IntN.{ℤ, pos, negsuc, natAbs, _+ℤ_, _-ℤ_, _*ℤ_}
 use lib.ListN.{getD}
 use lib.Signed.{ltZ}
+use Rattle.definitions.specs.Alphabet.{firstByte}
 use Rattle.definitions.specs.Ascii.{ascii}
 use Rattle.definitions.specs.Bytes.{sameBytes, provided}
 use Rattle.definitions.specs.Terms.{Term, Text, isInteger, isDecimal, sameNumber}
@@ -149,18 +150,8 @@ textOf (Value.dateTime n) = untagged (dateTimeText n)
 
 -- ── the order of strings ────────────────────────────────────────────────────────────────────
 
--- The rank of each byte from 20 to 7E: blank, digits, letters as A a B b to Z z, then the others by byte.
-unfoldable pub ranks : List ℕ
-ranks =
-    0 ∷ 63 ∷ 64 ∷ 65 ∷ 66 ∷ 67 ∷ 68 ∷ 69 ∷ 70 ∷ 71 ∷ 72 ∷ 73 ∷ 74 ∷ 75 ∷ 76 ∷ 77
-    ∷ 1 ∷ 2 ∷ 3 ∷ 4 ∷ 5 ∷ 6 ∷ 7 ∷ 8 ∷ 9 ∷ 10 ∷ 78 ∷ 79 ∷ 80 ∷ 81 ∷ 82 ∷ 83
-    ∷ 84 ∷ 11 ∷ 13 ∷ 15 ∷ 17 ∷ 19 ∷ 21 ∷ 23 ∷ 25 ∷ 27 ∷ 29 ∷ 31 ∷ 33 ∷ 35 ∷ 37 ∷ 39
-    ∷ 41 ∷ 43 ∷ 45 ∷ 47 ∷ 49 ∷ 51 ∷ 53 ∷ 55 ∷ 57 ∷ 59 ∷ 61 ∷ 85 ∷ 86 ∷ 87 ∷ 88 ∷ 89
-    ∷ 90 ∷ 12 ∷ 14 ∷ 16 ∷ 18 ∷ 20 ∷ 22 ∷ 24 ∷ 26 ∷ 28 ∷ 30 ∷ 32 ∷ 34 ∷ 36 ∷ 38 ∷ 40
-    ∷ 42 ∷ 44 ∷ 46 ∷ 48 ∷ 50 ∷ 52 ∷ 54 ∷ 56 ∷ 58 ∷ 60 ∷ 62 ∷ 91 ∷ 92 ∷ 93 ∷ 94 ∷ []
-
-unfoldable pub rankIn : (table : List ℕ) → ℕ → ℕ
-rankIn table b = getD table (b - 0x20) 0
+unfoldable pub rankIn : (ranks : List ℕ) → ℕ → ℕ
+rankIn ranks b = getD ranks (b - firstByte) 0
 
 -- in order by a rank of the elements; the end comes first
 unfoldable pub before : (rank : ℕ → ℕ) → List ℕ → List ℕ → Bool
@@ -169,10 +160,10 @@ before rank [] (b ∷ t) = true
 before rank (a ∷ s) [] = false
 before rank (a ∷ s) (b ∷ t) = ltb (rank a) (rank b) || (eqb (rank a) (rank b) && before rank s t)
 
--- by text, then tag, under a rank table
-unfoldable pub stringBefore : (table : List ℕ) → Tagged → Tagged → Bool
-stringBefore table a b =
-    before (rankIn table) (a .text) (b .text) || (sameBytes (a .text) (b .text) && before (rankIn table) (a .tag) (b .tag))
+-- by text, then tag, under ranks
+unfoldable pub stringBefore : (ranks : List ℕ) → Tagged → Tagged → Bool
+stringBefore ranks a b =
+    before (rankIn ranks) (a .text) (b .text) || (sameBytes (a .text) (b .text) && before (rankIn ranks) (a .tag) (b .tag))
 
 -- ── equal and less ──────────────────────────────────────────────────────────────────────────
 
@@ -234,12 +225,12 @@ equalPair (strings a b) = present sameTagged a b
 equalPair (numbers a b) = present sameNumber a b
 equalPair (dateTimes a b) = truthOf (sameNumber a b)
 
--- URIs go by bytes
-unfoldable pub lessPair : Pair → Truth
-lessPair (uris a b) = truthOf (before (λ n. n) a b)
-lessPair (strings a b) = present (stringBefore ranks) a b
-lessPair (numbers a b) = present ltZ a b
-lessPair (dateTimes a b) = truthOf (ltZ a b)
+-- less on strings goes by the ranks that are lent, URIs go by bytes
+unfoldable pub lessPair : (ranks : List ℕ) → Pair → Truth
+lessPair ranks (uris a b) = truthOf (before (λ n. n) a b)
+lessPair ranks (strings a b) = present (stringBefore ranks) a b
+lessPair ranks (numbers a b) = present ltZ a b
+lessPair ranks (dateTimes a b) = truthOf (ltZ a b)
 
 -- ── regex and langMatches want a string ─────────────────────────────────────────────────────
 

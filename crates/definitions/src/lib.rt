@@ -44,6 +44,9 @@ pub const LANG_MATCHES_TEXT_OFFSET: usize = 1 + LANGUAGE_RANGE_WIDTH;
 // A quad: four 2-byte numbers.
 pub const QUAD_WIDTH: usize = 8;
 
+// The ranks of an alphabet, one for each byte from 20 to 7E.
+pub const RANKS_WIDTH: usize = 95;
+
 // Limits.
 pub const TERM_LIMIT: usize = 512;
 
@@ -133,6 +136,9 @@ pub const NO_GRAPH: u8 = 12;
 pub const BAD_PAGE: u8 = 13;
 
 pub const NO_ROOM: u8 = 14;
+
+// Document 02's: ranks that are no alphabet.
+pub const BAD_RANKS: u8 = 21;
 
 // What reading a record gives: the offset after it, or that it is malformed.
 pub enum Read {

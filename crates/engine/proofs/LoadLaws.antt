@@ -15,7 +15,8 @@ use Rattle.definitions.specs.Reading.{readScript, parsed}
 use Rattle.definitions.specs.Machine.{loaded}
 use Rattle.definitions.specs.Saved.{termTable, quadTable, quadBytes, offsetOf, savedItem, savedItems, savedControl, savedStore, savedOf}
 use Rattle.definitions.specs.Result.{Result, refused, passed}
-use Rattle.definitions.specs.Calls.{Checked, Lent, LoadResult, tablesFit, loadTests, loadResult, check, sizesFit, reported}
+use Rattle.definitions.specs.Calls.{Checked, Lent, LoadResult, tablesFit, loadTests, loadResult, check, sizesFit, reported, lengthsOf}
+use Rattle.definitions.specs.Alphabet.{isAlphabet}
 use Rattle.definitions.specs.Calls as Calls
 use Rattle.definitions.specs.declared.Loaded.{Loaded}
 use Rattle.definitions.specs.declared.SavedRun.{SavedRun}
@@ -73,15 +74,20 @@ module _ (l : Lent) where
       let k = load-is e in
       (f ∙ sym (ap (λ (x : LoadResult). x .returned) k), sym (ap (λ (x : LoadResult). x .termTable) k), sym (ap (λ (x : LoadResult). x .quadTable) k))
 
-  module _ {a : Bool} (ea : a ≡ tablesFit (length (l .termTable)) (length (l .quadTable))) where
+  module _ {a : Bool} (ea : a ≡ tablesFit (lengthsOf l)) where
     pub other-length : a ≡ false → loadTests l ≡ refused 1
     unfolding loadTests
     other-length e = require-refused 1 _ (sym ea ∙ e)
 
-    module _ (fit : a ≡ true) {card : Card} (ec : card ≡ cardOf (check (l .terms) (l .schema) (l .script)) (card .entries)) where
+    module _ (fit : a ≡ true) {b : Bool} (eb : b ≡ isAlphabet (l .ranks)) where
+      pub other-ranks : b ≡ false → loadTests l ≡ refused 21
+      unfolding loadTests
+      other-ranks e = require-after 1 _ _ (trueIs _ (sym ea ∙ fit)) ∙ require-refused 21 _ (sym eb ∙ e)
+
+    module _ (fit : a ≡ true) {b : Bool} (eb : b ≡ isAlphabet (l .ranks)) (good : b ≡ true) {card : Card} (ec : card ≡ cardOf (check (l .terms) (l .schema) (l .script)) (card .entries)) where
       only-check : loadTests l ≡ check (l .terms) (l .schema) (l .script)
       unfolding loadTests
-      only-check = require-after 1 _ _ (trueIs _ (sym ea ∙ fit))
+      only-check = require-after 1 _ _ (trueIs _ (sym ea ∙ fit)) ∙ require-after 21 _ _ (trueIs _ (sym eb ∙ good))
 
       number : card .refusal ≡ numberOf (check (l .terms) (l .schema) (l .script))
       number = ap (λ (k : Card). k .refusal) ec ∙ card-number (check (l .terms) (l .schema) (l .script)) (card .entries)
@@ -116,10 +122,10 @@ module _ (l : Lent) where
             let p = check-passed (l .terms) (l .schema) (l .script) c (found .1) in
             let types : card .types ≡ reported c = ap (λ (k : Card). k .types) (ec ∙ ap (λ (m : Result Checked). cardOf m (card .entries)) (found .1)) in
             let root = parsed-offset (length (c .terms)) (l .script) (c .root) (p .reads .parses) in
-            let width : length empty ≡ length (l .quadTable) = ap length fe ∙ quad-table-length [] (omega arith) ∙ sym (fit-both l ea fit .1) in (
+            let width : length empty ≡ length (l .quadTable) = ap length fe ∙ quad-table-length [] (omega arith) ∙ sym (fit-both (lengthsOf l) ea fit .1) in (
               f ∙ ap acceptedLoad types
                   ∙ ap (λ (s : SavedRun). record { answer = LoadAnswers.Accepted; saved = s }) (saved-fresh (reported c) (c .terms) (c .root) root)
                   ∙ sym (ap (λ (x : LoadResult). x .returned) k),
-              ft ∙ copied table (l .termTable) (table-width ∙ sym (fit-both l ea fit .0)) ∙ slots ∙ sym (ap (λ (x : LoadResult). x .termTable) k),
+              ft ∙ copied table (l .termTable) (table-width ∙ sym (fit-both (lengthsOf l) ea fit .0)) ∙ slots ∙ sym (ap (λ (x : LoadResult). x .termTable) k),
               fq ∙ copied empty (l .quadTable) width ∙ fe ∙ sym (ap (λ (x : LoadResult). x .quadTable) k),
             )

@@ -21,18 +21,18 @@ use Rattle.store.specs.Canonical.{canonicalControl, canonicalStore}
 use Rattle.machine.proofs.StartLaws.{store-here, types-here, control-here}
 use Rattle.entry.specs.Entry.{lentOf}
 
-module _ (terms schema script table store : List ℕ) (saved : SavedRun) (x : Calls.Sound) (entered : entryTests (lentOf terms schema script table store) saved ≡ passed x) where
-  pub passed-10 : SoundIn (lentOf terms schema script table store) saved x
-  passed-10 = sound-in (lentOf terms schema script table store) saved x (entry-inv (lentOf terms schema script table store) saved entered .1)
+module _ (ranks terms schema script table store : List ℕ) (saved : SavedRun) (x : Calls.Sound) (entered : entryTests (lentOf ranks terms schema script table store) saved ≡ passed x) where
+  pub passed-10 : SoundIn (lentOf ranks terms schema script table store) saved x
+  passed-10 = sound-in (lentOf ranks terms schema script table store) saved x (entry-inv (lentOf ranks terms schema script table store) saved entered .2)
 
   pub accepted : Accepted (x .checked)
-  accepted = is-accepted (lentOf terms schema script table store) saved x passed-10
+  accepted = is-accepted (lentOf ranks terms schema script table store) saved x passed-10
 
   pub loads : Passed terms schema script (x .checked)
   loads = check-passed terms schema script (x .checked) (passed-10 .loads)
 
   pub holding : Holding (x .checked .root) table store saved (x .state)
-  holding = Sounds.holding (lentOf terms schema script table store) saved x passed-10
+  holding = Sounds.holding (lentOf ranks terms schema script table store) saved x passed-10
 
   pub stack-low : saved .control .height ≤ depthLimit
   stack-low = leb→le (saved .control .height) depthLimit (holding .control .height)
@@ -43,8 +43,8 @@ module _ (terms schema script table store : List ℕ) (saved : SavedRun) (x : Ca
   pub control-saved : length (saved .control .bound) ≡ variableLimit → length (saved .control .items) ≡ depthLimit
       → {clean : SavedControl} → clean ≡ canonicalControl script (saved .control) → clean ≡ savedControl (reported (x .checked)) (x .state .control)
   control-saved sixteen levels {clean} e =
-      control-here (lentOf terms schema script table store) saved x passed-10 clean e sixteen levels
-      ∙ ap (λ (ts : List ℕ). savedControl ts (x .state .control)) (types-here (lentOf terms schema script table store) saved x passed-10 clean e ∙ passed-10 .types)
+      control-here (lentOf ranks terms schema script table store) saved x passed-10 clean e sixteen levels
+      ∙ ap (λ (ts : List ℕ). savedControl ts (x .state .control)) (types-here (lentOf ranks terms schema script table store) saved x passed-10 clean e ∙ passed-10 .types)
 
   pub store-saved : length (saved .store .fetched) ≡ graphLimit → {kept : SavedStore} → kept ≡ canonicalStore (saved .store) → kept ≡ savedStore (x .state .store)
-  store-saved = store-here (lentOf terms schema script table store) saved x passed-10
+  store-saved = store-here (lentOf ranks terms schema script table store) saved x passed-10

@@ -6,7 +6,7 @@ use mathlib.Core.Bool.{Bool, true, false, _&&_}
 use lib.Dec.{T, leb, leb→le}
 use lib.IntN.{ℤ}
 use lib.ListN.{length}
-use Rattle.definitions.specs.Limits.{budgetLimit, depthLimit, graphLimit, variableLimit, scriptLimit}
+use Rattle.definitions.specs.Limits.{ranksWidth, budgetLimit, depthLimit, graphLimit, variableLimit, scriptLimit}
 use Rattle.laws.proofs.Check.{check-passed, sizes}
 use Rattle.definitions.specs.Bytes.{signed}
 use Rattle.definitions.specs.Terms.{isDateTime}
@@ -18,13 +18,13 @@ use Rattle.definitions.specs.Machine as Machine
 use Rattle.definitions.specs.Saved.{savedControl, savedStore}
 use Rattle.definitions.specs.Result.{Result, refused, passed, _>>=_}
 use Rattle.definitions.specs.Calls as Calls
-use Rattle.definitions.specs.Calls.{Checked, reported, settingOf, Lent, entryTests, runIn, Running, runTests, ranOf, runResult, runCall}
+use Rattle.definitions.specs.Calls.{Checked, reported, settingOf, Lent, entryTests, runIn, Running, runTests, ranOf, runResult, runCall, lengthsOf, lengthsFit}
 use Rattle.definitions.specs.declared.SavedControl.{SavedControl}
 use Rattle.definitions.specs.declared.SavedStore.{SavedStore}
 use Rattle.definitions.specs.declared.SavedRun.{SavedRun}
 use Rattle.definitions.specs.declared.Ran.{Ran}
 use Rattle.definitions.specs.declared.RunAnswer.the-variants as RunAnswers
-use Rattle.laws.proofs.Tests.{trueIs, andLeft, andRight}
+use Rattle.laws.proofs.Tests.{isTrue, trueIs, andLeft, andRight}
 use Rattle.laws.proofs.Results.{require-after, require-refused, bind-refused, bind-passed}
 use Rattle.laws.proofs.SoundIn.{SoundIn}
 use Rattle.laws.proofs.RunStore.{run-keeps, last-all}
@@ -36,6 +36,8 @@ use Rattle.machine.proofs.StartLaws.{types-here, lends-held}
 use Rattle.entry.specs.declared.Entered.{Entered}
 use Rattle.engine.specs.Refused.{refusedRan}
 use Rattle.entry.specs.Entry.{lentOf, contextOf, Found}
+use Rattle.entry.proofs.EntryLaws.{fit-ranks}
+use Rattle.laws.proofs.SoundIn.{entry-inv}
 use Rattle.engine.proofs.PassedLaws.{passed-10, store-saved}
 
 -- ── refusals ────────────────────────────────────────────────────────────────────────────────
@@ -43,7 +45,7 @@ use Rattle.engine.proofs.PassedLaws.{passed-10, store-saved}
 module _ (l : Lent) (saved : SavedRun) (budget : ℕ) (now : ℤ) where
   -- what comes after soundness
   abbrev after : Calls.Sound → Result Running
-  after x = runIn (x .checked) budget now (x .state) >>= λ r. passed (record { checked = x .checked; state = x .state; run = r })
+  after x = runIn (x .checked) (l .ranks) budget now (x .state) >>= λ r. passed (record { checked = x .checked; state = x .state; run = r })
 
   pub entry-refused : {n : ℕ} → entryTests l saved ≡ refused n → {r : Ran} → r ≡ refusedRan saved n → runCall l saved budget now ≡ ok r
   unfolding runCall runTests runResult
@@ -61,7 +63,7 @@ module _ (l : Lent) (saved : SavedRun) (budget : ℕ) (now : ℤ) where
     c = x .checked
 
     abbrev machine : Outcome Run
-    machine = Machine.run (settingOf c now) (typeAt (c .types)) budget s
+    machine = Machine.run (settingOf c (l .ranks) now) (typeAt (c .types)) budget s
 
     abbrev limits : Bool
     limits = leb budget budgetLimit && isDateTime now
@@ -83,17 +85,20 @@ module _ (l : Lent) (saved : SavedRun) (budget : ℕ) (now : ℤ) where
 
 -- ── what the machine is lent ────────────────────────────────────────────────────────────────
 
-module _ (terms schema script table store : List ℕ) (saved : SavedRun)
-    (x : Calls.Sound) (entered : entryTests (lentOf terms schema script table store) saved ≡ passed x) (r : Entered) (rows leasts : List ℕ)
-    (f : Found (lentOf terms schema script table store) saved x r rows leasts)
+module _ (ranks terms schema script table store : List ℕ) (saved : SavedRun)
+    (x : Calls.Sound) (entered : entryTests (lentOf ranks terms schema script table store) saved ≡ passed x) (r : Entered) (rows leasts : List ℕ)
+    (f : Found (lentOf ranks terms schema script table store) saved x r rows leasts)
     (sixteen : length (saved .control .bound) ≡ variableLimit) (places : length (saved .store .fetched) ≡ graphLimit) (levels : length (saved .control .items) ≡ depthLimit)
     (clean : SavedControl) (e : clean ≡ canonicalControl script (saved .control)) (kept : SavedStore) (q : kept ≡ canonicalStore (saved .store))
     (budget clock : ℕ) (limits : leb budget budgetLimit && isDateTime (signed clock) ≡ true) where
   abbrev l : Lent
-  l = lentOf terms schema script table store
+  l = lentOf ranks terms schema script table store
 
   pub tested : SoundIn l saved x
-  tested = passed-10 terms schema script table store saved x entered
+  tested = passed-10 ranks terms schema script table store saved x entered
+
+  pub ranked : length ranks ≡ ranksWidth
+  ranked = fit-ranks (lengthsOf l) refl (isTrue (lengthsFit l) (entry-inv l saved entered .0))
 
   types-are : clean .types ≡ reported (x .checked)
   types-are = types-here l saved x tested clean e ∙ tested .types
@@ -101,9 +106,9 @@ module _ (terms schema script table store : List ℕ) (saved : SavedRun)
   pub in-range : T (leb budget budgetLimit && isDateTime (signed clock))
   in-range = trueIs (leb budget budgetLimit && isDateTime (signed clock)) limits
 
-  abbrev pub lends : Machines.LendsStore script table rows leasts (contextOf r saved clock) clean kept
+  abbrev pub lends : Machines.LendsStore script ranks table rows leasts (contextOf r saved clock) clean kept
   lends =
-      lends-held l saved x tested clean e kept q sixteen places levels (sym (f .loaded))
+      lends-held l saved x tested clean e kept q ranked sixteen places levels (sym (f .loaded))
       (record { clocked = andRight (leb budget budgetLimit) (isDateTime (signed clock)) in-range }) (f .lent clock)
 
   pub script-short : length script ≤ scriptLimit
@@ -113,7 +118,7 @@ module _ (terms schema script table store : List ℕ) (saved : SavedRun)
   budget-small = leb→le budget budgetLimit (andLeft (leb budget budgetLimit) (isDateTime (signed clock)) in-range)
 
   -- its result is the call's
-  pub ran-is : (end : Stopped) → ((w : Machines.LendsStore script table rows leasts (contextOf r saved clock) clean kept) → RunOf (w .lends) budget end)
+  pub ran-is : (end : Stopped) → ((w : Machines.LendsStore script ranks table rows leasts (contextOf r saved clock) clean kept) → RunOf (w .lends) budget end)
       → {a : Ran} → a ≡ record { answer = RunAnswers.Ran (end .steps) (end .ending); saved = record { control = end .control; store = kept } }
       → runCall l saved budget (signed clock) ≡ ok a
   unfolding ranOf
@@ -124,7 +129,7 @@ module _ (terms schema script table store : List ℕ) (saved : SavedRun)
       let control : end .control ≡ savedControl (reported c) (last .control) = o .control ∙ ap (λ (ts : List ℕ). savedControl ts (last .control)) types-are in
       let same : last .store ≡ x .state .store =
       last-all (λ s. s .store ≡ x .state .store) (x .state) (o .ran .passed) refl
-      (run-keeps (settingOf c (signed clock)) (typeAt (c .types)) budget (x .state) (o .ran) (o .noFault)) in
-      let stored : kept ≡ savedStore (last .store) = store-saved terms schema script table store saved x entered places q ∙ ap savedStore (sym same) in
+      (run-keeps (settingOf c ranks (signed clock)) (typeAt (c .types)) budget (x .state) (o .ran) (o .noFault)) in
+      let stored : kept ≡ savedStore (last .store) = store-saved ranks terms schema script table store saved x entered places q ∙ ap savedStore (sym same) in
       ran l saved budget (signed clock) x entered limits (o .ran) (o .noFault)
       (k ∙ (λ i. record { answer = RunAnswers.Ran (o .steps i) (o .ending i); saved = record { control = control i; store = stored i } }))

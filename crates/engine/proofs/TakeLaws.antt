@@ -14,7 +14,7 @@ use Rattle.definitions.specs.Terms.{Term, readSchema, readPage}
 use Rattle.laws.proofs.SoundMeans.{facts}
 use Rattle.definitions.specs.Machine.{State, Store, Taken, taken, withPage, inLimits, joined, inOrder}
 use Rattle.definitions.specs.Saved.{savedControl, savedStore, termTable, quadTable}
-use Rattle.definitions.specs.Calls.{Checked, reported, Lent, lengthsFit, isGraph, pageIn, pageResult, pageCall}
+use Rattle.definitions.specs.Calls.{Checked, reported, Lent, lengthsOf, lengthsFit, isGraph, pageIn, pageResult, pageCall}
 use Rattle.definitions.specs.Result as Results
 use Rattle.definitions.specs.declared.SavedControl.{SavedControl}
 use Rattle.definitions.specs.declared.SavedStore.{SavedStore}
@@ -59,10 +59,10 @@ over-limits g k σ e h =
     let last = andRight quads graphs (andRight terms (quads && graphs) (trueIs (terms && (quads && graphs)) e)) in
     omega (arith, leb→le (length (joined g (σ .fetched))) graphLimit last)
 
-module _ (terms schema script table store : List ℕ) (saved : SavedRun) (n : ℕ) (entries : List ℕ) (g : ℕ) (page : List ℕ)
-    (p : Passed (lentOf terms schema script table store) saved n entries g page) where
+module _ (ranks terms schema script table store : List ℕ) (saved : SavedRun) (n : ℕ) (entries : List ℕ) (g : ℕ) (page : List ℕ)
+    (p : Passed (lentOf ranks terms schema script table store) saved n entries g page) where
   abbrev l : Lent
-  l = lentOf terms schema script table store
+  l = lentOf ranks terms schema script table store
 
   abbrev c : Checked
   c = p .found .checked
@@ -74,15 +74,15 @@ module _ (terms schema script table store : List ℕ) (saved : SavedRun) (n : �
   k = taken (c .schema) g (p .triples) (s .store)
 
   passed : SoundIn l saved (p .found)
-  passed = passed-10 terms schema script table store saved (p .found) (p .entered)
+  passed = passed-10 ranks terms schema script table store saved (p .found) (p .entered)
 
   accepts : Accepted c
-  accepts = accepted terms schema script table store saved (p .found) (p .entered)
+  accepts = accepted ranks terms schema script table store saved (p .found) (p .entered)
 
   -- ── what the machine's part asks for ──────────────────────────────────────────────────────
 
   pub run-low : (saved .control .height ≤ depthLimit) × (saved .store .graphs ≤ graphLimit)
-  run-low = (stack-low terms schema script table store saved (p .found) (p .entered), graphs-low terms schema script table store saved (p .found) (p .entered))
+  run-low = (stack-low ranks terms schema script table store saved (p .found) (p .entered), graphs-low ranks terms schema script table store saved (p .found) (p .entered))
 
   pub graph-small : g < placeLimit
   graph-small =
@@ -101,20 +101,20 @@ module _ (terms schema script table store : List ℕ) (saved : SavedRun) (n : �
   page-fits = leb→le (length page) pageLimit (provided-inv (leb (length page) pageLimit) (readPage page) (p .reads) .0)
 
   pub schema-is : readSchema schema ≡ some (c .schema)
-  schema-is = loads terms schema script table store saved (p .found) (p .entered) .reads .entries
+  schema-is = loads ranks terms schema script table store saved (p .found) (p .entered) .reads .entries
 
   pub schema-read : Reads schema entries
   schema-read = (c .schema, schema-is, p .hashed)
 
   fit : (length table ≡ termTableWidth) × (length store ≡ quadTableWidth)
-  fit = fit-both l refl (isTrue (lengthsFit l) (entry-inv l saved (p .entered) .0))
+  fit = fit-both (lengthsOf l) refl (isTrue (lengthsFit l) (entry-inv l saved (p .entered) .0))
 
   -- ── the store that is held, with the saved store without what means nothing ───────────────
 
   module _ (termBytes : AreBytes table) (quadBytes : AreBytes store) (places : length (saved .store .fetched) ≡ graphLimit) (kept : SavedStore)
       (e : kept ≡ canonicalStore (saved .store)) where
     is : kept ≡ savedStore (s .store)
-    is = store-saved terms schema script table store saved (p .found) (p .entered) places e
+    is = store-saved ranks terms schema script table store saved (p .found) (p .entered) places e
 
     held-as-saved : HeldStore table store n (savedStore (s .store)) (s .store)
     unfolding savedStore filled
@@ -189,7 +189,7 @@ module _ (terms schema script table store : List ℕ) (saved : SavedRun) (n : �
           go false f = absurd (taken-refused (sym h ∙ ap (λ (r : AfterPage). r .answer) (by-limits false f .0)))
           go true f =
               let b = by-limits true f in
-              let control : clean ≡ savedControl (reported c) (s .control) = control-saved terms schema script table store saved (p .found) (p .entered) sixteen levels ec in
+              let control : clean ≡ savedControl (reported c) (s .control) = control-saved ranks terms schema script table store saved (p .found) (p .entered) sixteen levels ec in
               let stored : r .store ≡ savedStore (withPage g k (s .store)) =
               ap (λ (r : AfterPage). r .store) (b .0)
               ∙ (ap (λ (t : SavedStore). paged t g (length (k .quads))) is ∙ saved-paged (s .store) g k (graphs-few c accepts s (passed .sound)) (fitting f)) in

@@ -1,9 +1,11 @@
-// The load call: refusals 1 to 9, or both tables and the saved run.
+// The load call: refusals 1, 21 and 2 to 9, or both tables and the saved run.
 ghost use mathlib.Core.Path.{_≡_};
 ghost use Rattle.definitions.specs.Calls as Calls;
 ghost use Rattle.engine.specs.Refused.{refusedLoad, acceptedLoad};
 ghost use Rattle.entry.specs.Entry.{lentOf};
+use alphabet::is_alphabet;
 use card::refusals::check_card;
+use definitions::BAD_RANKS;
 use definitions::LoadAnswer;
 use definitions::Loaded;
 use definitions::QUAD_TABLE_WIDTH;
@@ -39,18 +41,22 @@ fn accepted(types: [u8; VARIABLE_LIMIT]) -> Loaded
 // Loads terms, schema and script: term table, quad table and saved run, or a refusal that leaves both tables as they were.
 // Ruled out: a table cleared before a refusal; a quad table of another length accepted.
 pub fn load(
+    ranks: &[u8],
     terms: &[u8],
     schema: &[u8],
     script: &[u8],
     table: &mut [u8],
     store: &mut [u8],
 ) -> Loaded
-    ensures { λ r. ⌜ (r ≡ Calls.load (lentOf (now (terms .entry)) (now (schema .entry)) (now (script .entry)) (now (table .entry)) (now (store .entry))) .returned)
-        × (now (table .exit) ≡ Calls.load (lentOf (now (terms .entry)) (now (schema .entry)) (now (script .entry)) (now (table .entry)) (now (store .entry))) .termTable)
-        × (now (store .exit) ≡ Calls.load (lentOf (now (terms .entry)) (now (schema .entry)) (now (script .entry)) (now (table .entry)) (now (store .entry))) .quadTable) ⌝ }
+    ensures { λ r. ⌜ (r ≡ Calls.load (lentOf (now (ranks .entry)) (now (terms .entry)) (now (schema .entry)) (now (script .entry)) (now (table .entry)) (now (store .entry))) .returned)
+        × (now (table .exit) ≡ Calls.load (lentOf (now (ranks .entry)) (now (terms .entry)) (now (schema .entry)) (now (script .entry)) (now (table .entry)) (now (store .entry))) .termTable)
+        × (now (store .exit) ≡ Calls.load (lentOf (now (ranks .entry)) (now (terms .entry)) (now (schema .entry)) (now (script .entry)) (now (table .entry)) (now (store .entry))) .quadTable) ⌝ }
 {
-    if !tables_fit(table, store) {
+    if !tables_fit(ranks, table, store) {
         return refused(WRONG_LENGTH);
+    }
+    if !is_alphabet(ranks) {
+        return refused(BAD_RANKS);
     }
     let mut work = [0u8; TERM_TABLE_WIDTH];
     let mut leasts = [0u8; TERM_LIMIT];

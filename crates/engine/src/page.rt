@@ -1,7 +1,7 @@
 // The page call: refusals 1, 10, 12, 13 and 14 in this order, then the page taken in on copies of both tables.
 ghost use mathlib.Core.Path.{_≡_};
 ghost use mathlib.Core.List.{List};
-ghost use Prim.Native.Nat.{_≤_};
+ghost use Prim.Native.Nat.{ℕ, _≤_};
 ghost use lib.ListN.{length, getElem?};
 ghost use Rattle.definitions.specs.Limits.{termLimit};
 ghost use Rattle.definitions.specs.Terms.{Term, Schema};
@@ -75,9 +75,11 @@ fn take(
     graph: u64,
     page: &[u8],
 ) -> Paged
-    requires { ⌜ Passed (lentOf (now terms) (now schema) (now script) (now table) (now store)) saved count (now entries) graph (now page) ⌝ }
-    ensures { λ r. ⌜ pageCall (lentOf (now (terms .entry)) (now (schema .entry)) (now (script .entry)) (now (table .entry)) (now (store .entry))) saved graph (now (page .entry))
-        ≡ record { returned = r; termTable = now (table .exit); quadTable = now (store .exit) } ⌝ }
+    requires { ⌜ ((ranks : List ℕ) × Passed (lentOf ranks (now terms) (now schema) (now script) (now table) (now store)) saved count (now entries) graph (now page)) ⌝ }
+    ensures { λ r. ⌜ ((ranks : List ℕ)
+        → Passed (lentOf ranks (now (terms .entry)) (now (schema .entry)) (now (script .entry)) (now (table .entry)) (now (store .entry))) saved count (now (entries .entry)) graph (now (page .entry))
+        → pageCall (lentOf ranks (now (terms .entry)) (now (schema .entry)) (now (script .entry)) (now (table .entry)) (now (store .entry))) saved graph (now (page .entry))
+        ≡ record { returned = r; termTable = now (table .exit); quadTable = now (store .exit) }) ⌝ }
 {
     let control = saved.control;
     let clean = canonical_control(control, script);
@@ -109,6 +111,7 @@ fn take(
 
 // The page call. Ruled out: a page that keeps the graph's old quads; a refused page that leaves new terms behind.
 pub fn page(
+    ranks: &[u8],
     terms: &[u8],
     schema: &[u8],
     script: &[u8],
@@ -118,12 +121,13 @@ pub fn page(
     graph: u64,
     page: &[u8],
 ) -> Paged
-    ensures { λ r. ⌜ pageCall (lentOf (now (terms .entry)) (now (schema .entry)) (now (script .entry)) (now (table .entry)) (now (store .entry))) saved graph (now (page .entry))
+    ensures { λ r. ⌜ pageCall (lentOf (now (ranks .entry)) (now (terms .entry)) (now (schema .entry)) (now (script .entry)) (now (table .entry)) (now (store .entry))) saved graph (now (page .entry))
         ≡ record { returned = r; termTable = now (table .exit); quadTable = now (store .exit) } ⌝ }
 {
     let mut keys = [0u64; QUAD_LIMIT];
     let mut leasts = [0u8; TERM_LIMIT];
     let entered = enter(
+        ranks,
         terms,
         schema,
         script,

@@ -1,4 +1,4 @@
-// The run call: refusals 1, 10 and 11 in this order, then the machine's steps.
+// The run call: refusals 1, 21, 10 and 11 in this order, then the machine's steps.
 ghost use mathlib.Core.Path.{_≡_};
 ghost use mathlib.Core.Bool.{_&&_};
 ghost use lib.Dec.{leb};
@@ -55,6 +55,7 @@ fn in_limits(budget: u64, clock: u64) -> bool
 
 // The run call. Ruled out: waiting or spent said without a step; a total of steps that were not taken.
 pub fn run(
+    ranks: &[u8],
     terms: &[u8],
     schema: &[u8],
     script: &[u8],
@@ -64,11 +65,12 @@ pub fn run(
     budget: u64,
     clock: i64,
 ) -> Ran
-    ensures { λ r. ⌜ runCall (lentOf (now (terms .entry)) (now (schema .entry)) (now (script .entry)) (now (table .entry)) (now (store .entry))) saved budget clock ≡ ok r ⌝ }
+    ensures { λ r. ⌜ runCall (lentOf (now (ranks .entry)) (now (terms .entry)) (now (schema .entry)) (now (script .entry)) (now (table .entry)) (now (store .entry))) saved budget clock ≡ ok r ⌝ }
 {
     let mut keys = [0u64; QUAD_LIMIT];
     let mut leasts = [0u8; TERM_LIMIT];
     let entered = enter(
+        ranks,
         terms,
         schema,
         script,
@@ -97,7 +99,17 @@ pub fn run(
         clock: second,
     };
     let steps = budget as u32;
-    let end = run_steps(clean, kept, script, context, table, &keys, &leasts, steps);
+    let end = run_steps(
+        clean,
+        kept,
+        script,
+        context,
+        ranks,
+        table,
+        &keys,
+        &leasts,
+        steps,
+    );
     let ending = end.ending;
     let after = end.control;
     Ran {

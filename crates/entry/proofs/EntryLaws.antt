@@ -1,5 +1,5 @@
 -- Refusal 10, from the tests that the code makes.
-use Prim.Native.Nat.{ℕ, zero, suc, _*_, _≤_}
+use Prim.Native.Nat.{ℕ, zero, suc, _≤_}
 use native.Mathlib.Omega.{arith}
 use mathlib.Core.Path.{_≡_, refl, sym, ap, subst, _∙_}
 use mathlib.Core.List.{List, [], _∷_, _++_, map}
@@ -7,16 +7,17 @@ use mathlib.Core.Bool.{Bool, true, false, _&&_, and-false}
 use mathlib.Core.Option.{some}
 use lib.Dec.{T, eqb, eqb→eq}
 use lib.ListN.{length, take, drop, length-map, length-append, length-drop, length-take}
-use Rattle.definitions.specs.Limits.{termLimit, quadLimit, termTableWidth, quadTableWidth}
+use Rattle.definitions.specs.Limits.{ranksWidth, termLimit, quadLimit, termTableWidth, quadTableWidth}
 use Rattle.definitions.specs.Bytes.{sameBytes, onward}
 use Rattle.definitions.specs.Lists.{distinct}
 use Rattle.definitions.specs.Terms.{Term, Schema, sortOf, sameTerm, readSchema}
 use Rattle.definitions.specs.Reading.{parsed}
 use Rattle.definitions.specs.Saved.{termsIn, quadsFrom, heldControl, heldStore}
 use Rattle.definitions.specs.Sound.{beginsWith, storeSound, controlSound}
-use Rattle.definitions.specs.Result.{Result, refused, passed, require, given}
+use Rattle.definitions.specs.Result.{Result, refused, passed, require, given, _>>_}
 use Rattle.definitions.specs.Calls as Calls
-use Rattle.definitions.specs.Calls.{Checked, check, reported, Lent, tablesFit, lengthsFit, soundIn, entryTests}
+use Rattle.definitions.specs.Calls.{Checked, check, reported, Lent, Lengths, tablesFit, lengthsFit, soundIn, entryTests, lengthsOf}
+use Rattle.definitions.specs.Alphabet.{isAlphabet}
 use Rattle.definitions.specs.declared.SavedRun.{SavedRun}
 use Rattle.laws.proofs.Tests.{isTrue, trueIs, andLeft, andRight}
 use Rattle.laws.proofs.Order.{type-of-code}
@@ -29,7 +30,7 @@ use Rattle.laws.proofs.Check.{Passed, check-passed, accepted, terms-fit, types-
 use Rattle.laws.proofs.Valid.{check-valid}
 use Rattle.laws.proofs.Tables.{terms-of, term-table-length}
 use Rattle.laws.proofs.Saved.{store-inv, held-inv, quads-in-are, quads-in-count, quads-few}
-use Rattle.laws.proofs.SoundIn.{sound-in, is-accepted, entry-one}
+use Rattle.laws.proofs.SoundIn.{sound-in, is-accepted, entry-one, entry-ranks}
 use Rattle.fields.specs.Answers.{countOf, distinctIn}
 use Rattle.table.specs.Table.{HoldsTerms}
 use Rattle.table.specs.Hashes.{HashedEntries}
@@ -89,9 +90,9 @@ pub same-counts : (loading table : List ℕ) (loaded : ℕ) → HoldsTerms loadi
 same-counts loading table loaded h e t =
     sym (h .count) ∙ ap (λ (b : List ℕ). countOf (termsIn b)) (same-bytes loading table (trueIs (sameBytes loading table) (sym e ∙ t)))
 
-module _ (terms schema script table store : List ℕ) (saved : SavedRun) where
+module _ (ranks terms schema script table store : List ℕ) (saved : SavedRun) where
   abbrev l : Lent
-  l = lentOf terms schema script table store
+  l = lentOf ranks terms schema script table store
 
   abbrev Refuses : Type 0
   Refuses = (rows leasts : List ℕ) (r : Entered) → r ≡ refusedEntry 10 → Finds l saved (given 10 (soundIn l saved)) r rows leasts
@@ -319,27 +320,49 @@ module _ (terms schema script table store : List ℕ) (saved : SavedRun) where
 
 -- ── refusal 1 ───────────────────────────────────────────────────────────────────────────────
 
-module _ (l : Lent) {a : Bool} (ea : a ≡ tablesFit (length (l .termTable)) (length (l .quadTable))) where
+module _ (n : Lengths) {a : Bool} (ea : a ≡ tablesFit n) (fit : a ≡ true) where
+  abbrev ranksFit : Bool
+  ranksFit = eqb (n .ranks) ranksWidth
+
+  abbrev termsFit : Bool
+  termsFit = eqb (n .termTable) termTableWidth
+
+  abbrev quadsFit : Bool
+  quadsFit = eqb (n .quadTable) quadTableWidth
+
+  all-fit : T (ranksFit && (termsFit && quadsFit))
+  unfolding tablesFit
+  all-fit = trueIs (ranksFit && (termsFit && quadsFit)) (sym ea ∙ fit)
+
+  pub fit-ranks : n .ranks ≡ ranksWidth
+  fit-ranks = eqb→eq (n .ranks) ranksWidth (andLeft ranksFit (termsFit && quadsFit) all-fit)
+
+  pub fit-both : (n .termTable ≡ termTableWidth) × (n .quadTable ≡ quadTableWidth)
+  fit-both =
+      let both = andRight ranksFit (termsFit && quadsFit) all-fit in
+      (eqb→eq (n .termTable) termTableWidth (andLeft termsFit quadsFit both), eqb→eq (n .quadTable) quadTableWidth (andRight termsFit quadsFit both))
+
+module _ (l : Lent) {a : Bool} (ea : a ≡ tablesFit (lengthsOf l)) where
   pub wrong-length : (saved : SavedRun) → a ≡ false → (rows leasts : List ℕ) {r : Entered} → r ≡ refusedEntry 1 → Finds l saved (entryTests l saved) r rows leasts
   wrong-length saved e rows leasts k =
       let g = entry-one l saved (sym ea ∙ e) in
       record { number = ap (λ (r : Entered). r .refusal) k ∙ number-refused g; found = λ x h. absurd (not-refused (sym g ∙ h)) }
 
   module _ (fit : a ≡ true) where
-    pub fit-both : (length (l .termTable) ≡ termTableWidth) × (length (l .quadTable) ≡ quadTableWidth)
-    unfolding tablesFit
-    fit-both =
-        let m = eqb (length (l .termTable)) termTableWidth in
-        let n = eqb (length (l .quadTable)) quadTableWidth in
-        let both = trueIs (m && n) (sym ea ∙ fit) in
-        (eqb→eq (length (l .termTable)) termTableWidth (andLeft m n both), eqb→eq (length (l .quadTable)) quadTableWidth (andRight m n both))
+    module _ (saved : SavedRun) {b : Bool} (eb : b ≡ isAlphabet (l .ranks)) where
+      pub no-alphabet : b ≡ false → (rows leasts : List ℕ) {r : Entered} → r ≡ refusedEntry 21 → Finds l saved (entryTests l saved) r rows leasts
+      no-alphabet e rows leasts k =
+          let g = entry-ranks l saved (trueIs (lengthsFit l) (sym ea ∙ fit)) (sym eb ∙ e) in
+          record { number = ap (λ (r : Entered). r .refusal) k ∙ number-refused g; found = λ x h. absurd (not-refused (sym g ∙ h)) }
 
-    -- the tests are those of refusal 10
-    pub tests-go-on : (saved : SavedRun) {r : Entered} {rows leasts : List ℕ} → Finds l saved (given 10 (soundIn l saved)) r rows leasts → Finds l saved (entryTests l saved) r rows leasts
-    unfolding entryTests
-    tests-go-on saved {r} {rows} {leasts} f =
-        subst (λ (m : Result Calls.Sound). Finds l saved m r rows leasts)
-        (sym (require-after 1 (lengthsFit l) (given 10 (soundIn l saved)) (trueIs (lengthsFit l) (sym ea ∙ fit)))) f
+      -- the tests are those of refusal 10
+      pub tests-go-on : b ≡ true → {r : Entered} {rows leasts : List ℕ} → Finds l saved (given 10 (soundIn l saved)) r rows leasts → Finds l saved (entryTests l saved) r rows leasts
+      unfolding entryTests
+      tests-go-on e {r} {rows} {leasts} f =
+          let rest = given 10 (soundIn l saved) in
+          subst (λ (m : Result Calls.Sound). Finds l saved m r rows leasts)
+          (sym (require-after 1 (lengthsFit l) (require 21 (isAlphabet (l .ranks)) >> rest) (trueIs (lengthsFit l) (sym ea ∙ fit))
+          ∙ require-after 21 (isAlphabet (l .ranks)) rest (trueIs (isAlphabet (l .ranks)) (sym eb ∙ e)))) f
 
 -- ── what a call goes by ─────────────────────────────────────────────────────────────────────
 
@@ -350,6 +373,9 @@ module _ {l : Lent} {saved : SavedRun} {r : Entered} {rows leasts : List ℕ} (f
   pub entered : r .refusal ≡ 0 → (x : Calls.Sound) × (entryTests l saved ≡ passed x) × Found l saved x r rows leasts
   unfolding entryTests
   entered z =
-      let never = after-not-zero (require 1 (lengthsFit l)) (given 10 (soundIn l saved)) (require-not-zero 0 (lengthsFit l)) (given-not-zero 9 (soundIn l saved)) in
+      let rest = given 10 (soundIn l saved) in
+      let good = isAlphabet (l .ranks) in
+      let later = after-not-zero (require 21 good) rest (require-not-zero 20 good) (given-not-zero 9 (soundIn l saved)) in
+      let never = after-not-zero (require 1 (lengthsFit l)) (require 21 good >> rest) (require-not-zero 0 (lengthsFit l)) later in
       let x = passed-number (entryTests l saved) never (f .number) z in
       (x .0, x .1, f .found (x .0) (x .1))

@@ -2,7 +2,9 @@
 use Prim.Native.Nat.{ℕ}
 use mathlib.Core.Path.{_≡_}
 use mathlib.Core.List.{List}
+use mathlib.Core.Bool.{cond}
 use lib.ListN.{length, replicate}
+use Rattle.definitions.specs.Alphabet.{isAlphabet}
 use Rattle.definitions.specs.Limits.{entryLimit}
 use Rattle.definitions.specs.Result.{Result, passed}
 use Rattle.definitions.specs.Calls as Calls
@@ -14,9 +16,13 @@ use Rattle.query.specs.StoreLent.{StoreLent}
 use Rattle.card.specs.Check.{numberOf}
 use Rattle.entry.specs.declared.Entered.{Entered}
 
-abbrev pub lentOf : (terms schema script termTable quadTable : List ℕ) → Lent
-lentOf terms schema script termTable quadTable =
-    record { terms = terms; schema = schema; script = script; termTable = termTable; quadTable = quadTable }
+abbrev pub lentOf : (ranks terms schema script termTable quadTable : List ℕ) → Lent
+lentOf ranks terms schema script termTable quadTable =
+    record { ranks = ranks; terms = terms; schema = schema; script = script; termTable = termTable; quadTable = quadTable }
+
+-- where no saved run has the bytes: the ranks come first
+abbrev pub unreadNumber : (ranks : List ℕ) → ℕ
+unreadNumber ranks = cond (isAlphabet ranks) 10 21
 
 -- what a search is told where this was found, at a value of now
 abbrev pub contextOf : Entered → SavedRun → (clock : ℕ) → Context

@@ -1,18 +1,23 @@
-// What a call on a saved run begins with: refusals 1 and 10, and what is found where neither comes.
+// What a call on a saved run begins with: refusals 1, 21 and 10, and what is found where none comes.
 ghost use mathlib.Core.Path.{_≡_};
+ghost use mathlib.Core.List.{List};
+ghost use Prim.Native.Nat.{ℕ};
 ghost use lib.ListN.{length};
-ghost use Rattle.definitions.specs.Limits.{termLimit, quadLimit, termTableWidth, quadTableWidth};
+ghost use Rattle.definitions.specs.Limits.{ranksWidth, termLimit, quadLimit, termTableWidth, quadTableWidth};
 ghost use Rattle.definitions.specs.Saved.{termsIn};
 ghost use Rattle.definitions.specs.Result.{given};
 ghost use Rattle.definitions.specs.Calls.{tablesFit, soundIn, entryTests};
 ghost use Rattle.fields.specs.Answers.{countOf};
 ghost use Rattle.table.specs.Table.{HoldsTerms};
-ghost use Rattle.entry.specs.Entry.{lentOf, refusedEntry, Finds};
+ghost use Rattle.entry.specs.Entry.{lentOf, unreadNumber, refusedEntry, Finds};
+use alphabet::is_alphabet;
 use card::leasts::least_codes;
 use card::refusals::check_card;
 use control::control_sound;
+use definitions::BAD_RANKS;
 use definitions::ENTRY_LIMIT;
 use definitions::QUAD_TABLE_WIDTH;
+use definitions::RANKS_WIDTH;
 use definitions::SavedRun;
 use definitions::TERM_TABLE_WIDTH;
 use definitions::UNSOUND;
@@ -42,11 +47,23 @@ fn refused(refusal: u8) -> Entered
     }
 }
 
-// Whether both tables have their lengths. Ruled out: one of them not looked at; a table that is longer.
-pub fn tables_fit(table: &[u8], store: &[u8]) -> bool
-    ensures { λ r. ⌜ r ≡ tablesFit (length (now (table .entry))) (length (now (store .entry))) ⌝ }
+// Whether ranks and both tables have their lengths. Ruled out: one of them not looked at; a table that is longer.
+pub fn tables_fit(ranks: &[u8], table: &[u8], store: &[u8]) -> bool
+    ensures { λ r. ⌜ r ≡ tablesFit (record { ranks = length (now (ranks .entry)); termTable = length (now (table .entry)); quadTable = length (now (store .entry)) }) ⌝ }
 {
-    (table.len() == TERM_TABLE_WIDTH) & (store.len() == QUAD_TABLE_WIDTH)
+    (ranks.len() == RANKS_WIDTH)
+        & ((table.len() == TERM_TABLE_WIDTH) & (store.len() == QUAD_TABLE_WIDTH))
+}
+
+// The refusal where no saved run has the bytes. Ruled out: 10 whatever the ranks are; 21 whatever they are.
+pub fn unread_number(ranks: &[u8]) -> u8
+    requires { ⌜ length (now ranks) ≡ ranksWidth ⌝ }
+    ensures { λ r. ⌜ r ≡ unreadNumber (now (ranks .entry)) ⌝ }
+{
+    if is_alphabet(ranks) {
+        return UNSOUND;
+    }
+    BAD_RANKS
 }
 
 // How many terms a table holds: as many as that of loading, where it is the same.
@@ -76,9 +93,9 @@ fn sound(
     requires { ⌜ length (now store) ≡ quadTableWidth ⌝ }
     requires { ⌜ length (now keys) ≡ quadLimit ⌝ }
     requires { ⌜ length (now leasts) ≡ termLimit ⌝ }
-    ensures { λ r. ⌜ Finds (lentOf (now (terms .entry)) (now (schema .entry)) (now (script .entry)) (now (table .entry)) (now (store .entry))) saved
-        (given 10 (soundIn (lentOf (now (terms .entry)) (now (schema .entry)) (now (script .entry)) (now (table .entry)) (now (store .entry))) saved)) r (now (keys .exit))
-        (now (leasts .exit)) ⌝ }
+    ensures { λ r. ⌜ ((ranks : List ℕ) → Finds (lentOf ranks (now (terms .entry)) (now (schema .entry)) (now (script .entry)) (now (table .entry)) (now (store .entry))) saved
+        (given 10 (soundIn (lentOf ranks (now (terms .entry)) (now (schema .entry)) (now (script .entry)) (now (table .entry)) (now (store .entry))) saved)) r (now (keys .exit))
+        (now (leasts .exit))) ⌝ }
 {
     let mut loading = [0u8; TERM_TABLE_WIDTH];
     let card = check_card(terms, schema, script, &mut loading, leasts);
@@ -115,9 +132,10 @@ fn sound(
     }
 }
 
-// Refusals 1 and 10. Where neither comes, `keys` has those of the quads, and `leasts` the codes of the terms' least types.
+// Refusals 1, 21 and 10. Where none comes, `keys` has those of the quads, and `leasts` the codes of the terms' least types.
 // Ruled out: a saved run of other types than those worked out; a table whose first terms are others.
 pub fn enter(
+    ranks: &[u8],
     terms: &[u8],
     schema: &[u8],
     script: &[u8],
@@ -129,12 +147,15 @@ pub fn enter(
 ) -> Entered
     requires { ⌜ length (now keys) ≡ quadLimit ⌝ }
     requires { ⌜ length (now leasts) ≡ termLimit ⌝ }
-    ensures { λ r. ⌜ Finds (lentOf (now (terms .entry)) (now (schema .entry)) (now (script .entry)) (now (table .entry)) (now (store .entry))) saved
-        (entryTests (lentOf (now (terms .entry)) (now (schema .entry)) (now (script .entry)) (now (table .entry)) (now (store .entry))) saved) r (now (keys .exit))
+    ensures { λ r. ⌜ Finds (lentOf (now (ranks .entry)) (now (terms .entry)) (now (schema .entry)) (now (script .entry)) (now (table .entry)) (now (store .entry))) saved
+        (entryTests (lentOf (now (ranks .entry)) (now (terms .entry)) (now (schema .entry)) (now (script .entry)) (now (table .entry)) (now (store .entry))) saved) r (now (keys .exit))
         (now (leasts .exit)) ⌝ }
 {
-    if !tables_fit(table, store) {
+    if !tables_fit(ranks, table, store) {
         return refused(WRONG_LENGTH);
+    }
+    if !is_alphabet(ranks) {
+        return refused(BAD_RANKS);
     }
     sound(terms, schema, script, table, store, saved, keys, leasts)
 }

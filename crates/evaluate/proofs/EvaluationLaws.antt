@@ -1,21 +1,20 @@
 -- All that is put out: the parts of the input, and what is cut off or too long.
 use Prim.Native.Nat.{ℕ, _+_, _-_, _*_, _/_, _%_, _≤_, _<_}
 use native.Mathlib.Omega.{arith}
-use mathlib.Core.Path.{_≡_, refl, sym, ap, ap₂, _∙_}
+use mathlib.Core.Path.{_≡_, refl, sym, ap, ap₂, subst, _∙_}
 use mathlib.Core.List.{List}
 use mathlib.Core.Bool.{Bool, true, false, _&&_}
-use lib.Dec.{leb, eqb, leb→le}
+use lib.Dec.{T, leb, eqb, leb→le}
 use lib.ListN.{length, take, drop, length-drop}
 use lib.Seq.{length-take-le}
 use borrow.Author.Tests.{le-leb, lt-leb, eq-eqb, ne-eqb}
-use Rattle.definitions.specs.Limits.{termTableWidth, quadTableWidth, savedWidth, numberWidth}
+use Rattle.definitions.specs.Limits.{ranksWidth, termTableWidth, quadTableWidth, savedWidth, numberWidth}
 use Rattle.definitions.specs.Ascii.{ascii}
 use Rattle.definitions.specs.Bytes.{part, word, little, signed}
-use Rattle.definitions.specs.Calls.{tablesFit, lengthsFit}
+use Rattle.definitions.specs.Calls.{Lent, tablesFit, lengthsFit}
 use Rattle.definitions.specs.Printer.{line}
 use Rattle.laws.proofs.Tests.{trueIs, andLeft}
-use Rattle.entry.specs.Entry.{lentOf}
-use Rattle.evaluate.specs.Evaluator.{lengthsWidth, inputLimit, outputRoom, schemaAt, scriptAt, termTableAt, quadTableAt, savedAt, nowAt, tuplesAt, lentIn, uncut}
+use Rattle.evaluate.specs.Evaluator.{headWidth, inputLimit, outputRoom, schemaAt, scriptAt, termTableAt, quadTableAt, savedAt, nowAt, tuplesAt, lentIn, uncut}
 use Rattle.evaluate.specs.Evaluator.{evaluated}
 use Rattle.tuples.specs.Asking.{tupleWidth, tuplesIn, entered, enteredLines}
 use Rattle.tuples.specs.Lines.{lineRoom}
@@ -52,12 +51,14 @@ module _ (s : List ℕ) where
       let k = leb→le (tuplesAt s) (length s) (andLeft begins (eqb ((length s - tuplesAt s) % tupleWidth) 0) (trueIs (uncut s) e)) in
       let terms = length-take-le termTableWidth (drop (termTableAt s) s) (omega (arith, length-drop (termTableAt s) s, k)) in
       let quads = length-take-le quadTableWidth (drop (quadTableAt s) s) (omega (arith, length-drop (quadTableAt s) s, k)) in
-      ap₂ _&&_ (eq-eqb (length (part s (termTableAt s) termTableWidth)) termTableWidth terms) (eq-eqb (length (part s (quadTableAt s) quadTableWidth)) quadTableWidth quads)
+      let ranks = length-take-le ranksWidth (drop 0 s) (omega (arith, length-drop 0 s, k)) in
+      ap₂ _&&_ (eq-eqb (length (part s 0 ranksWidth)) ranksWidth ranks)
+      (ap₂ _&&_ (eq-eqb (length (part s (termTableAt s) termTableWidth)) termTableWidth terms) (eq-eqb (length (part s (quadTableAt s) quadTableWidth)) quadTableWidth quads))
 
   -- the parts as the code cuts them
-  module _ (a b c clock : ℕ) (ea : a ≡ word s 0) (eb : b ≡ word s 2) (ec : c ≡ word s 4) where
+  module _ (a b c clock : ℕ) (ea : a ≡ word s ranksWidth) (eb : b ≡ word s (ranksWidth + 2)) (ec : c ≡ word s (ranksWidth + 4)) where
     abbrev station : ℕ
-    station = lengthsWidth + a + b + c
+    station = headWidth + a + b + c
 
     abbrev first : ℕ
     first = station + termTableWidth + quadTableWidth + savedWidth + numberWidth
@@ -81,31 +82,50 @@ module _ (s : List ℕ) where
         cut h (ap (λ (b : Bool). b && eqb ((length s - tuplesAt s) % tupleWidth) 0) (le-leb (tuplesAt s) (length s) (omega (arith, begins)))
         ∙ ne-eqb ((length s - tuplesAt s) % tupleWidth) 0 within)
 
+    whole : first ≤ length s → (length s - first) % tupleWidth ≡ 0 → uncut s ≡ true
+    whole k m =
+        ap (λ (b : Bool). b && eqb ((length s - tuplesAt s) % tupleWidth) 0) (le-leb (tuplesAt s) (length s) (omega (arith, begins, k)))
+        ∙ eq-eqb ((length s - tuplesAt s) % tupleWidth) 0 (ap (λ (n : ℕ). (length s - n) % tupleWidth) (sym begins) ∙ m)
+
+    -- what is lent, as the code cuts it
+    abbrev lentCut : Lent
+    lentCut =
+        record {
+          ranks = take ranksWidth (drop 0 s);
+          terms = take (headWidth + a - headWidth) (drop headWidth s);
+          schema = take (headWidth + a + b - (headWidth + a)) (drop (headWidth + a) s);
+          script = take (station - (headWidth + a + b)) (drop (headWidth + a + b) s);
+          termTable = take (station + termTableWidth - station) (drop station s);
+          quadTable = take (station + termTableWidth + quadTableWidth - (station + termTableWidth)) (drop (station + termTableWidth) s);
+        }
+
+    lent-is : lentCut ≡ lentIn s
+    unfolding lentIn
+    lent-is =
+        let terms = segment headWidth (headWidth + a) headWidth (word s ranksWidth) refl (omega arith) in
+        let schema = segment (headWidth + a) (headWidth + a + b) (schemaAt s) (word s (ranksWidth + 2)) (omega arith) (omega arith) in
+        let script = segment (headWidth + a + b) station (scriptAt s) (word s (ranksWidth + 4)) (omega arith) (omega arith) in
+        let table = segment station (station + termTableWidth) (termTableAt s) termTableWidth (omega arith) (omega arith) in
+        let store = segment (station + termTableWidth) (station + termTableWidth + quadTableWidth) (quadTableAt s) quadTableWidth (omega arith) (omega arith) in
+        λ i. record { ranks = part s 0 ranksWidth; terms = terms i; schema = schema i; script = script i; termTable = table i; quadTable = store i }
+
+    pub lent-fits : first ≤ length s → (length s - first) % tupleWidth ≡ 0 → T (lengthsFit lentCut)
+    lent-fits k m = subst (λ (l : Lent). T (lengthsFit l)) (sym lent-is) (trueIs (lengthsFit (lentIn s)) (tables-fit (whole k m)))
+
     pub parts-are : length s ≤ inputLimit → first ≤ length s → (length s - first) % tupleWidth ≡ 0
         → clock ≡ little (part s (station + termTableWidth + quadTableWidth + savedWidth) numberWidth)
-        → enteredLines (signed clock) (tuplesIn (take (length s - first) (drop first s)))
-        (entered
-        (lentOf (take (lengthsWidth + a - lengthsWidth) (drop lengthsWidth s)) (take (lengthsWidth + a + b - (lengthsWidth + a)) (drop (lengthsWidth + a) s))
-        (take (station - (lengthsWidth + a + b)) (drop (lengthsWidth + a + b) s)) (take (station + termTableWidth - station) (drop station s))
-        (take (station + termTableWidth + quadTableWidth - (station + termTableWidth)) (drop (station + termTableWidth) s)))
+        → enteredLines (lentCut .ranks) (signed clock) (tuplesIn (take (length s - first) (drop first s)))
+        (entered lentCut
         (take (station + termTableWidth + quadTableWidth + savedWidth - (station + termTableWidth + quadTableWidth)) (drop (station + termTableWidth + quadTableWidth) s))
         (signed clock))
         ≡ evaluated s
-    unfolding evaluated lentIn
+    unfolding evaluated
     parts-are h k m t =
         let place : station ≡ termTableAt s = omega arith in
         let rest : length s ≡ tuplesAt s + (length s - tuplesAt s) = omega arith in
-        let terms = segment lengthsWidth (lengthsWidth + a) lengthsWidth (word s 0) refl (omega arith) in
-        let schema = segment (lengthsWidth + a) (lengthsWidth + a + b) (schemaAt s) (word s 2) (omega arith) (omega arith) in
-        let script = segment (lengthsWidth + a + b) station (scriptAt s) (word s 4) (omega arith) (omega arith) in
-        let table = segment station (station + termTableWidth) (termTableAt s) termTableWidth place (omega arith) in
-        let store = segment (station + termTableWidth) (station + termTableWidth + quadTableWidth) (quadTableAt s) quadTableWidth (omega arith) (omega arith) in
         let saved = segment (station + termTableWidth + quadTableWidth) (station + termTableWidth + quadTableWidth + savedWidth) (savedAt s) savedWidth (omega arith) (omega arith) in
         let tuples = segment first (length s) (tuplesAt s) (length s - tuplesAt s) begins rest in
         let now : clock ≡ little (part s (nowAt s) numberWidth) =
         t ∙ ap (λ (n : ℕ). little (part s (n + termTableWidth + quadTableWidth + savedWidth) numberWidth)) place in
-        let good : uncut s ≡ true =
-        ap (λ (b : Bool). b && eqb ((length s - tuplesAt s) % tupleWidth) 0) (le-leb (tuplesAt s) (length s) (omega arith))
-        ∙ eq-eqb ((length s - tuplesAt s) % tupleWidth) 0 (ap (λ (n : ℕ). (length s - n) % tupleWidth) (sym begins) ∙ m) in
-        (λ i. enteredLines (signed (now i)) (tuplesIn (tuples i)) (entered (lentOf (terms i) (schema i) (script i) (table i) (store i)) (saved i) (signed (now i))))
-        ∙ sym (rw (evaluated, le-leb (length s) inputLimit h, good))
+        (λ i. enteredLines (lent-is i .ranks) (signed (now i)) (tuplesIn (tuples i)) (entered (lent-is i) (saved i) (signed (now i))))
+        ∙ sym (rw (evaluated, le-leb (length s) inputLimit h, whole k m))

@@ -5,7 +5,7 @@ use mathlib.Core.Bool.{Bool, true, false, _&&_}
 use lib.Dec.{eqb, leb}
 use lib.IntN.{ℤ}
 use lib.ListN.{length}
-use Rattle.definitions.specs.Limits.{numberWidth, printerLimit, termTableWidth, quadTableWidth, savedWidth}
+use Rattle.definitions.specs.Limits.{ranksWidth, numberWidth, printerLimit, termTableWidth, quadTableWidth, savedWidth}
 use Rattle.definitions.specs.Ascii.{ascii}
 use Rattle.definitions.specs.Bytes.{part, word, little, signed}
 use Rattle.definitions.specs.Calls.{Lent}
@@ -15,16 +15,16 @@ use Rattle.tuples.specs.Asking.{tupleWidth, tuplesIn, entered, enteredLines}
 
 -- ── the input ───────────────────────────────────────────────────────────────────────────────
 
--- the lengths of terms, schema and script
-abbrev pub lengthsWidth : ℕ
-lengthsWidth = 6
+-- the ranks, and the lengths of terms, schema and script
+abbrev pub headWidth : ℕ
+headWidth = ranksWidth + 6
 
 -- so many tuples there is room for beside terms, schema and script that are full
 abbrev pub tupleLimit : ℕ
 tupleLimit = 64
 
 abbrev pub inputLimit : ℕ
-inputLimit = lengthsWidth + printerLimit + termTableWidth + quadTableWidth + savedWidth + numberWidth + tupleLimit * tupleWidth
+inputLimit = headWidth + printerLimit + termTableWidth + quadTableWidth + savedWidth + numberWidth + tupleLimit * tupleWidth
 
 -- room for a line of each tuple that an input may have
 abbrev pub outputRoom : ℕ
@@ -32,13 +32,13 @@ outputRoom = lineRoom * (inputLimit / tupleWidth)
 
 -- where each part begins
 abbrev pub schemaAt : List ℕ → ℕ
-schemaAt s = lengthsWidth + word s 0
+schemaAt s = headWidth + word s ranksWidth
 
 abbrev pub scriptAt : List ℕ → ℕ
-scriptAt s = schemaAt s + word s 2
+scriptAt s = schemaAt s + word s (ranksWidth + 2)
 
 abbrev pub termTableAt : List ℕ → ℕ
-termTableAt s = scriptAt s + word s 4
+termTableAt s = scriptAt s + word s (ranksWidth + 4)
 
 abbrev pub quadTableAt : List ℕ → ℕ
 quadTableAt s = termTableAt s + termTableWidth
@@ -55,9 +55,10 @@ tuplesAt s = nowAt s + numberWidth
 unfoldable pub lentIn : List ℕ → Lent
 lentIn s =
     record {
-      terms = part s lengthsWidth (word s 0);
-      schema = part s (schemaAt s) (word s 2);
-      script = part s (scriptAt s) (word s 4);
+      ranks = part s 0 ranksWidth;
+      terms = part s headWidth (word s ranksWidth);
+      schema = part s (schemaAt s) (word s (ranksWidth + 2));
+      script = part s (scriptAt s) (word s (ranksWidth + 4));
       termTable = part s (termTableAt s) termTableWidth;
       quadTable = part s (quadTableAt s) quadTableWidth;
     }
@@ -79,7 +80,7 @@ unfoldable pub evaluated : List ℕ → List ℕ
 evaluated s =
     elim (leb (length s) inputLimit) [
       | true ↦ elim (uncut s) [
-        | true ↦ enteredLines (nowIn s) (tuplesIn (part s (tuplesAt s) (length s - tuplesAt s))) (entered (lentIn s) (savedIn s) (nowIn s))
+        | true ↦ enteredLines (lentIn s .ranks) (nowIn s) (tuplesIn (part s (tuplesAt s) (length s - tuplesAt s))) (entered (lentIn s) (savedIn s) (nowIn s))
         | false ↦ line (ascii "cut off")
       ]
       | false ↦ line (ascii "too long")

@@ -7,6 +7,7 @@ ghost use Rattle.evaluate.specs.Evaluator.{outputRoom, evaluated};
 use definitions::NUMBER_WIDTH;
 use definitions::PRINTER_LIMIT;
 use definitions::QUAD_TABLE_WIDTH;
+use definitions::RANKS_WIDTH;
 use definitions::SAVED_WIDTH;
 use definitions::TERM_TABLE_WIDTH;
 use fields::numbers::long_at;
@@ -16,12 +17,13 @@ use tuples::LINE_ROOM;
 use tuples::TUPLE_WIDTH;
 use tuples::entering::put_entered;
 
-const LENGTHS_WIDTH: usize = 6;
+// The ranks, and the lengths of terms, schema and script.
+const HEAD_WIDTH: usize = RANKS_WIDTH + 6;
 
 // So many tuples there is room for beside terms, schema and script that are full.
 const TUPLE_LIMIT: usize = 64;
 
-const CARD_LIMIT: usize = LENGTHS_WIDTH + PRINTER_LIMIT;
+const CARD_LIMIT: usize = HEAD_WIDTH + PRINTER_LIMIT;
 
 const STATION_WIDTH: usize = TERM_TABLE_WIDTH + QUAD_TABLE_WIDTH + SAVED_WIDTH + NUMBER_WIDTH;
 
@@ -42,12 +44,12 @@ pub fn evaluate(input: &[u8], out: &mut [u8]) -> usize
     if INPUT_LIMIT < n {
         return put_text(b"too long\n", out, 0);
     }
-    if n < LENGTHS_WIDTH {
+    if n < HEAD_WIDTH {
         return put_text(b"cut off\n", out, 0);
     }
-    let schema = LENGTHS_WIDTH + word_at(input, 0);
-    let script = schema + word_at(input, 2);
-    let table = script + word_at(input, 4);
+    let schema = HEAD_WIDTH + word_at(input, RANKS_WIDTH);
+    let script = schema + word_at(input, RANKS_WIDTH + 2);
+    let table = script + word_at(input, RANKS_WIDTH + 4);
     let store = table + TERM_TABLE_WIDTH;
     let saved = store + QUAD_TABLE_WIDTH;
     let now = saved + SAVED_WIDTH;
@@ -59,7 +61,8 @@ pub fn evaluate(input: &[u8], out: &mut [u8]) -> usize
         return put_text(b"cut off\n", out, 0);
     }
     put_entered(
-        &input[LENGTHS_WIDTH..schema],
+        &input[0..RANKS_WIDTH],
+        &input[HEAD_WIDTH..schema],
         &input[schema..script],
         &input[script..table],
         &input[table..store],

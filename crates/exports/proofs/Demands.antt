@@ -32,6 +32,8 @@ use Rattle.theorems.specs.ExportRefusals.{ExportRefusals}
 use Rattle.theorems.specs.OnBytes.{ExportCall, OnBytes}
 use Rattle.theorems.specs.ExactSteps.{OnceLoad, ExactSteps}
 use Rattle.theorems.specs.OneOrder.{OneOrder}
+use Rattle.theorems.specs.Truths.{Truths}
+use Rattle.theorems.specs.Alphabets.{Alphabets}
 use Rattle.theorems.proofs.Demand1.{demand-1}
 use Rattle.theorems.proofs.Demand2.{demand-2}
 use Rattle.theorems.proofs.Demand3.{demand-3}
@@ -39,6 +41,8 @@ use Rattle.theorems.proofs.ExportRefusals.{export-refusals}
 use Rattle.theorems.proofs.OnBytes.{on-bytes}
 use Rattle.theorems.proofs.ExactSteps.{exact-steps}
 use Rattle.theorems.proofs.OneOrder.{one-order-of-quads}
+use Rattle.theorems.proofs.Truths.{truths}
+use Rattle.theorems.proofs.Alphabets.{alphabets}
 
 pub record Demands (M : Type 1) : Type 2 where
   -- the code of each call does what the call's definition says
@@ -62,8 +66,12 @@ pub record Demands (M : Type 1) : Type 2 where
       → (calls : List ExportCall) → OnBytes l saved calls
   -- Ask 12: how long a script with no each block takes, of the calls and on bytes
   pub exact : (l : Lent) (o : OnceLoad l) → ExactSteps l (o .read .root)
+  -- Ask 5: what the tables of not, and and or keep
+  pub tables : Truths
   -- Ask 10: the terms by number and the set of quads decide both tables
   pub oneOrder : OneOrder
+  -- Ask 9: less on strings under any club's ranks
+  pub alphabets : Alphabets
 
 pub demands : {M : Type 1} → Demands M
 demands =
@@ -82,5 +90,7 @@ demands =
       third = demand-3;
       thirdOnBytes = on-bytes;
       exact = exact-steps;
+      tables = truths;
       oneOrder = one-order-of-quads;
+      alphabets = alphabets;
     }

@@ -1,44 +1,30 @@
 -- The calls by their cases: another length, bytes that no saved run has, and the engine's answer.
 use Prim.Native.Nat.{ℕ}
-use native.Mathlib.Omega.{arith}
 use mathlib.Core.Path.{_≡_, refl, ap, sym, _∙_}
 use mathlib.Core.List.{List}
 use mathlib.Core.Bool.{Bool, true, false, not}
-use mathlib.Core.Option.{Option, none, some}
+use mathlib.Core.Option.{none, some}
 use lib.IntN.{ℤ}
 use lib.ListN.{length}
 use borrow.Author.Tests.{eq-eqb, ne-eqb, not-true, not-false}
 use Rattle.definitions.specs.Outcome.{ok, _>>=_}
-use Rattle.definitions.specs.Calls.{Lent, load, runCall, pageCall, total}
+use Rattle.definitions.specs.Calls.{Lent, lengthsOf, load, runCall, pageCall, total}
+use Rattle.definitions.specs.Alphabet.{isAlphabet}
 use Rattle.definitions.specs.Numbers.{loadNumber, runNumber, pageNumber, totalNumber}
 use Rattle.definitions.specs.Limits.{savedWidth, runReportWidth, pageReportWidth, totalReportWidth}
 use Rattle.definitions.specs.Exports.{savedFrom, savedAfter, runReport, pageReport, totalReport}
-use Rattle.definitions.specs.Exports.{loadExport, runExport, pageExport, totalExport}
+use Rattle.definitions.specs.Exports.{loadExport, refusedRun, ranExport, runExport, refusedPage, pagedExport, pageExport, totalExport}
 use Rattle.definitions.specs.declared.SavedRun.{SavedRun}
 use Rattle.definitions.specs.declared.Loaded.{Loaded}
 use Rattle.definitions.specs.declared.Ran.{Ran}
 use Rattle.definitions.specs.declared.Paged.{Paged}
 use Rattle.definitions.specs.declared.TotalAnswer.{TotalAnswer}
-use Rattle.layout.specs.declared.SavedRead.{SavedRead}
-use Rattle.layout.specs.ReadSaved.{readOf}
+use Rattle.laws.proofs.SoundIn.{entry-ranks}
+use Rattle.entry.specs.Entry.{unreadNumber}
+use Rattle.engine.proofs.RunLaws as RunLaws
+use Rattle.engine.proofs.PageLaws as PageLaws
 use Rattle.exports.specs.Buffers.{buffersFit}
-
--- ── the saved run that was read, if there is one ────────────────────────────────────────────
-
-module _ (x : SavedRead) (o : Option SavedRun) (e : x ≡ readOf o) where
-  pub read-none : not (x .ok) ≡ true → o ≡ none
-  read-none f = go o e
-    where
-      go : (o : Option SavedRun) → x ≡ readOf o → o ≡ none
-      go none e = refl
-      go (some r) e = absurd (let z : _≡_ {A = ℕ} 0 1 = cc (ap (λ (y : SavedRead). y .ok) e, not-true (x .ok) f) in omega arith)
-
-  pub read-some : not (x .ok) ≡ false → o ≡ some (x .saved)
-  read-some t = go o e
-    where
-      go : (o : Option SavedRun) → x ≡ readOf o → o ≡ some (x .saved)
-      go none e = absurd (let z : _≡_ {A = ℕ} 0 1 = cc (ap (λ (y : SavedRead). y .ok) e, not-false (x .ok) t) in omega arith)
-      go (some r) e = ap (λ (y : SavedRead). some (y .saved)) (sym e)
+use Rattle.exports.proofs.BufferLaws.{tables-fit}
 
 -- ── load ────────────────────────────────────────────────────────────────────────────────────
 
@@ -62,52 +48,79 @@ module _ (l : Lent) (saved : List ℕ) where
 
 module _ (l : Lent) (saved : List ℕ) (budget : ℕ) (now : ℤ) (report : List ℕ) where
   abbrev runFits : Bool
-  runFits = buffersFit (length (l .termTable)) (length (l .quadTable)) (length saved) (length report) runReportWidth
+  runFits = buffersFit (lengthsOf l) (length saved) (length report) runReportWidth
 
   pub run-length : {b : Bool} → b ≡ runFits → not b ≡ true → runExport l saved budget now report ≡ ok (record { number = 1; saved = saved; report = report })
   unfolding runExport buffersFit
   run-length e t = rw (runExport, sym e ∙ not-true _ t)
 
-  pub run-unsound : {b : Bool} → b ≡ runFits → not b ≡ false → savedFrom saved ≡ none
-      → runExport l saved budget now report ≡ ok (record { number = 10; saved = saved; report = report })
-  unfolding runExport buffersFit
-  run-unsound e t u = rw (runExport, sym e ∙ not-false _ t, u)
+  module _ {b : Bool} (e : b ≡ runFits) (t : not b ≡ false) where
+    pub run-unread : savedFrom saved ≡ none → {n : ℕ} → n ≡ unreadNumber (l .ranks) → runExport l saved budget now report ≡ ok (refusedRun n saved report)
+    unfolding runExport buffersFit
+    run-unread u number = by-ranks (isAlphabet (l .ranks)) refl ∙ ap (λ (k : ℕ). ok (refusedRun k saved report)) (sym number)
+      where
+        by-ranks : (a : Bool) → isAlphabet (l .ranks) ≡ a → runExport l saved budget now report ≡ ok (refusedRun (unreadNumber (l .ranks)) saved report)
+        by-ranks true good = rw (runExport, sym e ∙ not-false b t, good, u) refl
+        by-ranks false bad = rw (runExport, sym e ∙ not-false b t, bad) refl
 
-  -- the clock as it is handed on
-  pub run-done : {b : Bool} {r : SavedRun} {x : Ran} {clock : ℤ} {s p : List ℕ} {n : ℕ} → b ≡ runFits → not b ≡ false → savedFrom saved ≡ some r
-      → clock ≡ now → runCall l r budget clock ≡ ok x
-      → n ≡ runNumber (x .answer) → s ≡ savedAfter n (x .saved) saved → p ≡ runReport report (x .answer)
-      → runExport l saved budget now report ≡ ok (record { number = n; saved = s; report = p })
-  unfolding runExport buffersFit _>>=_
-  run-done {b} {r} {x} e f u same call number after reported =
-      let k = after ∙ ap (λ (m : ℕ). savedAfter m (x .saved) saved) number in
-      rw (runExport, sym e ∙ not-false b f, u, ← same, call) (λ i. ok (record { number = sym number i; saved = sym k i; report = sym reported i }))
+    -- of a saved run the call itself tests the ranks
+    run-read : {r : SavedRun} → savedFrom saved ≡ some r → runExport l saved budget now report ≡ (runCall l r budget now >>= λ x. ok (ranExport saved report x))
+    unfolding runExport runReport buffersFit _>>=_
+    run-read {r} u = by-ranks (isAlphabet (l .ranks)) refl
+      where
+        by-ranks : (a : Bool) → isAlphabet (l .ranks) ≡ a → runExport l saved budget now report ≡ (runCall l r budget now >>= λ x. ok (ranExport saved report x))
+        by-ranks true good = rw (runExport, sym e ∙ not-false b t, good, u) refl
+        by-ranks false bad =
+            let refuses = RunLaws.entry-refused l r budget now (entry-ranks l r (tables-fit (lengthsOf l) (length saved) (length report) runReportWidth e t) bad) refl in
+            rw (runExport, sym e ∙ not-false b t, bad) (sym (ap (λ o. o >>= λ x. ok (ranExport saved report x)) refuses))
+
+    -- the clock as it is handed on
+    pub run-done : {r : SavedRun} {x : Ran} {clock : ℤ} {s p : List ℕ} {n : ℕ} → savedFrom saved ≡ some r → clock ≡ now → runCall l r budget clock ≡ ok x
+        → n ≡ runNumber (x .answer) → s ≡ savedAfter n (x .saved) saved → p ≡ runReport report (x .answer)
+        → runExport l saved budget now report ≡ ok (record { number = n; saved = s; report = p })
+    unfolding _>>=_
+    run-done {r} {x} u same call number after reported =
+        let k = after ∙ ap (λ (m : ℕ). savedAfter m (x .saved) saved) number in
+        run-read u ∙ rw (← same, call) (λ i. ok (record { number = sym number i; saved = sym k i; report = sym reported i }))
 
 -- ── page ────────────────────────────────────────────────────────────────────────────────────
 
 module _ (l : Lent) (saved : List ℕ) (g : ℕ) (page report : List ℕ) where
   abbrev pageFits : Bool
-  pageFits = buffersFit (length (l .termTable)) (length (l .quadTable)) (length saved) (length report) pageReportWidth
+  pageFits = buffersFit (lengthsOf l) (length saved) (length report) pageReportWidth
 
   pub page-length : {b : Bool} → b ≡ pageFits → not b ≡ true → pageExport l saved g page report
       ≡ record { number = 1; termTable = l .termTable; quadTable = l .quadTable; saved = saved; report = report }
   unfolding pageExport buffersFit
   page-length e t = rw (pageExport, sym e ∙ not-true _ t)
 
-  pub page-unsound : {b : Bool} → b ≡ pageFits → not b ≡ false → savedFrom saved ≡ none → pageExport l saved g page report
-      ≡ record { number = 10; termTable = l .termTable; quadTable = l .quadTable; saved = saved; report = report }
-  unfolding pageExport buffersFit
-  page-unsound e t u = rw (pageExport, sym e ∙ not-false _ t, u)
+  module _ {b : Bool} (e : b ≡ pageFits) (t : not b ≡ false) where
+    pub page-unread : savedFrom saved ≡ none → {n : ℕ} → n ≡ unreadNumber (l .ranks) → pageExport l saved g page report ≡ refusedPage n l saved report
+    unfolding pageExport buffersFit
+    page-unread u number = by-ranks (isAlphabet (l .ranks)) refl ∙ ap (λ (k : ℕ). refusedPage k l saved report) (sym number)
+      where
+        by-ranks : (a : Bool) → isAlphabet (l .ranks) ≡ a → pageExport l saved g page report ≡ refusedPage (unreadNumber (l .ranks)) l saved report
+        by-ranks true good = rw (pageExport, sym e ∙ not-false b t, good, u) refl
+        by-ranks false bad = rw (pageExport, sym e ∙ not-false b t, bad) refl
 
-  pub page-done : {b : Bool} {r : SavedRun} {x : Paged} {t q s p : List ℕ} {n : ℕ} → b ≡ pageFits → not b ≡ false → savedFrom saved ≡ some r
-      → pageCall l r g page ≡ record { returned = x; termTable = t; quadTable = q } → n ≡ pageNumber (x .answer)
-      → s ≡ savedAfter n (x .saved) saved → p ≡ pageReport report (x .answer)
-      → pageExport l saved g page report ≡ record { number = n; termTable = t; quadTable = q; saved = s; report = p }
-  unfolding pageExport buffersFit
-  page-done {b} {r} {x} {t} {q} e f u call number after reported =
-      let k = after ∙ ap (λ (m : ℕ). savedAfter m (x .saved) saved) number in
-      rw (pageExport, sym e ∙ not-false b f, u, call)
-      (λ i. record { number = sym number i; termTable = t; quadTable = q; saved = sym k i; report = sym reported i })
+    -- of a saved run the call itself tests the ranks
+    page-read : {r : SavedRun} → savedFrom saved ≡ some r → pageExport l saved g page report ≡ pagedExport saved report (pageCall l r g page)
+    unfolding pageExport pageReport buffersFit
+    page-read {r} u = by-ranks (isAlphabet (l .ranks)) refl
+      where
+        by-ranks : (a : Bool) → isAlphabet (l .ranks) ≡ a → pageExport l saved g page report ≡ pagedExport saved report (pageCall l r g page)
+        by-ranks true good = rw (pageExport, sym e ∙ not-false b t, good, u) refl
+        by-ranks false bad =
+            let refuses = PageLaws.entry-refused l r g page (entry-ranks l r (tables-fit (lengthsOf l) (length saved) (length report) pageReportWidth e t) bad) refl in
+            rw (pageExport, sym e ∙ not-false b t, bad) (sym (ap (pagedExport saved report) refuses))
+
+    pub page-done : {r : SavedRun} {x : Paged} {t q s p : List ℕ} {n : ℕ} → savedFrom saved ≡ some r
+        → pageCall l r g page ≡ record { returned = x; termTable = t; quadTable = q } → n ≡ pageNumber (x .answer)
+        → s ≡ savedAfter n (x .saved) saved → p ≡ pageReport report (x .answer)
+        → pageExport l saved g page report ≡ record { number = n; termTable = t; quadTable = q; saved = s; report = p }
+    page-done {r} {x} {t} {q} u call number after reported =
+        let k = after ∙ ap (λ (m : ℕ). savedAfter m (x .saved) saved) number in
+        page-read u ∙ rw call (λ i. record { number = sym number i; termTable = t; quadTable = q; saved = sym k i; report = sym reported i })
 
 -- ── total ───────────────────────────────────────────────────────────────────────────────────
 

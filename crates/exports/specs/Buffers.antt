@@ -2,10 +2,9 @@
 use Prim.Native.Nat.{ℕ}
 use mathlib.Core.Bool.{Bool, _&&_}
 use lib.Dec.{eqb}
-use Rattle.definitions.specs.Calls.{tablesFit}
+use Rattle.definitions.specs.Calls.{Lengths, tablesFit}
 use Rattle.definitions.specs.Limits.{savedWidth}
 
--- tables, saved run and report have their lengths
-unfoldable pub buffersFit : (termBytes quadBytes savedBytes reportBytes reportWidth : ℕ) → Bool
-buffersFit termBytes quadBytes savedBytes reportBytes reportWidth =
-    tablesFit termBytes quadBytes && (eqb savedBytes savedWidth && eqb reportBytes reportWidth)
+-- ranks, tables, saved run and report have their lengths
+unfoldable pub buffersFit : Lengths → (savedBytes reportBytes reportWidth : ℕ) → Bool
+buffersFit lent savedBytes reportBytes reportWidth = tablesFit lent && (eqb savedBytes savedWidth && eqb reportBytes reportWidth)

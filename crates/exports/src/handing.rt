@@ -4,26 +4,26 @@ ghost use Rattle.definitions.specs.Limits.{savedWidth};
 ghost use Rattle.definitions.specs.Exports.{savedAfter};
 ghost use Rattle.exports.specs.Buffers.{buffersFit};
 use definitions::QUAD_TABLE_WIDTH;
+use definitions::RANKS_WIDTH;
 use definitions::SAVED_WIDTH;
 use definitions::SavedRun;
 use definitions::TERM_TABLE_WIDTH;
 use layout::writing::write_saved;
 
-// Tables, saved run and report have their lengths.
+// Ranks, tables, saved run and report have their lengths.
 // Ruled out: a report of another length taken for good; a test of the tables alone.
-pub fn buffers_fit(terms: usize, quads: usize, saved: usize, report: usize, width: usize) -> bool
-    ensures { λ r. ⌜ r ≡ buffersFit terms quads saved report width ⌝ }
+pub fn buffers_fit(
+    ranks: usize,
+    terms: usize,
+    quads: usize,
+    saved: usize,
+    report: usize,
+    width: usize,
+) -> bool
+    ensures { λ r. ⌜ r ≡ buffersFit (record { ranks = ranks; termTable = terms; quadTable = quads }) saved report width ⌝ }
 {
-    if terms != TERM_TABLE_WIDTH {
-        return false;
-    }
-    if quads != QUAD_TABLE_WIDTH {
-        return false;
-    }
-    if saved != SAVED_WIDTH {
-        return false;
-    }
-    report == width
+    ((ranks == RANKS_WIDTH) & ((terms == TERM_TABLE_WIDTH) & (quads == QUAD_TABLE_WIDTH)))
+        & ((saved == SAVED_WIDTH) & (report == width))
 }
 
 // The saved run's bytes where nothing was refused, else those that were lent.

@@ -11,10 +11,11 @@ use definitions::SAVED_WIDTH;
 use definitions::TOTAL_REPORT_WIDTH;
 use layout::reading;
 
-// Load: 1 to 9.
+// Load: 1, 21, 2 to 9.
 // Ruled out: a load that ignores the saved buffer's length; a refused load that writes the saved run of zeros.
 #[no_mangle]
 pub extern "C" fn willetcoffer_load(
+    ranks: &[u8],
     terms: &[u8],
     schema: &[u8],
     script: &[u8],
@@ -24,6 +25,7 @@ pub extern "C" fn willetcoffer_load(
 ) -> u32
     ensures { λ r. ⌜ loadExport
         (record {
+          ranks = now (ranks .entry);
           terms = now (terms .entry);
           schema = now (schema .entry);
           script = now (script .entry);
@@ -41,7 +43,7 @@ pub extern "C" fn willetcoffer_load(
     if saved.len() != SAVED_WIDTH {
         return 1;
     }
-    let loaded = engine::load::load(terms, schema, script, term_table, quad_table);
+    let loaded = engine::load::load(ranks, terms, schema, script, term_table, quad_table);
     let answer = loaded.answer;
     let first = loaded.saved;
     let number = reports::load_number(answer);
@@ -49,10 +51,11 @@ pub extern "C" fn willetcoffer_load(
     number
 }
 
-// Run: 1, 10, 11.
+// Run: 1, 21, 10, 11.
 // Ruled out: a run that writes the report on a refusal; one that runs on from bytes that no saved run has.
 #[no_mangle]
 pub extern "C" fn willetcoffer_run(
+    ranks: &[u8],
     terms: &[u8],
     schema: &[u8],
     script: &[u8],
@@ -65,6 +68,7 @@ pub extern "C" fn willetcoffer_run(
 ) -> u32
     ensures { λ r. ⌜ runExport
         (record {
+          ranks = now (ranks .entry);
           terms = now (terms .entry);
           schema = now (schema .entry);
           script = now (script .entry);
@@ -75,6 +79,7 @@ pub extern "C" fn willetcoffer_run(
         ≡ ok (record { number = r; saved = now (saved .exit); report = now (report .exit) }) ⌝ }
 {
     if !handing::buffers_fit(
+        ranks.len(),
         term_table.len(),
         quad_table.len(),
         saved.len(),
@@ -85,10 +90,11 @@ pub extern "C" fn willetcoffer_run(
     }
     let read = reading::read_saved(saved);
     if !read.ok {
-        return 10;
+        return entry::unread_number(ranks) as u32;
     }
     let before = read.saved;
     let ran = engine::run::run(
+        ranks,
         terms,
         schema,
         script,
@@ -106,10 +112,11 @@ pub extern "C" fn willetcoffer_run(
     number
 }
 
-// Page: 1, 10, 12, 13, 14.
+// Page: 1, 21, 10, 12, 13, 14.
 // Ruled out: a page that writes the saved run on a refusal; one that counts the skipped records of a refused page.
 #[no_mangle]
 pub extern "C" fn willetcoffer_page(
+    ranks: &[u8],
     terms: &[u8],
     schema: &[u8],
     script: &[u8],
@@ -122,6 +129,7 @@ pub extern "C" fn willetcoffer_page(
 ) -> u32
     ensures { λ r. ⌜ pageExport
         (record {
+          ranks = now (ranks .entry);
           terms = now (terms .entry);
           schema = now (schema .entry);
           script = now (script .entry);
@@ -138,6 +146,7 @@ pub extern "C" fn willetcoffer_page(
         } ⌝ }
 {
     if !handing::buffers_fit(
+        ranks.len(),
         term_table.len(),
         quad_table.len(),
         saved.len(),
@@ -148,10 +157,11 @@ pub extern "C" fn willetcoffer_page(
     }
     let read = reading::read_saved(saved);
     if !read.ok {
-        return 10;
+        return entry::unread_number(ranks) as u32;
     }
     let before = read.saved;
     let paged = engine::page::page(
+        ranks,
         terms,
         schema,
         script,

@@ -89,7 +89,8 @@ pub fn rising(keys: &[u64], n: usize) -> bool
     true
 }
 
-fn either(first: bool, a: usize, b: usize) -> usize
+// One of two, by a test.
+pub fn either(first: bool, a: usize, b: usize) -> usize
     ensures { λ r. ⌜ r ≡ cond first a b ⌝ }
 {
     if first { a } else { b }

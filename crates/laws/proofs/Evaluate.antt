@@ -286,7 +286,7 @@ module _ (σ : Setting) (Γ : Typing) (loaded terms : List Term) (extends : Exte
   condition-fine (Cond.langMatches r e) k i h =
       fine-then (expression-fine e Datatype.string k i h) λ a p. fine-then (string-fine a p) λ s q. fine tt
   condition-fine (Cond.equal e f) k i h = compared-fine e f (k .0) (k .1) i h equalPair
-  condition-fine (Cond.less e f) k i h = compared-fine e f (k .0) (k .1) i h lessPair
+  condition-fine (Cond.less e f) k i h = compared-fine e f (k .0) (k .1) i h (lessPair (σ .ranks))
 
   pub query-fine : (q : Query) → QueryBounded (length loaded) q → BoundIn β (λ v. inQuery v q) → T (queryTyped constants Γ q)
       → Fine Any (query σ terms quads β q)

@@ -12,6 +12,7 @@ pub mod Typings
 pub mod All
 pub mod Equality
 pub mod QuadOrder
+pub mod Occurs
 pub mod Sorts
 pub mod Variables
 pub mod Pairs

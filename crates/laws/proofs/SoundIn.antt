@@ -2,19 +2,21 @@
 use Prim.Native.Nat.{ℕ}
 use mathlib.Core.List.{List}
 use mathlib.Core.Option.{Option, some}
-use mathlib.Core.Bool.{false}
+use mathlib.Core.Bool.{true, false}
 use mathlib.Core.Path.{_≡_, refl, ap, subst, _∙_}
-use lib.Dec.{T}
+use lib.Dec.{T, eqb}
 use lib.ListN.{length}
-use Rattle.definitions.specs.Limits.{termTableWidth, quadTableWidth}
+use Rattle.definitions.specs.Limits.{ranksWidth, termTableWidth, quadTableWidth}
+use Rattle.definitions.specs.Alphabet.{isAlphabet}
 use Rattle.definitions.specs.Bytes.{sameBytes, provided, onward}
 use Rattle.definitions.specs.Machine.{State}
 use Rattle.definitions.specs.Saved.{termTable, quadTable, held, savedControl, savedOf}
 use Rattle.definitions.specs.Sound.{stateSound}
-use Rattle.definitions.specs.Result.{Result, refused, passed, given}
+use Rattle.definitions.specs.Result.{Result, refused, passed, _>>_, require, given}
 use Rattle.definitions.specs.Calls as Calls
 use Rattle.definitions.specs.Calls.{Checked, check, reported, Lent, tablesFit, lengthsFit, checkedOf, soundIn, entryTests}
 use Rattle.definitions.specs.declared.SavedRun.{SavedRun}
+use Rattle.laws.proofs.Tests.{andLeft, andMake}
 use Rattle.laws.proofs.Options.{some-is, some-not-none, onward-inv, provided-inv, provided-holds}
 use Rattle.laws.proofs.Results.{given-inv, require-after-inv, require-after, require-refused}
 use Rattle.laws.proofs.Equality.{same-bytes, bytes-refl}
@@ -37,17 +39,28 @@ checked-of e = rw e
 -- ── what a call on a saved run begins with ──────────────────────────────────────────────────
 
 module _ (l : Lent) (saved : SavedRun) where
-  pub entry-inv : {x : Calls.Sound} → entryTests l saved ≡ passed x → T (lengthsFit l) × (soundIn l saved ≡ some x)
-  unfolding entryTests
-  entry-inv e = let i = require-after-inv 1 (lengthsFit l) (given 10 (soundIn l saved)) e in (i .0, given-inv 10 (soundIn l saved) (i .1))
+  -- the tests after the lengths
+  abbrev ranksOn : Result Calls.Sound
+  ranksOn = require 21 (isAlphabet (l .ranks)) >> given 10 (soundIn l saved)
 
-  pub entry-of : {x : Calls.Sound} → T (lengthsFit l) → soundIn l saved ≡ some x → entryTests l saved ≡ passed x
+  pub entry-inv : {x : Calls.Sound} → entryTests l saved ≡ passed x → T (lengthsFit l) × T (isAlphabet (l .ranks)) × (soundIn l saved ≡ some x)
+  unfolding entryTests
+  entry-inv e =
+      let i = require-after-inv 1 (lengthsFit l) ranksOn e in
+      let j = require-after-inv 21 (isAlphabet (l .ranks)) (given 10 (soundIn l saved)) (i .1) in
+      (i .0, j .0, given-inv 10 (soundIn l saved) (j .1))
+
+  pub entry-of : {x : Calls.Sound} → T (lengthsFit l) → T (isAlphabet (l .ranks)) → soundIn l saved ≡ some x → entryTests l saved ≡ passed x
   unfolding entryTests given
-  entry-of fit e = require-after 1 (lengthsFit l) (given 10 (soundIn l saved)) fit ∙ rw e
+  entry-of fit good e = require-after 1 (lengthsFit l) ranksOn fit ∙ (require-after 21 (isAlphabet (l .ranks)) (given 10 (soundIn l saved)) good ∙ rw e)
 
   pub entry-one : lengthsFit l ≡ false → entryTests l saved ≡ refused 1
   unfolding entryTests
-  entry-one e = require-refused 1 (given 10 (soundIn l saved)) e
+  entry-one e = require-refused 1 ranksOn e
+
+  pub entry-ranks : T (lengthsFit l) → isAlphabet (l .ranks) ≡ false → entryTests l saved ≡ refused 21
+  unfolding entryTests
+  entry-ranks fit e = require-after 1 (lengthsFit l) ranksOn fit ∙ require-refused 21 (given 10 (soundIn l saved)) e
 
 -- ── what has passed ─────────────────────────────────────────────────────────────────────────
 
@@ -108,29 +121,36 @@ module _ (l : Lent) (saved : SavedRun) (x : Calls.Sound) where
 
 -- ── what is handed back ─────────────────────────────────────────────────────────────────────
 
--- the records lent again with a state's tables
-abbrev pub lentWith : (terms schema script : List ℕ) → State → Lent
-lentWith terms schema script s =
-    record { terms = terms; schema = schema; script = script; termTable = termTable (s .store .terms); quadTable = quadTable (s .store .quads) }
+-- the same lent again with a state's tables
+abbrev pub lentWith : Lent → State → Lent
+lentWith l s =
+    record {
+      ranks = l .ranks;
+      terms = l .terms;
+      schema = l .schema;
+      script = l .script;
+      termTable = termTable (s .store .terms);
+      quadTable = quadTable (s .store .quads);
+    }
 
 saved-types : (types : List ℕ) (s : State) → savedOf types s .control .types ≡ types
 unfolding savedControl
 saved-types types s = refl
 
-module _ (terms schema script : List ℕ) (c : Checked) (loads : check terms schema script ≡ passed c) (s : State) (sound : Sound c s) (valid : ValidIn s) where
+module _ (l : Lent) (c : Checked) (loads : check (l .terms) (l .schema) (l .script) ≡ passed c) (s : State) (sound : Sound c s) (valid : ValidIn s) where
   accepted : Accepted c
-  accepted = check-accepted terms schema script c loads
+  accepted = check-accepted (l .terms) (l .schema) (l .script) c loads
 
   -- refusal 1
-  pub lengths-again : T (lengthsFit (lentWith terms schema script s))
+  pub lengths-again : T (lengthsFit l) → T (lengthsFit (lentWith l s))
   unfolding tablesFit
-  lengths-again =
+  lengths-again fit =
       let e₀ = term-table-length (s .store .terms) valid (terms-few c accepted s sound) in
       let e₁ = quad-table-length (s .store .quads) (quads-few c accepted s sound) in
-      rw (e₀, e₁) tt
+      rw (e₀, e₁) (andMake (eqb (length (l .ranks)) ranksWidth) true (andLeft (eqb (length (l .ranks)) ranksWidth) _ fit) tt)
 
   -- refusal 10
-  pub sound-again : soundIn (lentWith terms schema script s) (savedOf (reported c) s) ≡ some (record { checked = c; state = s })
+  pub sound-again : soundIn (lentWith l s) (savedOf (reported c) s) ≡ some (record { checked = c; state = s })
   sound-again =
-      sound-of (lentWith terms schema script s) (savedOf (reported c) s) (record { checked = c; state = s })
+      sound-of (lentWith l s) (savedOf (reported c) s) (record { checked = c; state = s })
       (record { loads = loads; types = saved-types (reported c) s; holds = held-again c accepted s sound valid (reported c); sound = sound })

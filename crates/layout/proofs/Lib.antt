@@ -3,3 +3,4 @@ pub mod Items
 pub mod SavedTests
 pub mod NumberBytes
 pub mod JoinedBytes
+pub mod ReadLaws

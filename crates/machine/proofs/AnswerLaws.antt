@@ -289,7 +289,7 @@ ready-fits σ Γ terms quads β vs q r last =
 
 -- ── the block on top ────────────────────────────────────────────────────────────────────────
 
-module _ {script table quads leasts : List ℕ} {x : Context} {run : SavedControl} {at : ℕ} (w : Lends script table quads leasts x run) (t : Top (w .here) at)
+module _ {script ranks table quads leasts : List ℕ} {x : Context} {run : SavedControl} {at : ℕ} (w : Lends script ranks table quads leasts x run) (t : Top (w .here) at)
     (kind : byte script at ≡ 0x73) where
   abbrev c : Checked
   c = w .here .checked
@@ -367,15 +367,15 @@ module _ {script table quads leasts : List ℕ} {x : Context} {run : SavedContro
       ready = block-ready c (w .here .accepted) s (w .here .sound) (item-here .inRoot) (item-here .bound)
 
       -- what the bytes stand for, and what the search promises of it
-      abbrev world-here : World script table quads leasts x seen
+      abbrev world-here : World script ranks table quads leasts x seen
       world-here =
-          world c (w .here .accepted) s (w .here .sound) (w .scope) (t .stack) is script (w .told) (w .lent) seen (b .reads .reads .next) read-here (b .four) block-small typed-here
+          world c (w .here .accepted) s (w .here .sound) (w .scope) (t .stack) is script ranks (w .ranked) (w .told) (w .lent) seen (b .reads .reads .next) read-here (b .four) block-small typed-here
 
       answered : (started : Bool) (r : Found) → AnswerOf world-here free started r
           → answerNow (setting w) (typing w) s (variablesOf bs) q (lastOf started (fourOf used) 0 n) ≡ ok (tupleOf r 0 n)
       answered started r =
-          answer-now c (w .here .accepted) s (w .here .sound) (w .scope) (t .stack) is script (w .told) (w .lent) seen (b .reads .reads .next) read-here (b .four) block-small typed-here
-          free started r vars-are known-now
+          answer-now c (w .here .accepted) s (w .here .sound) (w .scope) (t .stack) is script ranks (w .ranked) (w .told) (w .lent) seen
+          (b .reads .reads .next) read-here (b .four) block-small typed-here free started r vars-are known-now
 
       -- what trying promises, in the machine's terms
       tried : (r : Tried) → length used ≡ 4 → TriedOf world-here free (fourOf used) 0 r
@@ -409,7 +409,7 @@ module _ {script table quads leasts : List ℕ} {x : Context} {run : SavedContro
               → (r .fits ≡ tupleFits (c .schema) (typeAt (c .types)) (s .store .terms) vs t) × (r .fits ≡ true → Comes (bind vs t δ))
 
     pub answers-now : (started : Bool) (item : SavedItem) → item ≡ topOf run → started ≡ item .started → used ≡ item .last
-        → (r : Found) → ((y : World script table quads leasts x seen) → AnswerOf y free started r)
+        → (r : Found) → ((y : World script ranks table quads leasts x seen) → AnswerOf y free started r)
         → (tuple : List ℕ) → tuple ≡ shortNumbers (r .tuple) → AnswersNow w t (r .found) tuple
     unfolding savedItem
     answers-now started item i e f r h tuple g each bs q d is =
@@ -427,22 +427,22 @@ module _ {script table quads leasts : List ℕ} {x : Context} {run : SavedContro
 
     -- as the code made them
     module _ (block : Block) (made : block ≡ seen) where
-      pub world-given : World script table quads leasts x block
+      pub world-given : World script ranks table quads leasts x block
       world-given =
-          subst (World script table quads leasts x) (sym made) (world-here (b .reads .each) (b .reads .binders) (b .reads .query) (b .reads .body) (b .is))
+          subst (World script ranks table quads leasts x) (sym made) (world-here (b .reads .each) (b .reads .binders) (b .reads .query) (b .reads .body) (b .is))
 
       pub answers-given : (known : List ℕ) → known ≡ free → (started : Bool) (item : SavedItem) → item ≡ topOf run → started ≡ item .started → used ≡ item .last
-          → (r : Found) → ((y : World script table quads leasts x block) → AnswerOf y known started r)
+          → (r : Found) → ((y : World script ranks table quads leasts x block) → AnswerOf y known started r)
           → (tuple : List ℕ) → tuple ≡ shortNumbers (r .tuple) → AnswersNow w t (r .found) tuple
       answers-given known e started item i f g r h =
           answers-now started item i f g r
-          (subst (λ (k : List ℕ). (y : World script table quads leasts x seen) → AnswerOf y k started r) e
-          (subst (λ (z : Block). (y : World script table quads leasts x z) → AnswerOf y known started r) made h))
+          (subst (λ (k : List ℕ). (y : World script ranks table quads leasts x seen) → AnswerOf y k started r) e
+          (subst (λ (z : Block). (y : World script ranks table quads leasts x z) → AnswerOf y known started r) made h))
 
       pub tries-given : length used ≡ 4 → (known : List ℕ) → known ≡ free → (numbers : List ℕ) → numbers ≡ fourOf used
-          → (r : Tried) → ((y : World script table quads leasts x block) → TriedOf y known numbers 0 r) → TriesNow w t used r
+          → (r : Tried) → ((y : World script ranks table quads leasts x block) → TriedOf y known numbers 0 r) → TriesNow w t used r
       tries-given four known e numbers f r h each bs q d is =
           tried each bs q d is r four
-          (subst (λ (k : List ℕ). (y : World script table quads leasts x seen) → TriedOf y k (fourOf used) 0 r) e
-          (subst (λ (l : List ℕ). (y : World script table quads leasts x seen) → TriedOf y known l 0 r) f
-          (subst (λ (z : Block). (y : World script table quads leasts x z) → TriedOf y known numbers 0 r) made h)) (world-here each bs q d is))
+          (subst (λ (k : List ℕ). (y : World script ranks table quads leasts x seen) → TriedOf y k (fourOf used) 0 r) e
+          (subst (λ (l : List ℕ). (y : World script ranks table quads leasts x seen) → TriedOf y known l 0 r) f
+          (subst (λ (z : Block). (y : World script ranks table quads leasts x z) → TriedOf y known numbers 0 r) made h)) (world-here each bs q d is))

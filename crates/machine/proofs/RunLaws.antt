@@ -136,7 +136,7 @@ module _ {script : List ℕ} {loaded : ℕ} {run : SavedControl} (h : Standing s
 
 -- ── a block ─────────────────────────────────────────────────────────────────────────────────
 
-module _ {script table quads leasts : List ℕ} {x : Context} {run : SavedControl} {at : ℕ} (w : Lends script table quads leasts x run) (t : Top (w .here) at)
+module _ {script ranks table quads leasts : List ℕ} {x : Context} {run : SavedControl} {at : ℕ} (w : Lends script ranks table quads leasts x run) (t : Top (w .here) at)
     (kind : byte script at ≡ 0x73) (found : Bool) (tuple : List ℕ)
     (answers : AnswersNow w t found tuple) (r : Stepped) where
   abbrev o : Option Tuple
@@ -216,7 +216,7 @@ module _ (σ : Setting) (Γ : Typing) (s : State) where
 
 -- ── one step ────────────────────────────────────────────────────────────────────────────────
 
-module _ {script table quads leasts : List ℕ} {x : Context} {run : SavedControl} (w : Lends script table quads leasts x run) where
+module _ {script ranks table quads leasts : List ℕ} {x : Context} {run : SavedControl} (w : Lends script ranks table quads leasts x run) where
   abbrev c : Checked
   c = w .here .checked
 
@@ -226,7 +226,7 @@ module _ {script table quads leasts : List ℕ} {x : Context} {run : SavedContro
   pub step-acts : (at : ℕ) (t : Top (w .here) at) (r : Stepped) → ActsNow w t r → StepOf w r
   unfolding nextOf
   step-acts at t r h =
-      let n = fine-ok (next-sound c (w .here .accepted) (signed (x .clock)) current (w .here .sound)) in
+      let n = fine-ok (next-sound c (w .here .accepted) ranks (signed (x .clock)) current (w .here .sound)) in
       record { after = n .0; noFault = n .1; result = h (n .0) (ap (nextOf (setting w) (typing w) current) (sym (t .stack)) ∙ n .1) }
 
   pub step-ends : run .height ≡ 0 → (r : Stepped) → r ≡ standsAt run Ended → StepOf w r
@@ -248,7 +248,8 @@ module _ {script table quads leasts : List ℕ} {x : Context} {run : SavedContro
       look-next (setting w) (typing w) current (current .control .stack) e (h .after) (h .noFault)
       ∙ ap ok (sym (ending-of (h .after)) ∙ ap (λ (y : Stepped). y .ending) (sym (h .result)))
 
-pub graphs-low : {script table quads leasts : List ℕ} {x : Context} {run : SavedControl} {store : SavedStore} → LendsStore script table quads leasts x run store → store .graphs ≤ graphLimit
+pub graphs-low : {script ranks table quads leasts : List ℕ} {x : Context} {run : SavedControl} {store : SavedStore}
+    → LendsStore script ranks table quads leasts x run store → store .graphs ≤ graphLimit
 unfolding savedStore
 graphs-low w =
     let h = w .lends .here in
@@ -265,7 +266,7 @@ pub record Gone (σ : Setting) (Γ : Typing) (budget steps : ℕ) (first now : S
   pub last : lastOf first (whole .passed) ≡ lastOf now (r .passed)
 
 -- so many steps of the budget are taken
-pub record Going {script table quads leasts : List ℕ} {x : Context} {run : SavedControl} (w : Lends script table quads leasts x run) (budget steps : ℕ) (now : SavedControl) : Type 0 where
+pub record Going {script ranks table quads leasts : List ℕ} {x : Context} {run : SavedControl} (w : Lends script ranks table quads leasts x run) (budget steps : ℕ) (now : SavedControl) : Type 0 where
   pub state : State
   pub sound : Sound (w .here .checked) state
   pub stored : state .store ≡ w .here .state .store
@@ -274,7 +275,7 @@ pub record Going {script table quads leasts : List ℕ} {x : Context} {run : Sav
   pub goes : (r : Run) → Machine.run (setting w) (typing w) (budget - steps) state ≡ ok r
       → Gone (setting w) (typing w) budget steps (w .here .state) state r
 
-module _ {script table quads leasts : List ℕ} {x : Context} {run : SavedControl} (w : Lends script table quads leasts x run) (budget : ℕ) where
+module _ {script ranks table quads leasts : List ℕ} {x : Context} {run : SavedControl} (w : Lends script ranks table quads leasts x run) (budget : ℕ) where
   abbrev C : Checked
   C = w .here .checked
 
@@ -302,7 +303,7 @@ module _ {script table quads leasts : List ℕ} {x : Context} {run : SavedContro
     types-are = ap (λ (r : SavedControl). r .types) (g .is)
 
     -- what is lent is lent to the state of the moment
-    abbrev pub lends-now : Lends script table quads leasts x now
+    abbrev pub lends-now : Lends script ranks table quads leasts x now
     lends-now =
         record {
           here = record {
@@ -318,10 +319,11 @@ module _ {script table quads leasts : List ℕ} {x : Context} {run : SavedContro
           full = w .full;
           reports = types-are ∙ w .reports;
           told = w .told;
+          ranked = w .ranked;
           lent = subst (λ (s : Store). StoreLent table quads leasts x (C .schema) (s .terms) (s .quads)) (sym (g .stored)) (w .lent);
         }
 
-    abbrev pub stored-now : {store : SavedStore} → store ≡ savedStore (w .here .state .store) → LendsStore script table quads leasts x now store
+    abbrev pub stored-now : {store : SavedStore} → store ≡ savedStore (w .here .state .store) → LendsStore script ranks table quads leasts x now store
     stored-now e = record { lends = lends-now; stored = e ∙ ap savedStore (sym (g .stored)) }
 
     module _ (more : steps < budget) (r : Stepped) (h : StepOf lends-now r) where
@@ -345,7 +347,7 @@ module _ {script table quads leasts : List ℕ} {x : Context} {run : SavedContro
           go : (n : Next) → next (setting w) (typing w) (g .state) ≡ ok n → r ≡ steppedOf now n → Going w budget (steps + 1) (r .control)
           go (stand q) e f = absurd (false-not-true (sym (ap (λ (y : Stepped). y .moved) f) ∙ m))
           go (step n) e f =
-              let sure = fine-ok (next-sound C (w .here .accepted) (signed (x .clock)) (g .state) (g .sound)) in
+              let sure = fine-ok (next-sound C (w .here .accepted) ranks (signed (x .clock)) (g .state) (g .sound)) in
               record {
                 state = n;
                 sound = subst (NextSound C) (ok-is (sym (sure .1) ∙ e)) (sure .2);

@@ -3,7 +3,7 @@ use Prim.Native.Nat.{ℕ}
 use mathlib.Core.Path.{_≡_, ap, sym, _∙_}
 use mathlib.Core.List.{List}
 use lib.ListN.{length}
-use Rattle.definitions.specs.Limits.{variableLimit, graphLimit, depthLimit}
+use Rattle.definitions.specs.Limits.{ranksWidth, variableLimit, graphLimit, depthLimit}
 use Rattle.definitions.specs.Reading.{parsed}
 use Rattle.definitions.specs.Saved.{savedControl, savedStore}
 use Rattle.definitions.specs.Calls as Calls
@@ -41,11 +41,11 @@ module _ (l : Lent) (saved : SavedRun) (x : Calls.Sound) (h : SoundIn l saved x)
 
   module _ (store : SavedStore) (kept : store ≡ canonicalStore (saved .store)) where
     -- with what a search is told
-    abbrev pub lends-held : {quads leasts : List ℕ} {y : Context} → length (saved .control .bound) ≡ variableLimit → length (saved .store .fetched) ≡ graphLimit
+    abbrev pub lends-held : {quads leasts : List ℕ} {y : Context} → length (l .ranks) ≡ ranksWidth → length (saved .control .bound) ≡ variableLimit → length (saved .store .fetched) ≡ graphLimit
         → length (saved .control .items) ≡ depthLimit → length (x .checked .terms) ≡ y .loaded → Told y
         → StoreLent (l .termTable) quads leasts y (x .checked .schema) (x .state .store .terms) (x .state .store .quads)
-        → LendsStore (l .script) (l .termTable) quads leasts y run store
-    lends-held sixteen places levels e told holds =
+        → LendsStore (l .script) (l .ranks) (l .termTable) quads leasts y run store
+    lends-held ranked sixteen places levels e told holds =
         record {
           lends = record {
             here = record {
@@ -61,6 +61,7 @@ module _ (l : Lent) (saved : SavedRun) (x : Calls.Sound) (h : SoundIn l saved x)
             full = types-length (l .terms) (l .schema) (l .script) (x .checked) loads-here;
             reports = types-here ∙ h .types;
             told = told;
+            ranked = ranked;
             lent = holds;
           };
           stored = store-here l saved x h places kept;

@@ -275,15 +275,15 @@ module _ {script : List ℕ} {loaded : ℕ} {run : SavedControl} {at : ℕ} (x :
         go (block o each bs q c) r = absurd (let z = r .kind in omega arith)
         go (sequence o c d) r = f o c d r
 
-  abbrev outcome : ℤ → Script → Outcome Next
-  outcome clock c = act (settingOf (x .here .checked) clock) (typeAt (x .here .checked .types)) s (x .rest) (x .item .last) c
+  abbrev outcome : (ranks : List ℕ) → ℤ → Script → Outcome Next
+  outcome ranks clock c = act (settingOf (x .here .checked) ranks clock) (typeAt (x .here .checked .types)) s (x .rest) (x .item .last) c
 
   -- ── success ───────────────────────────────────────────────────────────────────────────────
 
   pub success-acts : byte script at ≡ 0x71 → (r : Stepped) (saved : SavedControl) → r ≡ movedTo saved → saved ≡ popped run → Acts x r
   unfolding act steppedOf
-  success-acts k r saved e f clock n =
-      if-success (λ c. outcome clock c ≡ ok n → r ≡ steppedOf run n) k (λ o h.
+  success-acts k r saved e f ranks clock n =
+      if-success (λ c. outcome ranks clock c ≡ ok n → r ≡ steppedOf run n) k (λ o h.
       let is : step (withStack s (x .rest)) ≡ n = cc in
       e ∙ (ap movedTo (f ∙ (ap popped run-is ∙ saved-pop types β (x .item) (x .rest) room)) ∙ ap (steppedOf run) is))
 
@@ -327,7 +327,7 @@ module _ {script : List ℕ} {loaded : ℕ} {run : SavedControl} {at : ℕ} (x :
   pub sequence-acts : (r : Read) (t : Two r) (m : ℕ) → r ≡ Reads.Next m → (below above : SavedItem) → below ≡ freshItem m → above ≡ freshItem (at + 1)
       → (rest saved : SavedControl) → rest ≡ replaced run below → saved ≡ pushed rest above → (y : Stepped) → y ≡ movedTo saved → Acts x y
   unfolding act steppedOf
-  sequence-acts r t m g below above b a rest saved e f y h clock n k =
+  sequence-acts r t m g below above b a rest saved e f y h ranks clock n k =
       let item-of : (c : Script) (i : SavedItem) (o : ℕ) → i ≡ freshItem o → offsetOf c ≡ o → i ≡ savedItem (fresh c) =
       λ c i o p q. p ∙ (ap freshItem (sym q) ∙ sym (fresh-is c)) in
       let lower : rest ≡ savedWith β (fresh (t .second) ∷ x .rest) =
@@ -337,7 +337,7 @@ module _ {script : List ℕ} {loaded : ℕ} {run : SavedControl} {at : ℕ} (x :
       f ∙ (ap₂ pushed lower (item-of (t .first) above (at + 1) a (t .firstAt))
       ∙ saved-push types β (fresh (t .first)) (fresh (t .second) ∷ x .rest) (t .room2)) in
       let is : step (withStack s (fresh (t .first) ∷ fresh (t .second) ∷ x .rest)) ≡ n =
-      (let j : outcome clock (sequence at (t .first) (t .second)) ≡ ok n = ap (outcome clock) (sym (t .is)) ∙ k in cc) in
+      (let j : outcome ranks clock (sequence at (t .first) (t .second)) ≡ ok n = ap (outcome ranks clock) (sym (t .is)) ∙ k in cc) in
       h ∙ (ap movedTo upper ∙ ap (steppedOf run) is)
 
   -- ── from named ────────────────────────────────────────────────────────────────────────────
@@ -380,13 +380,13 @@ module _ {script : List ℕ} {loaded : ℕ} {run : SavedControl} {at : ℕ} (x :
 
   module _ (r : Read) (t : From r) (graph : ℕ) (number : NumberOf run script (at + 1) graph) where
     -- the machine's own way: the graph's number, and what it does
-    named-acts : (b : Bool) → isIn graph (s .store .fetched) ≡ b → (clock : ℤ) (n : Next) → outcome clock (x .item .script) ≡ ok n
+    named-acts : (b : Bool) → isIn graph (s .store .fetched) ≡ b → (ranks : List ℕ) (clock : ℤ) (n : Next) → outcome ranks clock (x .item .script) ≡ ok n
         → n ≡ cond b (step (withStack s (fresh (t .body) ∷ x .rest))) (stand (Wanted graph))
     unfolding act enterNamed
-    named-acts b e clock n k =
+    named-acts b e ranks clock n k =
         let c = t .body in
         let after : Named → Outcome Next = λ g. demand (isURI (g .term)) fromNamedNoURI >> ok (enterNamed s (fresh c ∷ x .rest) g) in
-        let g = then-ok {f = after} (ap (outcome clock) (sym (t .is)) ∙ k) in
+        let g = then-ok {f = after} (ap (outcome ranks clock) (sym (t .is)) ∙ k) in
         let j : enterNamed s (fresh c ∷ x .rest) (g .0) ≡ n = ok-is (and-ok (demand (isURI (g .0 .term)) fromNamedNoURI) (g .2)) in
         let q : graph ≡ g .0 .number = number s (x .here .saved) (t .name) (g .0) (g .1) in
         sym j ∙ (ap (λ (i : ℕ). cond (isIn i (s .store .fetched)) (step (withStack s (fresh c ∷ x .rest))) (stand (Wanted i))) (sym q)
@@ -396,18 +396,18 @@ module _ {script : List ℕ} {loaded : ℕ} {run : SavedControl} {at : ℕ} (x :
       pub fetched-acts : (b : Bool) → b ≡ isIn graph (fetchedIn store) → b ≡ true → (m : ℕ) → r ≡ Reads.Next m → (item : SavedItem) → item ≡ freshItem m
           → (saved : SavedControl) → saved ≡ replaced run item → (y : Stepped) → y ≡ movedTo saved → Acts x y
       unfolding steppedOf
-      fetched-acts b e h m g item i saved f y z clock n k =
+      fetched-acts b e h m g item i saved f y z ranks clock n k =
           let c = t .body in
           let is : isIn graph (s .store .fetched) ≡ true = ap (isIn graph) (sym (fetched-is store stored)) ∙ (sym e ∙ h) in
           let new : item ≡ savedItem (fresh c) = i ∙ (ap freshItem (t .found m g ∙ sym (t .bodyAt)) ∙ sym (fresh-is c)) in
           z ∙ (ap movedTo (f ∙ (ap₂ replaced run-is new ∙ saved-replace types β (x .item) (x .rest) room (fresh c)))
-          ∙ ap (steppedOf run) (sym (named-acts true is clock n k)))
+          ∙ ap (steppedOf run) (sym (named-acts true is ranks clock n k)))
 
       pub wanted-acts : (b : Bool) → b ≡ isIn graph (fetchedIn store) → b ≡ false → (y : Stepped) → y ≡ standsAt run (Wanted graph) → Acts x y
       unfolding steppedOf
-      wanted-acts b e h y z clock n k =
+      wanted-acts b e h y z ranks clock n k =
           let is : isIn graph (s .store .fetched) ≡ false = ap (isIn graph) (sym (fetched-is store stored)) ∙ (sym e ∙ h) in
-          z ∙ ap (steppedOf run) (sym (named-acts false is clock n k))
+          z ∙ ap (steppedOf run) (sym (named-acts false is ranks clock n k))
 
   -- ── a block ───────────────────────────────────────────────────────────────────────────────
 

@@ -5,7 +5,7 @@ use mathlib.Core.List.{List, [], _∷_}
 use mathlib.Core.Bool.{Bool, true, false}
 use lib.Dec.{T}
 use lib.ListN.{length}
-use Rattle.definitions.specs.Limits.{variableLimit}
+use Rattle.definitions.specs.Limits.{ranksWidth, variableLimit}
 use Rattle.definitions.specs.Bytes.{byte, signed}
 use Rattle.definitions.specs.Tree.{Script, block, Binder, Query}
 use Rattle.definitions.specs.Scope.{variablesOf, inScope}
@@ -30,17 +30,18 @@ use Rattle.machine.specs.declared.Stopped.{Stopped}
 use Rattle.machine.specs.Steps.{Standing, OnTop, answerOf, steppedOf}
 
 -- a sound state of an accepted script, of whose store is lent what a search is told
-pub record Lends (script table quads leasts : List ℕ) (x : Context) (run : SavedControl) : Type 0 where
+pub record Lends (script ranks table quads leasts : List ℕ) (x : Context) (run : SavedControl) : Type 0 where
   pub here : Standing script (x .loaded) run
   pub scope : T (inScope (here .checked .root))
   pub full : length (here .checked .types) ≡ variableLimit
   pub reports : run .types ≡ reported (here .checked)
   pub told : Told x
+  pub ranked : length ranks ≡ ranksWidth
   pub lent : StoreLent table quads leasts x (here .checked .schema) (here .state .store .terms) (here .state .store .quads)
 
 -- and with it its saved store
-pub record LendsStore (script table quads leasts : List ℕ) (x : Context) (run : SavedControl) (store : SavedStore) : Type 0 where
-  pub lends : Lends script table quads leasts x run
+pub record LendsStore (script ranks table quads leasts : List ℕ) (x : Context) (run : SavedControl) (store : SavedStore) : Type 0 where
+  pub lends : Lends script ranks table quads leasts x run
   pub stored : store ≡ savedStore (lends .here .state .store)
 
 -- the item on top of a standing run, whose record stands at an offset
@@ -58,10 +59,10 @@ abbrev pub eachOn : List Item → Bool
 eachOn [] = false
 eachOn (i ∷ rest) = isEachBlock (i .script)
 
-module _ {script table quads leasts : List ℕ} {x : Context} {run : SavedControl} (w : Lends script table quads leasts x run) where
+module _ {script ranks table quads leasts : List ℕ} {x : Context} {run : SavedControl} (w : Lends script ranks table quads leasts x run) where
   -- what the machine runs under
   abbrev pub setting : Setting
-  setting = settingOf (w .here .checked) (signed (x .clock))
+  setting = settingOf (w .here .checked) ranks (signed (x .clock))
 
   abbrev pub typing : Typing
   typing = typeAt (w .here .checked .types)

@@ -60,8 +60,8 @@ pub record OnTop (script : List ℕ) (loaded : ℕ) (run : SavedControl) (at : �
 -- the item acts on the rest
 abbrev pub Acts : {script : List ℕ} {loaded : ℕ} {run : SavedControl} {at : ℕ} → OnTop script loaded run at → Stepped → Type 0
 Acts {run = run} x r =
-    (clock : ℤ) (n : Next)
-    → act (settingOf (x .here .checked) clock) (typeAt (x .here .checked .types)) (x .here .state) (x .rest) (x .item .last) (x .item .script) ≡ ok n
+    (ranks : List ℕ) (clock : ℤ) (n : Next)
+    → act (settingOf (x .here .checked) ranks clock) (typeAt (x .here .checked .types)) (x .here .state) (x .rest) (x .item .last) (x .item .script) ≡ ok n
     → r ≡ steppedOf run n
 
 -- ── names ───────────────────────────────────────────────────────────────────────────────────

@@ -142,14 +142,16 @@ pub fn block_answer(
     ends: &[u16],
     context: Context,
     at: usize,
+    ranks: &[u8],
     table: &[u8],
     quads: &[u64],
     leasts: &[u8],
 ) -> Answered
-    requires { ⌜ ((w : Lends (now script) (now table) (now quads) (now leasts) context run) × Top (w .here) at) ⌝ }
+    requires { ⌜ ((w : Lends (now script) (now ranks) (now table) (now quads) (now leasts) context run) × Top (w .here) at) ⌝ }
     requires { ⌜ byte (now script) at ≡ 0x73 ⌝ }
     requires { ⌜ EndsLent (now script) (now ends) ⌝ }
-    ensures { λ r. ⌜ ((w : Lends (now (script .entry)) (now (table .entry)) (now (quads .entry)) (now (leasts .entry)) context run) (t : Top (w .here) at) → AnswersNow w t (r .found) (r .tuple)) ⌝ }
+    ensures { λ r. ⌜ ((w : Lends (now (script .entry)) (now (ranks .entry)) (now (table .entry)) (now (quads .entry)) (now (leasts .entry)) context run) (t : Top (w .here) at) →
+        AnswersNow w t (r .found) (r .tuple)) ⌝ }
 {
     let item = top(run);
     let reported = run.types;
@@ -164,6 +166,7 @@ pub fn block_answer(
         ends,
         context,
         block,
+        ranks,
         table,
         quads,
         leasts,
@@ -186,15 +189,17 @@ pub fn try_top(
     ends: &[u16],
     context: Context,
     at: usize,
+    ranks: &[u8],
     table: &[u8],
     quads: &[u64],
     leasts: &[u8],
     tuple: [u16; PAIR_LIMIT],
 ) -> Tried
-    requires { ⌜ ((w : Lends (now script) (now table) (now quads) (now leasts) context run) × Top (w .here) at) ⌝ }
+    requires { ⌜ ((w : Lends (now script) (now ranks) (now table) (now quads) (now leasts) context run) × Top (w .here) at) ⌝ }
     requires { ⌜ byte (now script) at ≡ 0x73 ⌝ }
     requires { ⌜ EndsLent (now script) (now ends) ⌝ }
-    ensures { λ r. ⌜ ((w : Lends (now (script .entry)) (now (table .entry)) (now (quads .entry)) (now (leasts .entry)) context run) (t : Top (w .here) at) → TriesNow w t tuple r) ⌝ }
+    ensures { λ r. ⌜ ((w : Lends (now (script .entry)) (now (ranks .entry)) (now (table .entry)) (now (quads .entry)) (now (leasts .entry)) context run) (t : Top (w .here) at) →
+        TriesNow w t tuple r) ⌝ }
 {
     let reported = run.types;
     let bound = run.bound;
@@ -207,6 +212,7 @@ pub fn try_top(
         ends,
         context,
         block,
+        ranks,
         table,
         quads,
         leasts,

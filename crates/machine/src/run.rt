@@ -32,17 +32,18 @@ fn enter_block(
     ends: &[u16],
     context: Context,
     at: usize,
+    ranks: &[u8],
     table: &[u8],
     quads: &[u64],
     leasts: &[u8],
 ) -> Stepped
-    requires { ⌜ ((w : Lends (now script) (now table) (now quads) (now leasts) context run) × Top (w .here) at) ⌝ }
+    requires { ⌜ ((w : Lends (now script) (now ranks) (now table) (now quads) (now leasts) context run) × Top (w .here) at) ⌝ }
     requires { ⌜ byte (now script) at ≡ 0x73 ⌝ }
     requires { ⌜ EndsLent (now script) (now ends) ⌝ }
-    ensures { λ r. ⌜ ((w : Lends (now (script .entry)) (now (table .entry)) (now (quads .entry)) (now (leasts .entry)) context run) (t : Top (w .here) at) → ActsNow w t r) ⌝ }
+    ensures { λ r. ⌜ ((w : Lends (now (script .entry)) (now (ranks .entry)) (now (table .entry)) (now (quads .entry)) (now (leasts .entry)) context run) (t : Top (w .here) at) → ActsNow w t r) ⌝ }
 {
     let loaded = context.loaded;
-    let answer = block_answer(run, script, ends, context, at, table, quads, leasts);
+    let answer = block_answer(run, script, ends, context, at, ranks, table, quads, leasts);
     let found = answer.found;
     let tuple = answer.tuple;
     let body = block_body(script, loaded, at);
@@ -62,13 +63,14 @@ pub fn step(
     script: &[u8],
     ends: &[u16],
     context: Context,
+    ranks: &[u8],
     table: &[u8],
     quads: &[u64],
     leasts: &[u8],
 ) -> Stepped
-    requires { ⌜ LendsStore (now script) (now table) (now quads) (now leasts) context run store ⌝ }
+    requires { ⌜ LendsStore (now script) (now ranks) (now table) (now quads) (now leasts) context run store ⌝ }
     requires { ⌜ EndsLent (now script) (now ends) ⌝ }
-    ensures { λ r. ⌜ ((w : LendsStore (now (script .entry)) (now (table .entry)) (now (quads .entry)) (now (leasts .entry)) context run store) → StepOf (w .lends) r) ⌝ }
+    ensures { λ r. ⌜ ((w : LendsStore (now (script .entry)) (now (ranks .entry)) (now (table .entry)) (now (quads .entry)) (now (leasts .entry)) context run store) → StepOf (w .lends) r) ⌝ }
 {
     if run.height == 0 {
         return stands(run, RunState::Ended);
@@ -87,7 +89,7 @@ pub fn step(
     if kind == 0x74 {
         return enter_sequence(run, script, loaded, at);
     }
-    enter_block(run, script, ends, context, at, table, quads, leasts)
+    enter_block(run, script, ends, context, at, ranks, table, quads, leasts)
 }
 
 // Whether an each block is on top.
@@ -118,18 +120,29 @@ pub fn look(
     script: &[u8],
     ends: &[u16],
     context: Context,
+    ranks: &[u8],
     table: &[u8],
     quads: &[u64],
     leasts: &[u8],
 ) -> RunState
-    requires { ⌜ LendsStore (now script) (now table) (now quads) (now leasts) context run store ⌝ }
+    requires { ⌜ LendsStore (now script) (now ranks) (now table) (now quads) (now leasts) context run store ⌝ }
     requires { ⌜ EndsLent (now script) (now ends) ⌝ }
-    ensures { λ r. ⌜ ((w : LendsStore (now (script .entry)) (now (table .entry)) (now (quads .entry)) (now (leasts .entry)) context run store) → LookOf (w .lends) r) ⌝ }
+    ensures { λ r. ⌜ ((w : LendsStore (now (script .entry)) (now (ranks .entry)) (now (table .entry)) (now (quads .entry)) (now (leasts .entry)) context run store) → LookOf (w .lends) r) ⌝ }
 {
     if each_on_top(run, script, context.loaded) {
         return RunState::Spent;
     }
-    let next = step(run, store, script, ends, context, table, quads, leasts);
+    let next = step(
+        run,
+        store,
+        script,
+        ends,
+        context,
+        ranks,
+        table,
+        quads,
+        leasts,
+    );
     next.ending
 }
 
@@ -140,19 +153,30 @@ fn take_steps(
     script: &[u8],
     ends: &[u16],
     context: Context,
+    ranks: &[u8],
     table: &[u8],
     quads: &[u64],
     leasts: &[u8],
     budget: u32,
 ) -> Stopped
-    requires { ⌜ LendsStore (now script) (now table) (now quads) (now leasts) context run store ⌝ }
+    requires { ⌜ LendsStore (now script) (now ranks) (now table) (now quads) (now leasts) context run store ⌝ }
     requires { ⌜ EndsLent (now script) (now ends) ⌝ }
-    ensures { λ r. ⌜ ((w : LendsStore (now (script .entry)) (now (table .entry)) (now (quads .entry)) (now (leasts .entry)) context run store) → RunOf (w .lends) budget r) ⌝ }
+    ensures { λ r. ⌜ ((w : LendsStore (now (script .entry)) (now (ranks .entry)) (now (table .entry)) (now (quads .entry)) (now (leasts .entry)) context run store) → RunOf (w .lends) budget r) ⌝ }
 {
     let mut control = run;
     let mut steps = 0;
     while steps < budget {
-        let next = step(control, store, script, ends, context, table, quads, leasts);
+        let next = step(
+            control,
+            store,
+            script,
+            ends,
+            context,
+            ranks,
+            table,
+            quads,
+            leasts,
+        );
         if !next.moved {
             let why = next.ending;
             return Stopped {
@@ -164,7 +188,17 @@ fn take_steps(
         control = next.control;
         steps += 1;
     }
-    let ending = look(control, store, script, ends, context, table, quads, leasts);
+    let ending = look(
+        control,
+        store,
+        script,
+        ends,
+        context,
+        ranks,
+        table,
+        quads,
+        leasts,
+    );
     Stopped {
         steps,
         ending,
@@ -179,14 +213,15 @@ pub fn run_steps(
     store: SavedStore,
     script: &[u8],
     context: Context,
+    ranks: &[u8],
     table: &[u8],
     quads: &[u64],
     leasts: &[u8],
     budget: u32,
 ) -> Stopped
-    requires { ⌜ LendsStore (now script) (now table) (now quads) (now leasts) context run store ⌝ }
+    requires { ⌜ LendsStore (now script) (now ranks) (now table) (now quads) (now leasts) context run store ⌝ }
     requires { ⌜ length (now script) ≤ scriptLimit ⌝ }
-    ensures { λ r. ⌜ ((w : LendsStore (now (script .entry)) (now (table .entry)) (now (quads .entry)) (now (leasts .entry)) context run store) → RunOf (w .lends) budget r) ⌝ }
+    ensures { λ r. ⌜ ((w : LendsStore (now (script .entry)) (now (ranks .entry)) (now (table .entry)) (now (quads .entry)) (now (leasts .entry)) context run store) → RunOf (w .lends) budget r) ⌝ }
 {
     let mut ends = [0u16; SCRIPT_LIMIT];
     fill_ends(script, &mut ends);
@@ -196,6 +231,7 @@ pub fn run_steps(
         script,
         &ends,
         context,
+        ranks,
         table,
         quads,
         leasts,

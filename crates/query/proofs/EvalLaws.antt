@@ -150,12 +150,12 @@ module _ (σ : Setting) (terms : List Term) (quads : List Quad) (γ : Bindings) 
 
 module _ (table known : List ℕ) (x : Context) where
   pub good-value : {v : Value} {o : Got Expr} {n : ℕ} → Lent table known x → Walked (ValueOf table known x v) o n → Good v
-  good-value l w = w .holds [] (l .terms) [] (l .tabled .reads) .good
+  good-value l w = w .holds [] [] (l .terms) [] (l .tabled .reads) .good
 
   pub name-value : (n : Name) (code : ℕ) (v : Value) → (code ≡ codeOf known variableLimit n) × NameBounded soughtCode n → NumberGives table v code
       → ValueOf table known x v (Expr.name n)
   unfolding expression
-  name-value n code v c h S terms quads t = record {
+  name-value n code v c h S ranks terms quads t = record {
     good = h terms t .0;
     is = λ u e.
         let (y, ey, eu) = then-ok e in
@@ -172,118 +172,119 @@ module _ (table known : List ℕ) (x : Context) where
 
   -- where a variable is not known the machine meets a fault, so that any value will do
   pub open-value : {v : Value} (e : Expr) → exprKnown (bindingsOf known) e ≡ false → Good v → ValueOf table known x v e
-  open-value {v} e o g S terms quads t = record { good = g; is = λ u h. absurd (true≢false (sym (expr-known (settingIn S x) terms quads (bindingsOf known) e u h) ∙ o)) }
+  open-value {v} e o g S ranks terms quads t = record { good = g; is = λ u h. absurd (true≢false (sym (expr-known (settingIn S ranks x) terms quads (bindingsOf known) e u h) ∙ o)) }
 
   pub now-value : {r : Value} → Gives r (ok (Meant.dateTime (signed (x .clock)))) → ValueOf table known x r Expr.now
   unfolding settingIn expression
-  now-value g S terms quads t = g
+  now-value g S ranks terms quads t = g
 
   module _ {a r : Value} (e : Expr) (h : ValueOf table known x a e) where
     pub str-value : Gives r (ok (Meant.string (textOf (meaning a)))) → ValueOf table known x r (Expr.str e)
     unfolding expression
-    str-value g S terms quads t = gives-then (λ x. ok (Meant.string (textOf x))) (h S terms quads t) g
+    str-value g S ranks terms quads t = gives-then (λ x. ok (Meant.string (textOf x))) (h S ranks terms quads t) g
 
     pub abs-value : Gives r (absolute (meaning a)) → ValueOf table known x r (Expr.abs e)
     unfolding expression
-    abs-value g S terms quads t = gives-then absolute (h S terms quads t) g
+    abs-value g S ranks terms quads t = gives-then absolute (h S ranks terms quads t) g
 
     module _ {b : Value} (f : Expr) (k : ValueOf table known x b f) where
       pub plus-value : Gives r (sum (meaning a) (meaning b)) → ValueOf table known x r (Expr.plus e f)
       unfolding expression
-      plus-value g S terms quads t =
-          gives-then (λ u. expression (settingIn S x) terms quads (bindingsOf known) f >>= λ y. sum u y) (h S terms quads t)
-          (gives-then (sum (meaning a)) (k S terms quads t) g)
+      plus-value g S ranks terms quads t =
+          gives-then (λ u. expression (settingIn S ranks x) terms quads (bindingsOf known) f >>= λ y. sum u y) (h S ranks terms quads t)
+          (gives-then (sum (meaning a)) (k S ranks terms quads t) g)
 
       pub minus-value : Gives r (difference (meaning a) (meaning b)) → ValueOf table known x r (Expr.minus e f)
       unfolding expression
-      minus-value g S terms quads t =
-          gives-then (λ u. expression (settingIn S x) terms quads (bindingsOf known) f >>= λ y. difference u y) (h S terms quads t)
-          (gives-then (difference (meaning a)) (k S terms quads t) g)
+      minus-value g S ranks terms quads t =
+          gives-then (λ u. expression (settingIn S ranks x) terms quads (bindingsOf known) f >>= λ y. difference u y) (h S ranks terms quads t)
+          (gives-then (difference (meaning a)) (k S ranks terms quads t) g)
 
-  -- ── booleans ──────────────────────────────────────────────────────────────────────────────
+-- ── booleans ─────────────────────────────────────────────────────────────────────────────────
 
-  pub no-truth : TruthOf table known x False 1 Cond.no
+module _ (ranks table known : List ℕ) (x : Context) where
+  pub no-truth : TruthOf ranks table known x False 1 Cond.no
   unfolding condition condRecords
   no-truth S terms quads t = alone λ b e. ok-is e
 
-  pub yes-truth : TruthOf table known x True 1 Cond.yes
+  pub yes-truth : TruthOf ranks table known x True 1 Cond.yes
   unfolding condition condRecords
   yes-truth S terms quads t = alone λ b e. ok-is e
 
-  module _ {a : Truth} {n : ℕ} (c : Cond) (h : TruthOf table known x a n c) where
-    pub not-truth : {r : Truth} → r ≡ notTruth a → TruthOf table known x r (n + 1) (Cond.not c)
+  module _ {a : Truth} {n : ℕ} (c : Cond) (h : TruthOf ranks table known x a n c) where
+    pub not-truth : {r : Truth} → r ≡ notTruth a → TruthOf ranks table known x r (n + 1) (Cond.not c)
     unfolding condition condRecords
     not-truth made S terms quads t = counts-one notTruth made (h S terms quads t)
 
     module _ (d : Cond) where
-      pub or-first : isTrue a ≡ true → TruthOf table known x True (n + 1) (Cond.or c d)
+      pub or-first : isTrue a ≡ true → TruthOf ranks table known x True (n + 1) (Cond.or c d)
       unfolding condition condRecords
       or-first e S terms quads t = counts-first orTruth isTrue (h S terms quads t) _ _ True or-decided e
 
-      pub and-first : isTrue (notTruth a) ≡ true → TruthOf table known x False (n + 1) (Cond.and c d)
+      pub and-first : isTrue (notTruth a) ≡ true → TruthOf ranks table known x False (n + 1) (Cond.and c d)
       unfolding condition condRecords
       and-first e S terms quads t = counts-first andTruth (λ a. isTrue (notTruth a)) (h S terms quads t) _ _ False and-decided e
 
-      module _ {b r : Truth} {m : ℕ} (k : TruthOf table known x b m d) where
-        pub or-truth : isTrue a ≡ false → r ≡ orTruth a b → TruthOf table known x r ((n + 1) + m) (Cond.or c d)
+      module _ {b r : Truth} {m : ℕ} (k : TruthOf ranks table known x b m d) where
+        pub or-truth : isTrue a ≡ false → r ≡ orTruth a b → TruthOf ranks table known x r ((n + 1) + m) (Cond.or c d)
         unfolding condition condRecords
         or-truth e made S terms quads t = counts-both orTruth isTrue (h S terms quads t) e made (k S terms quads t)
 
-        pub and-truth : isTrue (notTruth a) ≡ false → r ≡ andTruth a b → TruthOf table known x r ((n + 1) + m) (Cond.and c d)
+        pub and-truth : isTrue (notTruth a) ≡ false → r ≡ andTruth a b → TruthOf ranks table known x r ((n + 1) + m) (Cond.and c d)
         unfolding condition condRecords
         and-truth e made S terms quads t = counts-both andTruth (λ a. isTrue (notTruth a)) (h S terms quads t) e made (k S terms quads t)
 
   module _ {a : Value} {r : Truth} (e : Expr) (h : ValueOf table known x a e) where
-    pub regex-truth : (p : Pattern) → Tells r (textTest (λ s. accepts p (s .text)) (meaning a)) → TruthOf table known x r 1 (Cond.regex p e)
+    pub regex-truth : (p : Pattern) → Tells r (textTest (λ s. accepts p (s .text)) (meaning a)) → TruthOf ranks table known x r 1 (Cond.regex p e)
     unfolding condition condRecords textTest
-    regex-truth p g S terms quads t = alone (gives-tells (textTest (λ s. accepts p (s .text))) (h S terms quads t) g)
+    regex-truth p g S terms quads t = alone (gives-tells (textTest (λ s. accepts p (s .text))) (h S ranks terms quads t) g)
 
-    pub language-truth : (p : LanguageRange) → Tells r (textTest (λ s. matches p (s .tag)) (meaning a)) → TruthOf table known x r 1 (Cond.langMatches p e)
+    pub language-truth : (p : LanguageRange) → Tells r (textTest (λ s. matches p (s .tag)) (meaning a)) → TruthOf ranks table known x r 1 (Cond.langMatches p e)
     unfolding condition condRecords textTest
-    language-truth p g S terms quads t = alone (gives-tells (textTest (λ s. matches p (s .tag))) (h S terms quads t) g)
+    language-truth p g S terms quads t = alone (gives-tells (textTest (λ s. matches p (s .tag))) (h S ranks terms quads t) g)
 
     module _ {b : Value} (f : Expr) (k : ValueOf table known x b f) where
       compared-tells : (test : Pair → Truth) (S : Schema) (terms : List Term) (quads : List Quad) → termsIn table ≡ some terms
           → Tells r (compared test (meaning a) (meaning b))
-          → Tells r (expression (settingIn S x) terms quads (bindingsOf known) e >>= λ u. expression (settingIn S x) terms quads (bindingsOf known) f >>= λ y. compared test u y)
+          → Tells r (expression (settingIn S ranks x) terms quads (bindingsOf known) e >>= λ u. expression (settingIn S ranks x) terms quads (bindingsOf known) f >>= λ y. compared test u y)
       compared-tells test S terms quads t g =
-          gives-tells (λ u. expression (settingIn S x) terms quads (bindingsOf known) f >>= λ y. compared test u y) (h S terms quads t)
-          (gives-tells (compared test (meaning a)) (k S terms quads t) g)
+          gives-tells (λ u. expression (settingIn S ranks x) terms quads (bindingsOf known) f >>= λ y. compared test u y) (h S ranks terms quads t)
+          (gives-tells (compared test (meaning a)) (k S ranks terms quads t) g)
 
-      pub equal-truth : Tells r (compared equalPair (meaning a) (meaning b)) → TruthOf table known x r 1 (Cond.equal e f)
+      pub equal-truth : Tells r (compared equalPair (meaning a) (meaning b)) → TruthOf ranks table known x r 1 (Cond.equal e f)
       unfolding condition condRecords compared
       equal-truth g S terms quads t = alone (compared-tells equalPair S terms quads t g)
 
-      pub less-truth : Tells r (compared lessPair (meaning a) (meaning b)) → TruthOf table known x r 1 (Cond.less e f)
-      unfolding condition condRecords compared
-      less-truth g S terms quads t = alone (compared-tells lessPair S terms quads t g)
+      pub less-truth : Tells r (compared (lessPair ranks) (meaning a) (meaning b)) → TruthOf ranks table known x r 1 (Cond.less e f)
+      unfolding condition condRecords compared settingIn
+      less-truth g S terms quads t = alone (compared-tells (lessPair ranks) S terms quads t g)
 
   -- ── queries ───────────────────────────────────────────────────────────────────────────────
 
   module _ (rows : List Quad) where
-    pub filter-holds : {a : Truth} {r : Bool} {n : ℕ} (c : Cond) → TruthOf table known x a n c → r ≡ isTrue a → HoldsOf table known x rows r (n + 1) (Query.filter c)
+    pub filter-holds : {a : Truth} {r : Bool} {n : ℕ} (c : Cond) → TruthOf ranks table known x a n c → r ≡ isTrue a → HoldsOf ranks table known x rows r (n + 1) (Query.filter c)
     unfolding query queryRecords
     filter-holds c h made S terms t = counts-one isTrue made (h S terms rows t)
 
-    pub empty-holds : HoldsOf table known x rows true 1 Query.empty
+    pub empty-holds : HoldsOf ranks table known x rows true 1 Query.empty
     unfolding query queryRecords
     empty-holds S terms t = alone λ b e. ok-is e
 
-    module _ {a : Bool} {n : ℕ} (q r : Query) (h : HoldsOf table known x rows a n q) where
-      pub both-first : not a ≡ true → HoldsOf table known x rows false (n + 1) (Query.both q r)
+    module _ {a : Bool} {n : ℕ} (q r : Query) (h : HoldsOf ranks table known x rows a n q) where
+      pub both-first : not a ≡ true → HoldsOf ranks table known x rows false (n + 1) (Query.both q r)
       unfolding query queryRecords
       both-first e S terms t = counts-first _&&_ not (h S terms t) _ _ false both-decided e
 
-      pub union-first : a ≡ true → HoldsOf table known x rows true (n + 1) (Query.union q r)
+      pub union-first : a ≡ true → HoldsOf ranks table known x rows true (n + 1) (Query.union q r)
       unfolding query queryRecords
       union-first e S terms t = counts-first _||_ (λ a. a) (h S terms t) _ _ true union-decided e
 
-      module _ {b : Bool} {m : ℕ} (k : HoldsOf table known x rows b m r) where
-        pub both-holds : not a ≡ false → HoldsOf table known x rows b ((n + 1) + m) (Query.both q r)
+      module _ {b : Bool} {m : ℕ} (k : HoldsOf ranks table known x rows b m r) where
+        pub both-holds : not a ≡ false → HoldsOf ranks table known x rows b ((n + 1) + m) (Query.both q r)
         unfolding query queryRecords
         both-holds e S terms t = counts-both _&&_ not (h S terms t) e (both-second a b e) (k S terms t)
 
-        pub union-holds : a ≡ false → HoldsOf table known x rows b ((n + 1) + m) (Query.union q r)
+        pub union-holds : a ≡ false → HoldsOf ranks table known x rows b ((n + 1) + m) (Query.union q r)
         unfolding query queryRecords
         union-holds e S terms t = counts-both _||_ (λ a. a) (h S terms t) e (union-second a b e) (k S terms t)
 
@@ -299,14 +300,14 @@ module _ (table known : List ℕ) (x : Context) where
             inner false m e = cc
 
     pub pattern-holds : (q : Query) (codes : Four) (least : ℕ) → Coded known variableLimit codes q → least ≡ scan (placesAt codes) 0 1 rows
-        → HoldsOf table known x rows (eqb least 0) 1 q
+        → HoldsOf ranks table known x rows (eqb least 0) 1 q
     unfolding queryRecords
     pattern-holds (Query.both q r) codes least c = absurd c
     pattern-holds (Query.union q r) codes least c = absurd c
     pattern-holds (Query.filter c) codes least d = absurd d
     pattern-holds Query.empty codes least c = absurd c
     pattern-holds (Query.pattern g s p o) codes least c = λ l S terms t. alone λ b e.
-        let k = pattern-ok (settingIn S x) terms rows (bindingsOf known) g s p o b e in
+        let k = pattern-ok (settingIn S ranks x) terms rows (bindingsOf known) g s p o b e in
         let q = k .quad in
         let bounded = c .1 in
         let g′ = fixed-place g (q .graph) (bounded .0) (k .graph) in

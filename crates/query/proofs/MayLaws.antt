@@ -6,15 +6,11 @@ use mathlib.Core.Bool.{Bool, true, false, not, cond, _&&_, _||_, true≢false}
 use mathlib.Core.Option.{some}
 use lib.Dec.{T, ltb, leb}
 use borrow.Author.Tests.{not-true, not-false, le-ltb, leb-true}
-use Rattle.definitions.specs.Text.{Pattern, LanguageRange, accepts, matches}
+use Rattle.definitions.specs.Text.{Pattern, LanguageRange}
 use Rattle.definitions.specs.Tree.{Expr, Cond}
-use Rattle.definitions.specs.Terms.{Term, Schema}
 use Rattle.definitions.specs.Bytes.{Got}
-use Rattle.definitions.specs.Outcome.{Outcome, ok}
-use Rattle.definitions.specs.Values.{equalPair, lessPair}
-use Rattle.definitions.specs.Evaluate.{Quad, condition}
+use Rattle.definitions.specs.Outcome.{Outcome}
 use Rattle.definitions.specs.Evaluated.{gives}
-use Rattle.definitions.specs.Saved.{termsIn}
 use Rattle.definitions.specs.Truth.{notTruth, isTrue}
 use Rattle.definitions.specs.declared.Truth.{Truth}
 use Rattle.laws.specs.Outcomes.{Fine, Any}
@@ -25,15 +21,12 @@ use Rattle.laws.proofs.ReadBounds.{Reads}
 use Rattle.laws.proofs.Walked.{leaf-walked}
 use Rattle.laws.proofs.Productions.{Two}
 use Rattle.laws.proofs.Tests.{trueIs}
-use Rattle.values.specs.Meaning.{meaning, Tells, compared, textTest}
-use Rattle.values.specs.declared.Value.{Value}
-use Rattle.query.specs.Seek.{exprKnown, comesTo, joined, mayTest, may, SureTests}
+use Rattle.values.specs.Meaning.{Tells}
+use Rattle.query.specs.Seek.{exprKnown, comesTo, joined, may}
 use Rattle.scan.specs.Codes.{soughtCode}
 use Rattle.query.specs.Codes.{bindingsOf}
-use Rattle.query.specs.StoreLent.{settingIn}
 use Rattle.query.specs.declared.Context.{Context}
 use Rattle.query.specs.Eval.{TruthOf, MayOf, Waits, PairOpen}
-use Rattle.query.proofs.EvalLaws.{regex-truth, language-truth, equal-truth, less-truth}
 
 -- ── two Booleans ────────────────────────────────────────────────────────────────────────────
 
@@ -67,30 +60,30 @@ joined-back false b = refl
 
 -- ── the kinds ───────────────────────────────────────────────────────────────────────────────
 
-module _ (table known : List ℕ) (x : Context) (want : Bool) where
-  pub no-may : MayOf table known x want (not want) Cond.no
+module _ (ranks table known : List ℕ) (x : Context) (want : Bool) where
+  pub no-may : MayOf ranks table known x want (not want) Cond.no
   unfolding may
   no-may S terms quads t sure = refl
 
-  pub yes-may : MayOf table known x want want Cond.yes
+  pub yes-may : MayOf ranks table known x want want Cond.yes
   unfolding may
   yes-may S terms quads t sure = refl
 
-  module _ {a : Bool} (c d : Cond) (h : MayOf table known x want a c) where
-    pub or-may-first : same a want ≡ true → MayOf table known x want want (Cond.or c d)
+  module _ {a : Bool} (c d : Cond) (h : MayOf ranks table known x want a c) where
+    pub or-may-first : same a want ≡ true → MayOf ranks table known x want want (Cond.or c d)
     unfolding may
     or-may-first e S terms quads t sure = rw (sym (h S terms quads t (sure .0)), are-same a want e) (joined-first want _)
 
-    pub and-may-first : same a want ≡ false → MayOf table known x want (not want) (Cond.and c d)
+    pub and-may-first : same a want ≡ false → MayOf ranks table known x want (not want) (Cond.and c d)
     unfolding may
     and-may-first e S terms quads t sure = rw (sym (h S terms quads t (sure .0)), are-other a want e) (joined-first (not want) _)
 
-    module _ {b : Bool} (k : MayOf table known x want b d) where
-      pub or-may : same a want ≡ false → MayOf table known x want b (Cond.or c d)
+    module _ {b : Bool} (k : MayOf ranks table known x want b d) where
+      pub or-may : same a want ≡ false → MayOf ranks table known x want b (Cond.or c d)
       unfolding may
       or-may e S terms quads t sure = rw (sym (h S terms quads t (sure .0)), sym (k S terms quads t (sure .1)), are-other a want e) (joined-second want b)
 
-      pub and-may : same a want ≡ true → MayOf table known x want b (Cond.and c d)
+      pub and-may : same a want ≡ true → MayOf ranks table known x want b (Cond.and c d)
       unfolding may
       and-may e S terms quads t sure = rw (sym (h S terms quads t (sure .0)), sym (k S terms quads t (sure .1)), are-same a want e) (joined-back want b)
 
@@ -108,20 +101,20 @@ module _ (table known : List ℕ) (x : Context) (want : Bool) where
 
   -- one of a text
   module _ (e : Expr) where
-    pub text-open : {k : Bool} → k ≡ exprKnown (bindingsOf known) e → not k ≡ true → (p : Pattern) → MayOf table known x want true (Cond.regex p e)
+    pub text-open : {k : Bool} → k ≡ exprKnown (bindingsOf known) e → not k ≡ true → (p : Pattern) → MayOf ranks table known x want true (Cond.regex p e)
     unfolding may
     text-open h n p S terms quads t sure = open-test (exprKnown (bindingsOf known) e) _ (sym h ∙ not-true _ n)
 
-    pub tag-open : {k : Bool} → k ≡ exprKnown (bindingsOf known) e → not k ≡ true → (r : LanguageRange) → MayOf table known x want true (Cond.langMatches r e)
+    pub tag-open : {k : Bool} → k ≡ exprKnown (bindingsOf known) e → not k ≡ true → (r : LanguageRange) → MayOf ranks table known x want true (Cond.langMatches r e)
     unfolding may
     tag-open h n r S terms quads t sure = open-test (exprKnown (bindingsOf known) e) _ (sym h ∙ not-true _ n)
 
     module _ {k r : Bool} {u : Truth} (h : k ≡ exprKnown (bindingsOf known) e) (n : not k ≡ false) (made : r ≡ isTrue (cond want u (notTruth u))) where
-      pub regex-may : (p : Pattern) → TruthOf table known x u 1 (Cond.regex p e) → MayOf table known x want r (Cond.regex p e)
+      pub regex-may : (p : Pattern) → TruthOf ranks table known x u 1 (Cond.regex p e) → MayOf ranks table known x want r (Cond.regex p e)
       unfolding may
       regex-may p told S terms quads t sure = closed-test (exprKnown (bindingsOf known) e) (sym h ∙ not-false _ n) (λ v o. told S terms quads t v o .0) sure made
 
-      pub language-may : (p : LanguageRange) → TruthOf table known x u 1 (Cond.langMatches p e) → MayOf table known x want r (Cond.langMatches p e)
+      pub language-may : (p : LanguageRange) → TruthOf ranks table known x u 1 (Cond.langMatches p e) → MayOf ranks table known x want r (Cond.langMatches p e)
       unfolding may
       language-may p told S terms quads t sure = closed-test (exprKnown (bindingsOf known) e) (sym h ∙ not-false _ n) (λ v o. told S terms quads t v o .0) sure made
 
@@ -130,11 +123,11 @@ module _ (table known : List ℕ) (x : Context) (want : Bool) where
       first-open : not k ≡ true → (exprKnown (bindingsOf known) e && exprKnown (bindingsOf known) f) ≡ false
       first-open n = rw (sym h ∙ not-true _ n) refl
 
-      pub equal-first-open : not k ≡ true → MayOf table known x want true (Cond.equal e f)
+      pub equal-first-open : not k ≡ true → MayOf ranks table known x want true (Cond.equal e f)
       unfolding may
       equal-first-open n S terms quads t sure = open-test (exprKnown (bindingsOf known) e && exprKnown (bindingsOf known) f) _ (first-open n)
 
-      pub less-first-open : not k ≡ true → MayOf table known x want true (Cond.less e f)
+      pub less-first-open : not k ≡ true → MayOf ranks table known x want true (Cond.less e f)
       unfolding may
       less-first-open n S terms quads t sure = open-test (exprKnown (bindingsOf known) e && exprKnown (bindingsOf known) f) _ (first-open n)
 
@@ -142,11 +135,11 @@ module _ (table known : List ℕ) (x : Context) (want : Bool) where
         second-open : not m ≡ true → (exprKnown (bindingsOf known) e && exprKnown (bindingsOf known) f) ≡ false
         second-open o = rw (sym h ∙ not-false _ n, sym g ∙ not-true _ o) refl
 
-        pub equal-second-open : not m ≡ true → MayOf table known x want true (Cond.equal e f)
+        pub equal-second-open : not m ≡ true → MayOf ranks table known x want true (Cond.equal e f)
         unfolding may
         equal-second-open o S terms quads t sure = open-test (exprKnown (bindingsOf known) e && exprKnown (bindingsOf known) f) _ (second-open o)
 
-        pub less-second-open : not m ≡ true → MayOf table known x want true (Cond.less e f)
+        pub less-second-open : not m ≡ true → MayOf ranks table known x want true (Cond.less e f)
         unfolding may
         less-second-open o S terms quads t sure = open-test (exprKnown (bindingsOf known) e && exprKnown (bindingsOf known) f) _ (second-open o)
 
@@ -154,12 +147,12 @@ module _ (table known : List ℕ) (x : Context) (want : Bool) where
         both-known o = rw (sym h ∙ not-false _ n, sym g ∙ not-false _ o) refl
 
         module _ {r : Bool} {u : Truth} (o : not m ≡ false) (made : r ≡ isTrue (cond want u (notTruth u))) where
-          pub equal-may : TruthOf table known x u 1 (Cond.equal e f) → MayOf table known x want r (Cond.equal e f)
+          pub equal-may : TruthOf ranks table known x u 1 (Cond.equal e f) → MayOf ranks table known x want r (Cond.equal e f)
           unfolding may
           equal-may told S terms quads t sure =
               closed-test (exprKnown (bindingsOf known) e && exprKnown (bindingsOf known) f) (both-known o) (λ v q. told S terms quads t v q .0) sure made
 
-          pub less-may : TruthOf table known x u 1 (Cond.less e f) → MayOf table known x want r (Cond.less e f)
+          pub less-may : TruthOf ranks table known x u 1 (Cond.less e f) → MayOf ranks table known x want r (Cond.less e f)
           unfolding may
           less-may told S terms quads t sure =
               closed-test (exprKnown (bindingsOf known) e && exprKnown (bindingsOf known) f) (both-known o) (λ v q. told S terms quads t v q .0) sure made
@@ -175,13 +168,13 @@ pair-out {at = at} {p = p} {q = q} {g = g} {R = R} two h ends =
     let y = two .node (leaf-walked {P = λ c. p at ≡ some (c, m)} ra ra) (leaf-walked {P = λ c. q m ≡ some (c, n)} rb rb) (λ c d rc rd. h c d m n rc rd) in
     subst⁻¹ (Walked R g) (ends (y .tree) n (y .read)) y
 
-module _ (known : List ℕ) {read : ℕ → Got Expr} {at : ℕ} (waits : PairOpen known read at) (table : List ℕ) (x : Context) (want : Bool)
+module _ (known : List ℕ) {read : ℕ → Got Expr} {at : ℕ} (waits : PairOpen known read at) (ranks table : List ℕ) (x : Context) (want : Bool)
     (e f : Expr) (m n : ℕ) (first : read at ≡ some (e, m)) (second : read m ≡ some (f, n)) where
-  pub equal-open : MayOf table known x want true (Cond.equal e f)
+  pub equal-open : MayOf ranks table known x want true (Cond.equal e f)
   unfolding may
   equal-open S terms quads t sure = rw (waits e f m n first second) refl
 
-  pub less-open : MayOf table known x want true (Cond.less e f)
+  pub less-open : MayOf ranks table known x want true (Cond.less e f)
   unfolding may
   less-open S terms quads t sure = rw (waits e f m n first second) refl
 
@@ -203,6 +196,6 @@ code-waits known code w h e m r =
     sym (subst (λ d. ltb code soughtCode ≡ exprKnown (bindingsOf known) d) (same-read (w .read) r .0) (w .holds)) ∙ le-ltb code soughtCode (leb-true soughtCode code h)
 
 -- not: the other one is wanted
-pub not-may : (table known : List ℕ) (x : Context) (want : Bool) {a : Bool} (c : Cond) → MayOf table known x (not want) a c → MayOf table known x want a (Cond.not c)
+pub not-may : (ranks table known : List ℕ) (x : Context) (want : Bool) {a : Bool} (c : Cond) → MayOf ranks table known x (not want) a c → MayOf ranks table known x want a (Cond.not c)
 unfolding may
-not-may table known x want c h S terms quads t sure = h S terms quads t sure
+not-may ranks table known x want c h S terms quads t sure = h S terms quads t sure

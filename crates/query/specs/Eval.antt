@@ -5,7 +5,7 @@ use mathlib.Core.List.{List}
 use mathlib.Core.Bool.{Bool, false, _&&_}
 use mathlib.Core.Option.{some}
 use lib.ListN.{length, getElem?}
-use Rattle.definitions.specs.Limits.{variableLimit}
+use Rattle.definitions.specs.Limits.{ranksWidth, variableLimit}
 use Rattle.definitions.specs.Terms.{Term, Schema}
 use Rattle.definitions.specs.Tree.{Expr, Cond, Query}
 use Rattle.definitions.specs.Evaluate.{Quad, expression, condition, query}
@@ -30,26 +30,32 @@ pub record Lent (table known : List ℕ) (x : Context) : Type 0 where
   pub told : Told x
   pub variables : length known ≡ variableLimit
 
+-- the same with the ranks of an alphabet
+pub record RanksLent (ranks table known : List ℕ) (x : Context) : Type 0 where
+  pub ranked : length ranks ≡ ranksWidth
+  pub terms : Lent table known x
+
 -- an answer and how many records were evaluated for it, wherever the machine meets no fault
 abbrev pub Counts : {A : Type 0} → A → (records : ℕ) → Outcome A → (by-rule : ℕ) → Type 0
 Counts {A} r n o m = (a : A) → o ≡ ok a → (r ≡ a) × (n ≡ m)
 
--- for any schema and any quads: a fault only hangs on them
-module _ (table known : List ℕ) (x : Context) where
-  abbrev pub ValueOf : Value → Expr → Type 0
-  ValueOf v e = (S : Schema) (terms : List Term) (quads : List Quad) → termsIn table ≡ some terms → Gives v (expression (settingIn S x) terms quads (bindingsOf known) e)
+-- for any schema and any quads: a fault only hangs on them; a value does not hang on ranks
+abbrev pub ValueOf : (table known : List ℕ) → Context → Value → Expr → Type 0
+ValueOf table known x v e = (S : Schema) (ranks : List ℕ) (terms : List Term) (quads : List Quad) → termsIn table ≡ some terms
+    → Gives v (expression (settingIn S ranks x) terms quads (bindingsOf known) e)
 
+module _ (ranks table known : List ℕ) (x : Context) where
   abbrev pub TruthOf : Truth → (records : ℕ) → Cond → Type 0
   TruthOf b n c = (S : Schema) (terms : List Term) (quads : List Quad) → termsIn table ≡ some terms
-      → let σ = settingIn S x in Counts b n (condition σ terms quads (bindingsOf known) c) (condRecords σ terms quads (bindingsOf known) c)
+      → let σ = settingIn S ranks x in Counts b n (condition σ terms quads (bindingsOf known) c) (condRecords σ terms quads (bindingsOf known) c)
 
   abbrev pub MayOf : (want may : Bool) → Cond → Type 0
   MayOf want b c = (S : Schema) (terms : List Term) (quads : List Quad) → termsIn table ≡ some terms
-      → let σ = settingIn S x in SureTests σ terms quads (bindingsOf known) c → b ≡ may σ terms quads (bindingsOf known) want c
+      → let σ = settingIn S ranks x in SureTests σ terms quads (bindingsOf known) c → b ≡ may σ terms quads (bindingsOf known) want c
 
   abbrev pub HoldsOf : List Quad → Bool → (records : ℕ) → Query → Type 0
   HoldsOf quads b n q = (S : Schema) (terms : List Term) → termsIn table ≡ some terms
-      → let σ = settingIn S x in Counts b n (query σ terms quads (bindingsOf known) q) (queryRecords σ terms quads (bindingsOf known) q)
+      → let σ = settingIn S ranks x in Counts b n (query σ terms quads (bindingsOf known) q) (queryRecords σ terms quads (bindingsOf known) q)
 
 -- the value of a number's term
 abbrev pub NumberGives : (table : List ℕ) → Value → ℕ → Type 0

@@ -16,8 +16,8 @@ use Rattle.keys.specs.Keys.{keysFrom, rowsFrom, rising}
 use Rattle.query.specs.declared.Context.{Context}
 
 -- what a tuple is tried under, as the context tells it
-unfoldable pub settingIn : Schema → Context → Setting
-settingIn S x = record { schema = S; clock = signed (x .clock) }
+unfoldable pub settingIn : Schema → (ranks : List ℕ) → Context → Setting
+settingIn S ranks x = record { schema = S; ranks = ranks; clock = signed (x .clock) }
 
 -- now is a dateTime
 pub record Told (x : Context) : Type 0 where

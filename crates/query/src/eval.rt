@@ -15,7 +15,7 @@ ghost use Rattle.query.specs.StoreLent.{Told, Tabled, Stored, rowsOf};
 ghost use mathlib.Core.Path.{_≡_};
 ghost use Rattle.query.specs.Codes.{bindingsOf};
 ghost use Rattle.query.specs.Seek.{exprKnown};
-ghost use Rattle.query.specs.Eval.{Lent, NumberGives, ValueOf, TruthOf, HoldsOf};
+ghost use Rattle.query.specs.Eval.{Lent, RanksLent, NumberGives, ValueOf, TruthOf, HoldsOf};
 use crate::Context;
 use crate::Held;
 use crate::Judged;
@@ -165,13 +165,15 @@ pub fn eval_cond(
     context: Context,
     at: usize,
     left: u8,
+    ranks: &[u8],
     table: &[u8],
     known: &[usize],
 ) -> Judged
     requires { ⌜ Loads (readCond (now script) (context .loaded) left at) ⌝ }
-    requires { ⌜ Lent (now table) (now known) context ⌝ }
+    requires { ⌜ RanksLent (now ranks) (now table) (now known) context ⌝ }
     requires { ⌜ EndsLent (now script) (now ends) ⌝ }
-    ensures { λ r. ⌜ Walked (TruthOf (now (table .entry)) (now (known .entry)) context (r .truth) (r .records)) (readCond (now (script .entry)) (context .loaded) left at) (r .next) ⌝ }
+    ensures { λ r. ⌜ Walked (TruthOf (now (ranks .entry)) (now (table .entry)) (now (known .entry)) context (r .truth) (r .records))
+        (readCond (now (script .entry)) (context .loaded) left at) (r .next) ⌝ }
     ensures { λ r. ⌜ at + r .records ≤ r .next ⌝ }
 {
     let kind = script[at];
@@ -189,7 +191,7 @@ pub fn eval_cond(
             records: 1,
         },
         0x52 => {
-            let a = eval_cond(script, ends, context, first, below, table, known);
+            let a = eval_cond(script, ends, context, first, below, ranks, table, known);
             let one = a.truth;
             let counted = a.records + 1;
             if is_true(one) {
@@ -200,7 +202,7 @@ pub fn eval_cond(
                     records: counted, // the second part is left out
                 };
             }
-            let b = eval_cond(script, ends, context, a.next, below, table, known);
+            let b = eval_cond(script, ends, context, a.next, below, ranks, table, known);
             let other = b.truth;
             let truth = or_of(one, other);
             let records = counted + b.records;
@@ -211,7 +213,7 @@ pub fn eval_cond(
             }
         }
         0x53 => {
-            let a = eval_cond(script, ends, context, first, below, table, known);
+            let a = eval_cond(script, ends, context, first, below, ranks, table, known);
             let one = a.truth;
             let counted = a.records + 1;
             let against = not_of(one);
@@ -223,7 +225,7 @@ pub fn eval_cond(
                     records: counted,
                 };
             }
-            let b = eval_cond(script, ends, context, a.next, below, table, known);
+            let b = eval_cond(script, ends, context, a.next, below, ranks, table, known);
             let other = b.truth;
             let truth = and_of(one, other);
             let records = counted + b.records;
@@ -234,7 +236,7 @@ pub fn eval_cond(
             }
         }
         0x54 => {
-            let a = eval_cond(script, ends, context, first, below, table, known);
+            let a = eval_cond(script, ends, context, first, below, ranks, table, known);
             let one = a.truth;
             let truth = not_of(one);
             let records = a.records + 1;
@@ -277,7 +279,7 @@ pub fn eval_cond(
         _ => {
             let a = eval_expr(script, context, first, below, table, known);
             let b = eval_expr(script, context, a.next, below, table, known);
-            let truth = values::comparison::less(a.value, b.value);
+            let truth = values::comparison::less(ranks, a.value, b.value);
             Judged {
                 next: b.next,
                 truth,
@@ -294,15 +296,16 @@ pub fn eval_query(
     context: Context,
     at: usize,
     left: u8,
+    ranks: &[u8],
     table: &[u8],
     known: &[usize],
     quads: &[u64],
 ) -> Held
     requires { ⌜ Loads (readQuery (now script) (context .loaded) left at) ⌝ }
-    requires { ⌜ Lent (now table) (now known) context ⌝ }
+    requires { ⌜ RanksLent (now ranks) (now table) (now known) context ⌝ }
     requires { ⌜ EndsLent (now script) (now ends) ⌝ }
     requires { ⌜ Stored (now quads) context ⌝ }
-    ensures { λ r. ⌜ Walked (HoldsOf (now (table .entry)) (now (known .entry)) context (rowsOf (now (quads .entry)) context) (r .holds) (r .records))
+    ensures { λ r. ⌜ Walked (HoldsOf (now (ranks .entry)) (now (table .entry)) (now (known .entry)) context (rowsOf (now (quads .entry)) context) (r .holds) (r .records))
         (readQuery (now (script .entry)) (context .loaded) left at) (r .next) ⌝ }
     ensures { λ r. ⌜ at + r .records ≤ r .next ⌝ }
 {
@@ -320,7 +323,17 @@ pub fn eval_query(
             }
         }
         0x62 => {
-            let a = eval_query(script, ends, context, first, below, table, known, quads);
+            let a = eval_query(
+                script,
+                ends,
+                context,
+                first,
+                below,
+                ranks,
+                table,
+                known,
+                quads,
+            );
             let counted = a.records + 1;
             if !a.holds {
                 let next = after(ends, script.len(), at);
@@ -330,7 +343,17 @@ pub fn eval_query(
                     records: counted,
                 };
             }
-            let b = eval_query(script, ends, context, a.next, below, table, known, quads);
+            let b = eval_query(
+                script,
+                ends,
+                context,
+                a.next,
+                below,
+                ranks,
+                table,
+                known,
+                quads,
+            );
             let records = counted + b.records;
             Held {
                 next: b.next,
@@ -339,7 +362,17 @@ pub fn eval_query(
             }
         }
         0x63 => {
-            let a = eval_query(script, ends, context, first, below, table, known, quads);
+            let a = eval_query(
+                script,
+                ends,
+                context,
+                first,
+                below,
+                ranks,
+                table,
+                known,
+                quads,
+            );
             let counted = a.records + 1;
             if a.holds {
                 let next = after(ends, script.len(), at);
@@ -349,7 +382,17 @@ pub fn eval_query(
                     records: counted,
                 };
             }
-            let b = eval_query(script, ends, context, a.next, below, table, known, quads);
+            let b = eval_query(
+                script,
+                ends,
+                context,
+                a.next,
+                below,
+                ranks,
+                table,
+                known,
+                quads,
+            );
             let records = counted + b.records;
             Held {
                 next: b.next,
@@ -358,7 +401,7 @@ pub fn eval_query(
             }
         }
         0x64 => {
-            let a = eval_cond(script, ends, context, first, below, table, known);
+            let a = eval_cond(script, ends, context, first, below, ranks, table, known);
             let truth = a.truth;
             let holds = is_true(truth);
             let records = a.records + 1;

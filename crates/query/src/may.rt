@@ -6,7 +6,7 @@ ghost use Rattle.definitions.specs.Limits.{variableLimit};
 ghost use Rattle.definitions.specs.Reading.{readExpr, readCond};
 ghost use Rattle.laws.specs.Ends.{EndsLent};
 ghost use Rattle.laws.specs.Walks.{Loads, Walked};
-ghost use Rattle.query.specs.Eval.{Lent, MayOf, Waits, PairLoads, PairOpen};
+ghost use Rattle.query.specs.Eval.{Lent, RanksLent, MayOf, Waits, PairLoads, PairOpen};
 use crate::Context;
 use crate::Test;
 use crate::eval::eval_expr;
@@ -60,14 +60,15 @@ pub fn may_cond(
     context: Context,
     at: usize,
     left: u8,
+    ranks: &[u8],
     table: &[u8],
     known: &[usize],
     want: bool,
 ) -> Test
     requires { ⌜ Loads (readCond (now script) (context .loaded) left at) ⌝ }
-    requires { ⌜ Lent (now table) (now known) context ⌝ }
+    requires { ⌜ RanksLent (now ranks) (now table) (now known) context ⌝ }
     requires { ⌜ EndsLent (now script) (now ends) ⌝ }
-    ensures { λ r. ⌜ Walked (MayOf (now (table .entry)) (now (known .entry)) context want (r .holds)) (readCond (now (script .entry)) (context .loaded) left at) (r .next) ⌝ }
+    ensures { λ r. ⌜ Walked (MayOf (now (ranks .entry)) (now (table .entry)) (now (known .entry)) context want (r .holds)) (readCond (now (script .entry)) (context .loaded) left at) (r .next) ⌝ }
 {
     let kind = script[at];
     let first = at + 1;
@@ -82,24 +83,74 @@ pub fn may_cond(
             holds: want,
         },
         0x52 => {
-            let a = may_cond(script, ends, context, first, below, table, known, want);
+            let a = may_cond(
+                script,
+                ends,
+                context,
+                first,
+                below,
+                ranks,
+                table,
+                known,
+                want,
+            );
             let same = (a.holds & want) | !(a.holds | want);
             if same {
                 let next = after(ends, script.len(), at);
                 return Test { next, holds: want };
             }
-            may_cond(script, ends, context, a.next, below, table, known, want)
+            may_cond(
+                script,
+                ends,
+                context,
+                a.next,
+                below,
+                ranks,
+                table,
+                known,
+                want,
+            )
         }
         0x53 => {
-            let a = may_cond(script, ends, context, first, below, table, known, want);
+            let a = may_cond(
+                script,
+                ends,
+                context,
+                first,
+                below,
+                ranks,
+                table,
+                known,
+                want,
+            );
             let same = (a.holds & want) | !(a.holds | want);
             if !same {
                 let next = after(ends, script.len(), at);
                 return Test { next, holds: !want };
             }
-            may_cond(script, ends, context, a.next, below, table, known, want)
+            may_cond(
+                script,
+                ends,
+                context,
+                a.next,
+                below,
+                ranks,
+                table,
+                known,
+                want,
+            )
         }
-        0x54 => may_cond(script, ends, context, first, below, table, known, !want),
+        0x54 => may_cond(
+            script,
+            ends,
+            context,
+            first,
+            below,
+            ranks,
+            table,
+            known,
+            !want,
+        ),
         0x55 => {
             let text = at + REGEX_TEXT_OFFSET;
             let a = eval_expr(script, context, text, below, table, known);
@@ -173,7 +224,7 @@ pub fn may_cond(
                     holds: true,
                 };
             }
-            let truth = values::comparison::less(a.value, b.value);
+            let truth = values::comparison::less(ranks, a.value, b.value);
             let holds = comes_to(truth, want);
             Test {
                 next: b.next,

@@ -1,4 +1,5 @@
 // Equal and less. A line has the sign between two values: < and > by less, = by equal, ? where none of them is true.
+use crate::order;
 use crate::print;
 use cases::made;
 use cases::rows;
@@ -10,6 +11,7 @@ ghost use mathlib.Core.Path.{_≡_};
 ghost use Prim.Native.Nat.{_+_, _≤_};
 ghost use lib.ListN.{length};
 ghost use Rattle.definitions.specs.Limits.{textWidth, tagWidth};
+ghost use Rattle.definitions.specs.Alphabet.{builtIn};
 ghost use Rattle.definitions.specs.Outcome.{ok};
 ghost use Rattle.definitions.specs.Truth.{isTrue};
 ghost use Rattle.definitions.specs.declared.Truth.{Truth};
@@ -37,12 +39,12 @@ fn sign(less: bool, equal: bool, more: bool) -> u8
 fn relation(a: Value, b: Value) -> u8
     requires { ⌜ Good a ⌝ }
     requires { ⌜ Good b ⌝ }
-    ensures { λ r. ⌜ ((l e m : Truth) → compared lessPair (meaning a) (meaning b) ≡ ok l → compared equalPair (meaning a) (meaning b) ≡ ok e
-        → compared lessPair (meaning b) (meaning a) ≡ ok m → r ≡ signOf (isTrue l) (isTrue e) (isTrue m)) ⌝ }
+    ensures { λ r. ⌜ ((l e m : Truth) → compared (lessPair builtIn) (meaning a) (meaning b) ≡ ok l → compared equalPair (meaning a) (meaning b) ≡ ok e
+        → compared (lessPair builtIn) (meaning b) (meaning a) ≡ ok m → r ≡ signOf (isTrue l) (isTrue e) (isTrue m)) ⌝ }
 {
-    let less = is_true(values::comparison::less(a, b));
+    let less = is_true(order::less(a, b));
     let equal = is_true(values::comparison::equal(a, b));
-    let more = is_true(values::comparison::less(b, a));
+    let more = is_true(order::less(b, a));
     sign(less, equal, more)
 }
 

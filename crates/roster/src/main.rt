@@ -2,6 +2,7 @@
 mod comparisons;
 mod dates;
 mod numbers;
+mod order;
 mod patterns;
 mod print;
 mod ranges;

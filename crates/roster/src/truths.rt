@@ -1,4 +1,5 @@
 // Booleans: the tables of not, and and or, and tests that hold a sum past the limits.
+use crate::order;
 use crate::print;
 use cases::made;
 use definitions::Truth;
@@ -54,7 +55,7 @@ fn show_less(v: Value)
     requires { ⌜ Good v ⌝ }
 {
     print::word(b" < 5");
-    print::answer(comparison::less(v, made::integer(5)));
+    print::answer(order::less(v, made::integer(5)));
 }
 
 fn show_sum(a: Value, b: Value)
@@ -113,7 +114,7 @@ fn show_past(a: Value, b: Value)
     let text = values::text::text_of(past);
     print::answer(comparison::equal(text, text));
     print::word(b"not it < 5");
-    let less = comparison::less(past, made::integer(5));
+    let less = order::less(past, made::integer(5));
     print::answer(not_of(less));
 }
 

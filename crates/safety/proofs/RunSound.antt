@@ -22,7 +22,7 @@ pub record RunSound (c : Checked) (budget : ℕ) (r : Run) : Type 0 where
   pub steps : length (r .passed) ≤ budget
   pub spent : r .ending ≡ Spent → length (r .passed) ≡ budget
 
-module _ (c : Checked) (accepted : Accepted c) (clock : ℤ) where
+module _ (c : Checked) (accepted : Accepted c) (ranks : List ℕ) (clock : ℤ) where
   go-on-sound : (budget : ℕ) (more : State → Outcome Run) → ((s : State) → Sound c s → Fine (RunSound c budget) (more s))
       → (n : Next) → NextSound c n → Fine (RunSound c (suc budget)) (goOn more n)
   unfolding goOn
@@ -31,11 +31,11 @@ module _ (c : Checked) (accepted : Accepted c) (clock : ℤ) where
       fine {a = preceded s r} (record { passed = (h, p .passed); steps = omega (arith, p .steps); spent = λ e. omega (arith, p .spent e) })
   go-on-sound budget more k (stand r) h = fine {a = still r} (record { passed = tt; steps = omega arith; spent = λ e. absurd (h e) })
 
-  pub run-sound : (budget : ℕ) (s : State) → Sound c s → Fine (RunSound c budget) (run (settingOf c clock) (typeAt (c .types)) budget s)
+  pub run-sound : (budget : ℕ) (s : State) → Sound c s → Fine (RunSound c budget) (run (settingOf c ranks clock) (typeAt (c .types)) budget s)
   unfolding run
-  run-sound zero s h = fine-then (look-sound c accepted clock s h) λ r p. fine (record { passed = tt; steps = omega arith; spent = λ e. refl })
+  run-sound zero s h = fine-then (look-sound c accepted ranks clock s h) λ r p. fine (record { passed = tt; steps = omega arith; spent = λ e. refl })
   run-sound (suc budget) s h =
-      fine-then (next-sound c accepted clock s h) λ n p. go-on-sound budget (run (settingOf c clock) (typeAt (c .types)) budget) (run-sound budget) n p
+      fine-then (next-sound c accepted ranks clock s h) λ n p. go-on-sound budget (run (settingOf c ranks clock) (typeAt (c .types)) budget) (run-sound budget) n p
 
 pub last-sound : (c : Checked) (s : State) (passed : List State) → Sound c s → All (Sound c) passed → Sound c (lastOf s passed)
 last-sound c s [] h k = h

@@ -1,6 +1,7 @@
 -- A run of a sound state passes steps of the machine one after the other, until it stands or the budget is spent.
 use Prim.Native.Nat.{ℕ, zero, suc}
 use native.Mathlib.Omega.{arith}
+use mathlib.Core.List.{List}
 use mathlib.Core.Path.{_≡_, refl, sym, ap, _∙_}
 use mathlib.Core.Logic.{inl, inr}
 use lib.ListN.{length}
@@ -18,9 +19,9 @@ use Rattle.laws.specs.Sound.{Accepted, Sound}
 use Rattle.safety.proofs.StepSound.{NextSound, next-sound, look-sound}
 use Rattle.safety.specs.Steps.{Ends, Took}
 
-module _ (c : Checked) (accepted : Accepted c) (clock : ℤ) where
+module _ (c : Checked) (accepted : Accepted c) (ranks : List ℕ) (clock : ℤ) where
   abbrev σ : Setting
-  σ = settingOf c clock
+  σ = settingOf c ranks clock
 
   abbrev Γ : Typing
   Γ = typeAt (c .types)
@@ -51,8 +52,8 @@ module _ (c : Checked) (accepted : Accepted c) (clock : ℤ) where
   pub run-takes : (budget : ℕ) (s : State) → Sound c s → Fine (Took σ Γ budget s) (run σ Γ budget s)
   unfolding run _>>=_
   run-takes zero s h =
-      fine-then (look-sound c accepted clock s h) λ r p.
+      fine-then (look-sound c accepted ranks clock s h) λ r p.
       let n = fine-ok p in fine {a = still r} (record { steps = tt; few = omega arith; ends = told s r (n .0) (n .1) (n .2) })
   run-takes (suc budget) s h =
-      let n = fine-ok (next-sound c accepted clock s h) in
+      let n = fine-ok (next-sound c accepted ranks clock s h) in
       rw (n .1) (go-on-takes budget (run σ Γ budget) (run-takes budget) s (n .0) (n .1) (n .2))

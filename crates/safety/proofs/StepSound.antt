@@ -170,7 +170,7 @@ module _ (c : Checked) (accepted : Accepted c) where
     each-next rest stack none p h k = h
     each-next rest stack (some t) p h k = k t p
 
-  module _ (clock : ℤ) (s : State) (h : Facts c s) (rest : List Item) (below : StackIn s (s .control .bindings) rest) where
+  module _ (ranks : List ℕ) (clock : ℤ) (s : State) (h : Facts c s) (rest : List Item) (below : StackIn s (s .control .bindings) rest) where
     abbrev β : Bindings
     β = s .control .bindings
 
@@ -179,16 +179,16 @@ module _ (c : Checked) (accepted : Accepted c) where
 
     block-answer : (at : ℕ) (each : Bool) (bs : List Binder) (q : Query) (d : Script) (depth : ℕ) → At (c .root) depth (block at each bs q d)
         → BoundIn β (λ v. isFree v (block at each bs q d)) → (from : Option Tuple)
-        → Fine (Fitting s (variablesOf bs)) (answer (settingOf c clock) Γ (s .store .terms) (s .store .quads) β (variablesOf bs) q from)
+        → Fine (Fitting s (variablesOf bs)) (answer (settingOf c ranks clock) Γ (s .store .terms) (s .store .quads) β (variablesOf bs) q from)
     unfolding isFree scriptTyped
     block-answer at each bs q d depth a b from =
         let bounded = bounded-at a (length (c .terms)) (accepted .bounded) in
         let typed = typed-at a constants Γ (accepted .typed) in
-        answer-fine (settingOf c clock) Γ (c .terms) (s .store .terms) (h .extends) (s .store .quads) β (well-bound s h) (variablesOf bs) q (bounded .1)
+        answer-fine (settingOf c ranks clock) Γ (c .terms) (s .store .terms) (h .extends) (s .store .quads) β (well-bound s h) (variablesOf bs) q (bounded .1)
         (in-query β (variablesOf bs) q d b) (andLeft (queryTyped constants Γ q) (scriptTyped constants Γ d) typed) from
 
     act-facts : (last : Option Tuple) (d : Script) → ItemFacts (c .root) terms β (suc (length rest)) (record { script = d; last = last })
-        → Fine NextFacts (act (settingOf c clock) Γ s rest last d)
+        → Fine NextFacts (act (settingOf c ranks clock) Γ s rest last d)
     unfolding act isFree scriptTyped
     act-facts last (success at) i = fine (with-stack s h rest below)
     act-facts last (sequence at d e) i =
@@ -202,7 +202,7 @@ module _ (c : Checked) (accepted : Accepted c) where
         let typed = typed-at (i .inRoot) constants Γ (accepted .typed) in
         let deep = i .deep in
         fine-then
-        (named-fine (settingOf c clock) Γ (c .terms) (s .store .terms) (h .extends) (s .store .quads) β (well-bound s h) n (plain Datatype.anyURI) (b .0)
+        (named-fine (settingOf c ranks clock) Γ (c .terms) (s .store .terms) (h .extends) (s .store .quads) β (well-bound s h) n (plain Datatype.anyURI) (b .0)
         (in-left β (λ v. inName v n) (λ v. isFree v d) (i .bound)) (andLeft (nameHas constants Γ n (plain Datatype.anyURI)) (scriptTyped constants Γ d) typed))
         λ g p.
         fine-and (fine-demand (isURI (g .term)) fromNamedNoURI (is-uri S (g .term) (p .typed)))
@@ -243,7 +243,7 @@ module _ (c : Checked) (accepted : Accepted c) where
 
     -- an each block always has a step to take
     each-steps : (at : ℕ) (bs : List Binder) (q : Query) (d : Script) (last : Option Tuple) (depth : ℕ) → At (c .root) depth (block at true bs q d)
-        → BoundIn β (λ v. isFree v (block at true bs q d)) → Fine (λ n. endingOf n ≡ Spent) (act (settingOf c clock) Γ s rest last (block at true bs q d))
+        → BoundIn β (λ v. isFree v (block at true bs q d)) → Fine (λ n. endingOf n ≡ Spent) (act (settingOf c ranks clock) Γ s rest last (block at true bs q d))
     unfolding act enterEach
     each-steps at bs q d last depth a b = fine-then (block-answer at true bs q d depth a b last) λ o p. fine (steps o)
       where
@@ -261,9 +261,9 @@ module _ (c : Checked) (accepted : Accepted c) where
     told (fine p) = fine (fine refl)
 
     look-tells : (last : Option Tuple) (d : Script) → ItemFacts (c .root) terms β (suc (length rest)) (record { script = d; last = last })
-        → Fine (Told (act (settingOf c clock) Γ s rest last d)) (elim (isEachBlock d) as (λ b. Outcome RunState) [
+        → Fine (Told (act (settingOf c ranks clock) Γ s rest last d)) (elim (isEachBlock d) as (λ b. Outcome RunState) [
           | true ↦ ok Spent
-          | false ↦ act (settingOf c clock) Γ s rest last d >>= λ n. ok (endingOf n)
+          | false ↦ act (settingOf c ranks clock) Γ s rest last d >>= λ n. ok (endingOf n)
         ])
     look-tells last (success at) i = told (act-facts last (success at) i)
     look-tells last (fromNamed at n d) i = told (act-facts last (fromNamed at n d) i)
@@ -271,16 +271,16 @@ module _ (c : Checked) (accepted : Accepted c) where
     look-tells last (block at true bs q d) i = fine (each-steps at bs q d last (i .depth) (i .inRoot) (i .bound))
     look-tells last (sequence at d e) i = told (act-facts last (sequence at d e) i)
 
-  next-of-facts : (clock : ℤ) (s : State) → Facts c s → (stack : List Item) → StackIn s (s .control .bindings) stack → Fine NextFacts (nextOf (settingOf c clock) Γ s stack)
+  next-of-facts : (ranks : List ℕ) (clock : ℤ) (s : State) → Facts c s → (stack : List Item) → StackIn s (s .control .bindings) stack → Fine NextFacts (nextOf (settingOf c ranks clock) Γ s stack)
   unfolding nextOf
-  next-of-facts clock s h [] k = fine ended-stands
-  next-of-facts clock s h (i ∷ rest) k = act-facts clock s h rest (k .1) (i .last) (i .script) (k .0)
+  next-of-facts ranks clock s h [] k = fine ended-stands
+  next-of-facts ranks clock s h (i ∷ rest) k = act-facts ranks clock s h rest (k .1) (i .last) (i .script) (k .0)
 
-  look-of-facts : (clock : ℤ) (s : State) → Facts c s → (stack : List Item) → StackIn s (s .control .bindings) stack
-      → Fine (λ r. Fine (λ n. endingOf n ≡ r) (nextOf (settingOf c clock) Γ s stack)) (look (settingOf c clock) Γ s stack)
+  look-of-facts : (ranks : List ℕ) (clock : ℤ) (s : State) → Facts c s → (stack : List Item) → StackIn s (s .control .bindings) stack
+      → Fine (λ r. Fine (λ n. endingOf n ≡ r) (nextOf (settingOf c ranks clock) Γ s stack)) (look (settingOf c ranks clock) Γ s stack)
   unfolding nextOf look
-  look-of-facts clock s h [] k = fine (fine refl)
-  look-of-facts clock s h (i ∷ rest) k = look-tells clock s h rest (k .1) (i .last) (i .script) (k .0)
+  look-of-facts ranks clock s h [] k = fine (fine refl)
+  look-of-facts ranks clock s h (i ∷ rest) k = look-tells ranks clock s h rest (k .1) (i .last) (i .script) (k .0)
 
   -- ── the claims ──
 
@@ -289,9 +289,10 @@ module _ (c : Checked) (accepted : Accepted c) where
   next-again (stand r) h = h
 
   -- a sound state takes a step to a sound state, or it stands
-  pub next-sound : (clock : ℤ) (s : State) → Sound c s → Fine (NextSound c) (next (settingOf c clock) Γ s)
-  next-sound clock s h = let k = facts c accepted s h in fine-map (next-of-facts clock s k (s .control .stack) (k .stack)) next-again
+  pub next-sound : (ranks : List ℕ) (clock : ℤ) (s : State) → Sound c s → Fine (NextSound c) (next (settingOf c ranks clock) Γ s)
+  next-sound ranks clock s h = let k = facts c accepted s h in fine-map (next-of-facts ranks clock s k (s .control .stack) (k .stack)) next-again
 
   -- with no budget left it meets no fault either, and tells what the next step would: spent where there is one
-  pub look-sound : (clock : ℤ) (s : State) → Sound c s → Fine (λ r. Fine (λ n. endingOf n ≡ r) (next (settingOf c clock) Γ s)) (look (settingOf c clock) Γ s (s .control .stack))
-  look-sound clock s h = let k = facts c accepted s h in look-of-facts clock s k (s .control .stack) (k .stack)
+  pub look-sound : (ranks : List ℕ) (clock : ℤ) (s : State) → Sound c s
+      → Fine (λ r. Fine (λ n. endingOf n ≡ r) (next (settingOf c ranks clock) Γ s)) (look (settingOf c ranks clock) Γ s (s .control .stack))
+  look-sound ranks clock s h = let k = facts c accepted s h in look-of-facts ranks clock s k (s .control .stack) (k .stack)

@@ -6,6 +6,7 @@ ghost use lib.ListN.{length, getD};
 ghost use Rattle.keys.specs.Keys.{quadOf, keysFrom, rowsFrom, rising as isRising, Splits};
 ghost use Rattle.scan.specs.Scan.{agrees, better as isBetter, scan as isScan};
 ghost use Rattle.scan.specs.Codes.{soughtCode, keyBits, placeAt, placesAt, openAt, StretchOf, GivenBy, givenAt, Lacks, Avoids, PassedOver};
+use keys::GRAPH_REACH;
 use keys::GRAPH_WEIGHT;
 use keys::LAST_KEY;
 use keys::PLACE_LIMIT;
@@ -296,7 +297,7 @@ fn stretch_of(codes: Four, lo: usize) -> Stretch
     let graph = codes.graph as u64 * GRAPH_WEIGHT;
     if SOUGHT <= codes.subject {
         let floor = graph + from * SUBJECT_WEIGHT;
-        let top = graph + (GRAPH_WEIGHT - 1);
+        let top = graph + GRAPH_REACH;
         let whole = (SOUGHT < codes.property) & (SOUGHT < codes.object);
         return opened(codes.subject, graph, floor, top, whole);
     }
@@ -427,7 +428,7 @@ fn least_by_graph(keys: &[u64], n: usize, codes: Four, lo: usize, end: usize) ->
         };
         best = least_by_stretch(keys, n, inner, lo, best);
         let low = graph as u64 * GRAPH_WEIGHT;
-        let top = low + (GRAPH_WEIGHT - 1);
+        let top = low + GRAPH_REACH;
         i = upper(keys, n, top);
     }
     best

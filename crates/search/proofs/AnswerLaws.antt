@@ -63,7 +63,7 @@ clear-start vars size γ = let e : size - 0 ≡ size = omega arith in rw e refl
 
 -- ── the answer ──────────────────────────────────────────────────────────────────────────────
 
-module _ {script table quads leasts : List ℕ} {x : Context} {block : Block} (w : World script table quads leasts x block) (known opened : List ℕ) (started : Bool)
+module _ {script ranks table quads leasts : List ℕ} {x : Context} {block : Block} (w : World script ranks table quads leasts x block) (known opened : List ℕ) (started : Bool)
     (cleared : bindingsOf opened ≡ clear (numbersFrom (block .size) (block .vars) 0) (bindingsOf known)) where
   pub answer-is : (r : Found) → FindOf w opened 0 started r → AnswerOf w known started r
   unfolding fastAnswer settingIn

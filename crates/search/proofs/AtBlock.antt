@@ -6,7 +6,7 @@ use mathlib.Core.Bool.{Bool, not, _||_}
 use mathlib.Core.Option.{some}
 use lib.Dec.{T, eqb}
 use lib.ListN.{length, getD}
-use Rattle.definitions.specs.Limits.{variableLimit, pairLimit}
+use Rattle.definitions.specs.Limits.{ranksWidth, variableLimit, pairLimit}
 use Rattle.definitions.specs.Bytes.{signed}
 use Rattle.definitions.specs.Lists.{every, distinct, isIn}
 use Rattle.definitions.specs.Types.{typeOfCode}
@@ -102,12 +102,13 @@ module _ (c : Checked) (accepted : Accepted c) (s : State) (sound : Sound c s) w
     ready : Ready (c .schema) (typeAt (c .types)) (s .store .terms) (s .control .bindings) (variablesOf bs) q
     ready = block-ready placed (subst (λ (x : Script). BoundIn (s .control .bindings) (λ v. isFree v x)) is (top .bound))
 
-    module _ (script : List ℕ) {table quads leasts : List ℕ} {x : Context} (told : Told x) (lent : StoreLent table quads leasts x (c .schema) (s .store .terms) (s .store .quads))
+    module _ (script ranks : List ℕ) {table quads leasts : List ℕ} {x : Context} (ranked : length ranks ≡ ranksWidth) (told : Told x)
+        (lent : StoreLent table quads leasts x (c .schema) (s .store .terms) (s .store .quads))
         (b : Block) (next : ℕ) (read : readQuery script (x .loaded) (b .left) (b .«at») ≡ some (q, next)) (size : b .size ≤ pairLimit)
         (small : (j : ℕ) → getD (b .vars) j 0 < variableLimit)
         (types : (k : ℕ) → k < b .size → typeOfCode (getD (b .types) k 0) ≡ some (typeAt (c .types) (getD (b .vars) k 0))) where
       -- what is lent stands for
-      abbrev pub world : World script table quads leasts x b
+      abbrev pub world : World script ranks table quads leasts x b
       world =
           record {
             schema = c .schema;
@@ -117,6 +118,7 @@ module _ (c : Checked) (accepted : Accepted c) (s : State) (sound : Sound c s) w
             tree = q;
             next = next;
             told = told;
+            ranked = ranked;
             lent = lent;
             read = read;
             types = types;
@@ -127,17 +129,17 @@ module _ (c : Checked) (accepted : Accepted c) (s : State) (sound : Sound c s) w
       module _ (known : List ℕ) (started : Bool) (r : Found) (variablesAre : numbersFrom (b .size) (b .vars) 0 ≡ variablesOf bs)
           (bindingsAre : bindingsOf known ≡ s .control .bindings) where
         pub answer-now : AnswerOf world known started r
-            → answerNow (settingOf c (signed (x .clock))) (typeAt (c .types)) s (variablesOf bs) q (lastOf started (b .last) 0 (b .size)) ≡ ok (tupleOf r 0 (b .size))
+            → answerNow (settingOf c ranks (signed (x .clock))) (typeAt (c .types)) s (variablesOf bs) q (lastOf started (b .last) 0 (b .size)) ≡ ok (tupleOf r 0 (b .size))
         unfolding settingIn
         answer-now h = moved variablesAre bindingsAre h
           where
             Given : List ℕ → Bindings → Type 0
             Given vs β =
                 T (distinct eqb vs) → Ready (c .schema) (typeAt (c .types)) (s .store .terms) β vs q
-                → answer (settingOf c (signed (x .clock))) (typeAt (c .types)) (s .store .terms) (s .store .quads) β vs q (lastOf started (b .last) 0 (b .size)) ≡ ok (tupleOf r 0 (b .size))
+                → answer (settingOf c ranks (signed (x .clock))) (typeAt (c .types)) (s .store .terms) (s .store .quads) β vs q (lastOf started (b .last) 0 (b .size)) ≡ ok (tupleOf r 0 (b .size))
 
             moved : {vs : List ℕ} {β : Bindings} → vs ≡ variablesOf bs → β ≡ s .control .bindings → Given vs β
-                → answerNow (settingOf c (signed (x .clock))) (typeAt (c .types)) s (variablesOf bs) q (lastOf started (b .last) 0 (b .size)) ≡ ok (tupleOf r 0 (b .size))
+                → answerNow (settingOf c ranks (signed (x .clock))) (typeAt (c .types)) s (variablesOf bs) q (lastOf started (b .last) 0 (b .size)) ≡ ok (tupleOf r 0 (b .size))
             moved {vs} {β} ev eb g =
                 let g₁ : Given (variablesOf bs) β = subst (λ (y : List ℕ). Given y β) ev g in
                 subst (Given (variablesOf bs)) eb g₁ (block-apart scope placed) ready

@@ -28,7 +28,7 @@ use Rattle.scan.specs.Codes.{soughtCode, freeCode}
 use Rattle.query.specs.Codes.{numberAt, bindingsOf}
 use Rattle.query.specs.declared.Context.{Context}
 use Rattle.query.specs.StoreLent.{settingIn, rowsOf}
-use Rattle.query.specs.Eval.{Lent, HoldsOf}
+use Rattle.query.specs.Eval.{RanksLent, HoldsOf}
 use Rattle.search.specs.Seeking.{SeekOf}
 use Rattle.search.specs.Ready.{Ready}
 use Rattle.search.specs.Finding.{numbersFrom, tupleOf, lastOf, skipTypes, World, later, setting, ReadyFor, NextOf, NextAfter, HopeAt, hopeFrom, HopeOf, findFrom, FindOf}
@@ -57,12 +57,12 @@ module _ (known : List ℕ) (v i : ℕ) (inside : v < length known) (small : i <
 
 -- ── what is lent to the search ──────────────────────────────────────────────────────────────
 
-module _ {script table quads leasts : List ℕ} {x : Context} {block : Block} (w : World script table quads leasts x block) where
+module _ {script ranks table quads leasts : List ℕ} {x : Context} {block : Block} (w : World script ranks table quads leasts x block) where
   pub loads-here : Loads (readQuery script (x .loaded) (block .left) (block .«at»))
   loads-here = (w .tree, w .next, w .read)
 
-  pub lent-here : (known : List ℕ) → length known ≡ variableLimit → Lent table known x
-  lent-here known h = record { terms = w .terms; tabled = w .lent .tabled; told = w .told; variables = h }
+  pub lent-here : (known : List ℕ) → length known ≡ variableLimit → RanksLent ranks table known x
+  lent-here known h = record { ranked = w .ranked; terms = record { terms = w .terms; tabled = w .lent .tabled; told = w .told; variables = h } }
 
   counted : x .count ≡ length (w .terms)
   counted = sym (w .lent .tabled .counted)
@@ -92,12 +92,12 @@ module _ {script table quads leasts : List ℕ} {x : Context} {block : Block} (w
 
     -- ── the seek ──────────────────────────────────────────────────────────────────────────────
 
-    seek-is : (v lo : ℕ) {a n : ℕ} → Sought (SeekOf table known x (rowsOf quads x) v lo a) n → (vs : List ℕ) → ReadyFor w known vs → a ≡ seekAt v lo
+    seek-is : (v lo : ℕ) {a n : ℕ} → Sought (SeekOf ranks table known x (rowsOf quads x) v lo a) n → (vs : List ℕ) → ReadyFor w known vs → a ≡ seekAt v lo
     unfolding settingIn
     seek-is v lo {a} s vs r =
-        let h : SeekOf table known x (w .rows) v lo a (w .tree) =
-        subst (λ (rows : List Quad). SeekOf table known x rows v lo a (w .tree)) (w .lent .quadsAre)
-        (subst (SeekOf table known x (rowsOf quads x) v lo a) (same-read (s .read) (w .read) .0) (s .holds)) in
+        let h : SeekOf ranks table known x (w .rows) v lo a (w .tree) =
+        subst (λ (rows : List Quad). SeekOf ranks table known x rows v lo a (w .tree)) (w .lent .quadsAre)
+        (subst (SeekOf ranks table known x (rowsOf quads x) v lo a) (same-read (s .read) (w .read) .0) (s .holds)) in
         h .1 (w .schema) (w .terms) (w .lent .tabled .reads) (ready-sure (setting w) (w .typing) (w .terms) (w .rows) γ (w .tree) vs r)
 
     module _ (k : ℕ) (below : k < size) where
@@ -117,7 +117,7 @@ module _ {script table quads leasts : List ℕ} {x : Context} {block : Block} (w
           ∙ skip-is (w .schema) (w .terms) leasts (w .lent .leastOf) (getD (block .types) k 0) (w .typing v) (w .types k below) (length (w .terms) - i) i (omega arith))
           (split (x .count) i)
 
-      pub next-is : (lo : ℕ) {a n r : ℕ} → Sought (SeekOf table known x (rowsOf quads x) v lo a) n
+      pub next-is : (lo : ℕ) {a n r : ℕ} → Sought (SeekOf ranks table known x (rowsOf quads x) v lo a) n
           → r ≡ skipTypes leasts (getD (block .types) k 0) (x .count - a) a → NextOf w known k lo r
       unfolding next settingIn
       next-is lo {a} s e = (
@@ -156,13 +156,13 @@ module _ {script table quads leasts : List ℕ} {x : Context} {block : Block} (w
         unfolding find
         find-tight e r = rw (numbers-none vars size k over, e) refl
 
-        pub find-test : tight ≡ false → {b : Bool} {m n : ℕ} → Sought (HoldsOf table known x (rowsOf quads x) b m) n
+        pub find-test : tight ≡ false → {b : Bool} {m n : ℕ} → Sought (HoldsOf ranks table known x (rowsOf quads x) b m) n
             → FindOf w known k tight (record { found = b; tuple = t })
         unfolding find numbersFrom settingIn
         find-test e {b} {m} s r =
-            let h : HoldsOf table known x (w .rows) b m (w .tree) =
-            subst (λ (rows : List Quad). HoldsOf table known x rows b m (w .tree)) (w .lent .quadsAre)
-            (subst (HoldsOf table known x (rowsOf quads x) b m) (same-read (s .read) (w .read) .0) (s .holds)) in
+            let h : HoldsOf ranks table known x (w .rows) b m (w .tree) =
+            subst (λ (rows : List Quad). HoldsOf ranks table known x rows b m (w .tree)) (w .lent .quadsAre)
+            (subst (HoldsOf ranks table known x (rowsOf quads x) b m) (same-read (s .read) (w .read) .0) (s .holds)) in
             let r₀ : ReadyFor w known [] = subst (ReadyFor w known) (numbers-none vars size k over) r in
             let f = fine-ok (ready-fine (setting w) (w .typing) (w .terms) (w .rows) γ (w .tree) r₀) in
             let p : b ≡ passes (query (setting w) (w .terms) (w .rows) γ (w .tree)) =
@@ -310,7 +310,7 @@ module _ {script table quads leasts : List ℕ} {x : Context} {block : Block} (w
             sym (so-far vs r ∙ ap isSome (sym (level-none may (nextAt known here) (length (w .terms)) floor-here lo whole refl i (ei .1 vs r) (omega (arith, counted)))))
 
         module _ (small : i < x .count) (inside : here < length known) {a n : ℕ}
-            (s : Sought (set known here i) (SeekOf table (set known here i) x (rowsOf quads x) here i a) n) where
+            (s : Sought (set known here i) (SeekOf ranks table (set known here i) x (rowsOf quads x) here i a) n) where
           with-here : bindingsOf (set known here i) ≡ bindTo here i (bindingsOf known)
           with-here = set-bindings known here i inside (omega (arith, few table x (w .terms) (w .lent .tabled)))
 

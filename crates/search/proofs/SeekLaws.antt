@@ -26,12 +26,12 @@ use Rattle.query.proofs.CodeLaws.{code-place}
 use Rattle.scan.proofs.ScanLaws.{scan-floor}
 use Rattle.search.proofs.Reaches.{seek-floor, seek-end}
 
-module _ (table known : List ℕ) (x : Context) (l : Lent table known x) (rows : List Quad) (v : ℕ) where
+module _ (ranks table known : List ℕ) (x : Context) (l : Lent table known x) (rows : List Quad) (v : ℕ) where
   counted : (terms : List Term) → termsIn table ≡ some terms → x .count ≡ length terms
   counted terms t = sym (l .tabled .counted) ∙ ap length (same-some (l .tabled .reads) t)
 
   pub pattern-seeks : (q : Query) (codes : Four) (lo least : ℕ) → Coded known v codes q → least ≡ scan (placesAt codes) lo (x .count) rows
-      → SeekOf table known x rows v lo least q
+      → SeekOf ranks table known x rows v lo least q
   unfolding seek
   pattern-seeks (Query.both q r) codes lo least c = absurd c
   pattern-seeks (Query.union q r) codes lo least c = absurd c
@@ -50,28 +50,28 @@ module _ (table known : List ℕ) (x : Context) (l : Lent table known x) (rows :
         e ∙ ap₂ (λ P n. scan P lo n rows) same (counted terms t),
   )
 
-  pub both-seeks : (q r : Query) (lo a b : ℕ) → SeekOf table known x rows v lo a q → SeekOf table known x rows v a b r
-      → SeekOf table known x rows v lo b (Query.both q r)
+  pub both-seeks : (q r : Query) (lo a b : ℕ) → SeekOf ranks table known x rows v lo a q → SeekOf ranks table known x rows v a b r
+      → SeekOf ranks table known x rows v lo b (Query.both q r)
   unfolding seek
   both-seeks q r lo a b h k = (
     omega (arith, h .0, k .0),
     λ S terms t sure.
-        k .1 S terms t (sure .1) ∙ ap (seek (settingIn S x) terms rows (bindingsOf known) v r) (h .1 S terms t (sure .0)),
+        k .1 S terms t (sure .1) ∙ ap (seek (settingIn S ranks x) terms rows (bindingsOf known) v r) (h .1 S terms t (sure .0)),
   )
 
   -- a first part that finds nothing leaves nothing to find
-  pub both-ended : (q r : Query) (lo a : ℕ) → a ≡ x .count → SeekOf table known x rows v lo a q → SeekOf table known x rows v lo a (Query.both q r)
+  pub both-ended : (q r : Query) (lo a : ℕ) → a ≡ x .count → SeekOf ranks table known x rows v lo a q → SeekOf ranks table known x rows v lo a (Query.both q r)
   unfolding seek
   both-ended q r lo a e h = (
     omega (arith, h .0),
     λ S terms t sure.
-        let s = seek (settingIn S x) terms rows (bindingsOf known) v r in
+        let s = seek (settingIn S ranks x) terms rows (bindingsOf known) v r in
         let n = counted terms t in
-        e ∙ (n ∙ (sym (seek-end (settingIn S x) terms rows (bindingsOf known) v r) ∙ ap s (sym n ∙ (sym e ∙ h .1 S terms t (sure .0))))),
+        e ∙ (n ∙ (sym (seek-end (settingIn S ranks x) terms rows (bindingsOf known) v r) ∙ ap s (sym n ∙ (sym e ∙ h .1 S terms t (sure .0))))),
   )
 
   -- a first part that gives lo gives the least of all
-  pub union-first : (q r : Query) (lo a : ℕ) → (eqb a lo && leb lo (x .count)) ≡ true → SeekOf table known x rows v lo a q → SeekOf table known x rows v lo lo (Query.union q r)
+  pub union-first : (q r : Query) (lo a : ℕ) → (eqb a lo && leb lo (x .count)) ≡ true → SeekOf ranks table known x rows v lo a q → SeekOf ranks table known x rows v lo lo (Query.union q r)
   unfolding seek
   union-first q r lo a both h = (
     omega arith,
@@ -79,38 +79,38 @@ module _ (table known : List ℕ) (x : Context) (l : Lent table known x) (rows :
         let e : a ≡ lo = eqb→eq a lo (andLeft (eqb a lo) (leb lo (x .count)) (trueIs (eqb a lo && leb lo (x .count)) both)) in
         let f : lo ≤ x .count = leb→le lo (x .count) (andRight (eqb a lo) (leb lo (x .count)) (trueIs (eqb a lo && leb lo (x .count)) both)) in
         let n = counted terms t in
-        let d = seek-floor (settingIn S x) terms rows (bindingsOf known) v lo (omega (arith, f)) r lo (omega arith) in
+        let d = seek-floor (settingIn S ranks x) terms rows (bindingsOf known) v lo (omega (arith, f)) r lo (omega arith) in
         omega (arith, e, h .1 S terms t (sure .0), d),
   )
 
   pub union-seeks : (q r : Query) (lo a b least : ℕ) → least ≡ min a b
-      → SeekOf table known x rows v lo a q → SeekOf table known x rows v lo b r → SeekOf table known x rows v lo least (Query.union q r)
+      → SeekOf ranks table known x rows v lo a q → SeekOf ranks table known x rows v lo b r → SeekOf ranks table known x rows v lo least (Query.union q r)
   unfolding seek
   union-seeks q r lo a b least e h k = (
     omega (arith, h .0, k .0),
     λ S terms t sure. e ∙ ap₂ min (h .1 S terms t (sure .0)) (k .1 S terms t (sure .1)),
   )
 
-  pub empty-seeks : (lo : ℕ) → SeekOf table known x rows v lo lo Query.empty
+  pub empty-seeks : (lo : ℕ) → SeekOf ranks table known x rows v lo lo Query.empty
   unfolding seek
   empty-seeks lo = (omega arith, λ S terms t sure. refl)
 
   -- a filter
   module _ (c : Cond) (lo : ℕ) where
     -- with nothing left to find it does not matter
-    pub ended-seeks : lo ≡ x .count → SeekOf table known x rows v lo lo (Query.filter c)
+    pub ended-seeks : lo ≡ x .count → SeekOf ranks table known x rows v lo lo (Query.filter c)
     unfolding seek
-    ended-seeks e = (omega arith, λ S terms t sure. go (may (settingIn S x) terms rows (bindingsOf known) true c) (e ∙ counted terms t))
+    ended-seeks e = (omega arith, λ S terms t sure. go (may (settingIn S ranks x) terms rows (bindingsOf known) true c) (e ∙ counted terms t))
       where
         go : (b : Bool) {n : ℕ} → lo ≡ n → lo ≡ cond b lo n
         go true h = refl
         go false h = h
 
-    module _ {b : Bool} (h : MayOf table known x true b c) where
-      pub may-seeks : b ≡ true → SeekOf table known x rows v lo lo (Query.filter c)
+    module _ {b : Bool} (h : MayOf ranks table known x true b c) where
+      pub may-seeks : b ≡ true → SeekOf ranks table known x rows v lo lo (Query.filter c)
       unfolding seek
       may-seeks e = (omega arith, λ S terms t sure. rw (sym (h S terms rows t sure) ∙ e) refl)
 
-      pub cannot-seeks : b ≡ false → SeekOf table known x rows v lo (x .count) (Query.filter c)
+      pub cannot-seeks : b ≡ false → SeekOf ranks table known x rows v lo (x .count) (Query.filter c)
       unfolding seek
       cannot-seeks e = (omega arith, λ S terms t sure. rw (sym (h S terms rows t sure) ∙ e) (counted terms t))

@@ -43,20 +43,20 @@ past-end [] i h = refl
 past-end (t ∷ ts) zero h = absurd (omega arith)
 past-end (t ∷ ts) (suc i) h = past-end ts i (omega arith)
 
-module _ {script table quads leasts : List ℕ} {x : Context} {block : Block} (w : World script table quads leasts x block) (known tuple : List ℕ) (k : ℕ) where
+module _ {script ranks table quads leasts : List ℕ} {x : Context} {block : Block} (w : World script ranks table quads leasts x block) (known tuple : List ℕ) (k : ℕ) where
   abbrev size : ℕ
   size = block .size
 
   -- ── past the last variable ────────────────────────────────────────────────────────────────
 
-  pub tried-all : size ≤ k → {b : Bool} {m n : ℕ} → Walked (HoldsOf table known x (rowsOf quads x) b m) (readQuery script (x .loaded) (block .left) (block .«at»)) n
+  pub tried-all : size ≤ k → {b : Bool} {m n : ℕ} → Walked (HoldsOf ranks table known x (rowsOf quads x) b m) (readQuery script (x .loaded) (block .left) (block .«at»)) n
       → TriedOf w known tuple k (record { fits = true; holds = b; records = m })
   unfolding settingIn tupleFits bind
   tried-all over {b} {m} s d r =
       let e = numbers-none (block .vars) size k over in
-      let h : HoldsOf table known x (w .rows) b m (w .tree) =
-      subst (λ (rows : List Quad). HoldsOf table known x rows b m (w .tree)) (w .lent .quadsAre)
-      (subst (HoldsOf table known x (rowsOf quads x) b m) (same-read (s .read) (w .read) .0) (s .holds)) in
+      let h : HoldsOf ranks table known x (w .rows) b m (w .tree) =
+      subst (λ (rows : List Quad). HoldsOf ranks table known x rows b m (w .tree)) (w .lent .quadsAre)
+      (subst (HoldsOf ranks table known x (rowsOf quads x) b m) (same-read (s .read) (w .read) .0) (s .holds)) in
       let r₀ : ReadyFor w known [] = subst (ReadyFor w known) e r in
       let f = fine-ok (ready-fine (setting w) (w .typing) (w .terms) (w .rows) (bindingsOf known) (w .tree) r₀) in
       let p = h (w .schema) (w .terms) (w .lent .tabled .reads) (f .0) (f .1) in

@@ -5,9 +5,9 @@ use mathlib.Core.List.{List, [], _∷_}
 use mathlib.Core.Bool.{Bool, false, cond, _&&_, _||_}
 use mathlib.Core.Option.{Option, none, some}
 use lib.Dec.{T, eqb, leb}
-use lib.ListN.{getD}
+use lib.ListN.{length, getD}
 use Rattle.definitions.specs.Lists.{distinct}
-use Rattle.definitions.specs.Limits.{variableLimit, pairLimit}
+use Rattle.definitions.specs.Limits.{ranksWidth, variableLimit, pairLimit}
 use Rattle.definitions.specs.Types.{typeOfCode}
 use Rattle.definitions.specs.Terms.{Term, Schema}
 use Rattle.definitions.specs.Tree.{Query}
@@ -62,7 +62,7 @@ skipTypes leasts ty zero i = i
 skipTypes leasts ty (suc n) i = cond (codeLeq (getD leasts i 0) ty) i (skipTypes leasts ty n (i + 1))
 
 -- what is lent to the search of a block stands for schema, typing, store and query
-pub record World (script table quads leasts : List ℕ) (x : Context) (block : Block) : Type 0 where
+pub record World (script ranks table quads leasts : List ℕ) (x : Context) (block : Block) : Type 0 where
   pub schema : Schema
   pub typing : Typing
   pub terms : List Term
@@ -70,6 +70,7 @@ pub record World (script table quads leasts : List ℕ) (x : Context) (block : B
   pub tree : Query
   pub next : ℕ
   pub told : Told x
+  pub ranked : length ranks ≡ ranksWidth
   pub lent : StoreLent table quads leasts x schema terms rows
   pub read : readQuery script (x .loaded) (block .left) (block .«at») ≡ some (tree, next)
   pub types : (k : ℕ) → k < block .size → typeOfCode (getD (block .types) k 0) ≡ some (typing (getD (block .vars) k 0))
@@ -82,9 +83,9 @@ later block k = numbersFrom (block .size - k) (block .vars) k
 
 -- ── promises, where soundness holds of what is known ────────────────────────────────────────
 
-module _ {script table quads leasts : List ℕ} {x : Context} {block : Block} (w : World script table quads leasts x block) where
+module _ {script ranks table quads leasts : List ℕ} {x : Context} {block : Block} (w : World script ranks table quads leasts x block) where
   abbrev pub setting : Setting
-  setting = settingIn (w .schema) x
+  setting = settingIn (w .schema) ranks x
 
   module _ (known : List ℕ) where
     -- ready for the variables that are still to choose

@@ -22,12 +22,12 @@ module _ (σ : Setting) (terms : List Term) (quads : List Quad) (γ : Bindings) 
   Sure Query.empty = Unit {0}
 
 -- `least` is what the seek of v from lo on gives; it never goes back
-abbrev pub SeekOf : (table known : List ℕ) (x : Context) (rows : List Quad) (v lo least : ℕ) → Query → Type 0
-SeekOf table known x rows v lo least q =
+abbrev pub SeekOf : (ranks table known : List ℕ) (x : Context) (rows : List Quad) (v lo least : ℕ) → Query → Type 0
+SeekOf ranks table known x rows v lo least q =
     (min lo (x .count) ≤ least)
-    × ((S : Schema) (terms : List Term) → termsIn table ≡ some terms → Sure (settingIn S x) terms rows (bindingsOf known) q
-    → least ≡ seek (settingIn S x) terms rows (bindingsOf known) v q lo)
+    × ((S : Schema) (terms : List Term) → termsIn table ≡ some terms → Sure (settingIn S ranks x) terms rows (bindingsOf known) q
+    → least ≡ seek (settingIn S ranks x) terms rows (bindingsOf known) v q lo)
 
 -- the same of a filter's boolean; the quads and v do not matter
-abbrev pub FilterOf : (table known : List ℕ) (x : Context) (lo least : ℕ) → Cond → Type 0
-FilterOf table known x lo least c = (rows : List Quad) (v : ℕ) → SeekOf table known x rows v lo least (Query.filter c)
+abbrev pub FilterOf : (ranks table known : List ℕ) (x : Context) (lo least : ℕ) → Cond → Type 0
+FilterOf ranks table known x lo least c = (rows : List Quad) (v : ℕ) → SeekOf ranks table known x rows v lo least (Query.filter c)

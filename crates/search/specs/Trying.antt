@@ -23,7 +23,7 @@ tupleFits S Γ terms [] t = true
 tupleFits S Γ terms (v ∷ vs) [] = false
 tupleFits S Γ terms (v ∷ vs) (i ∷ t) = numberHas S terms i (Γ v) && tupleFits S Γ terms vs t
 
-module _ {script table quads leasts : List ℕ} {x : Context} {block : Block} (w : World script table quads leasts x block) (known tuple : List ℕ) where
+module _ {script ranks table quads leasts : List ℕ} {x : Context} {block : Block} (w : World script ranks table quads leasts x block) (known tuple : List ℕ) where
   -- the numbers from place k on, for the block's variables from there on
   abbrev pub numbersAt : (k : ℕ) → Tuple
   numbersAt k = numbersFrom (block .size - k) tuple k

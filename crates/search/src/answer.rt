@@ -41,15 +41,16 @@ pub fn answer(
     ends: &[u16],
     context: Context,
     block: Block,
+    ranks: &[u8],
     table: &[u8],
     quads: &[u64],
     leasts: &[u8],
     known: [usize; VARIABLE_LIMIT],
     started: bool,
 ) -> Found
-    requires { ⌜ World (now script) (now table) (now quads) (now leasts) context block ⌝ }
+    requires { ⌜ World (now script) (now ranks) (now table) (now quads) (now leasts) context block ⌝ }
     requires { ⌜ EndsLent (now script) (now ends) ⌝ }
-    ensures { λ r. ⌜ ((w : World (now (script .entry)) (now (table .entry)) (now (quads .entry)) (now (leasts .entry)) context block) → AnswerOf w known started r) ⌝ }
+    ensures { λ r. ⌜ ((w : World (now (script .entry)) (now (ranks .entry)) (now (table .entry)) (now (quads .entry)) (now (leasts .entry)) context block) → AnswerOf w known started r) ⌝ }
 {
     let opened = cleared(known, block);
     find(
@@ -57,6 +58,7 @@ pub fn answer(
         ends,
         context,
         block,
+        ranks,
         table,
         quads,
         leasts,

@@ -1,7 +1,6 @@
 // The first answer of a block after a tuple, variable by variable.
 ghost use mathlib.Core.Path.{_≡_};
 ghost use Rattle.laws.specs.Ends.{EndsLent};
-ghost use mathlib.Core.Bool.{cond};
 ghost use lib.ListN.{length};
 ghost use Prim.Native.Nat.{_<_};
 ghost use Rattle.search.specs.Finding.{World, NextOf, NextAfter, HopeAt, HopeOf, FindOf};
@@ -13,6 +12,7 @@ use codes::has_type;
 ghost use Rattle.definitions.specs.Limits.{pairLimit, variableLimit};
 use definitions::PAIR_LIMIT;
 use definitions::VARIABLE_LIMIT;
+use keys::either;
 use query::Context;
 use query::eval::eval_query;
 
@@ -22,6 +22,7 @@ fn next(
     ends: &[u16],
     context: Context,
     block: Block,
+    ranks: &[u8],
     table: &[u8],
     quads: &[u64],
     leasts: &[u8],
@@ -29,11 +30,11 @@ fn next(
     k: usize,
     lo: usize,
 ) -> usize
-    requires { ⌜ World (now script) (now table) (now quads) (now leasts) context block ⌝ }
+    requires { ⌜ World (now script) (now ranks) (now table) (now quads) (now leasts) context block ⌝ }
     requires { ⌜ EndsLent (now script) (now ends) ⌝ }
     requires { ⌜ length (now known) ≡ variableLimit ⌝ }
     requires { ⌜ k < block .size ⌝ }
-    ensures { λ r. ⌜ ((w : World (now (script .entry)) (now (table .entry)) (now (quads .entry)) (now (leasts .entry)) context block) → NextOf w (now (known .entry)) k lo r) ⌝ }
+    ensures { λ r. ⌜ ((w : World (now (script .entry)) (now (ranks .entry)) (now (table .entry)) (now (quads .entry)) (now (leasts .entry)) context block) → NextOf w (now (known .entry)) k lo r) ⌝ }
 {
     let at = block.at;
     let left = block.left;
@@ -45,6 +46,7 @@ fn next(
         context,
         at,
         left,
+        ranks,
         table,
         known,
         quads,
@@ -60,6 +62,7 @@ fn next_after(
     ends: &[u16],
     context: Context,
     block: Block,
+    ranks: &[u8],
     table: &[u8],
     quads: &[u64],
     leasts: &[u8],
@@ -68,12 +71,13 @@ fn next_after(
     tight: bool,
     lo: usize,
 ) -> usize
-    requires { ⌜ World (now script) (now table) (now quads) (now leasts) context block ⌝ }
+    requires { ⌜ World (now script) (now ranks) (now table) (now quads) (now leasts) context block ⌝ }
     requires { ⌜ EndsLent (now script) (now ends) ⌝ }
     requires { ⌜ length (now known) ≡ variableLimit ⌝ }
     requires { ⌜ k < block .size ⌝ }
     requires { ⌜ lo < context .count ⌝ }
-    ensures { λ r. ⌜ ((w : World (now (script .entry)) (now (table .entry)) (now (quads .entry)) (now (leasts .entry)) context block) → NextAfter w (now (known .entry)) k tight lo r) ⌝ }
+    ensures { λ r. ⌜ ((w : World (now (script .entry)) (now (ranks .entry)) (now (table .entry)) (now (quads .entry)) (now (leasts .entry)) context block) →
+        NextAfter w (now (known .entry)) k tight lo r) ⌝ }
 {
     let last = block.last;
     let types = block.types;
@@ -86,6 +90,7 @@ fn next_after(
         ends,
         context,
         block,
+        ranks,
         table,
         quads,
         leasts,
@@ -102,16 +107,17 @@ fn hope(
     ends: &[u16],
     context: Context,
     block: Block,
+    ranks: &[u8],
     table: &[u8],
     quads: &[u64],
     leasts: &[u8],
     known: [usize; VARIABLE_LIMIT],
     j: usize,
 ) -> bool
-    requires { ⌜ World (now script) (now table) (now quads) (now leasts) context block ⌝ }
+    requires { ⌜ World (now script) (now ranks) (now table) (now quads) (now leasts) context block ⌝ }
     requires { ⌜ EndsLent (now script) (now ends) ⌝ }
     requires { ⌜ j < block .size ⌝ }
-    ensures { λ r. ⌜ ((w : World (now (script .entry)) (now (table .entry)) (now (quads .entry)) (now (leasts .entry)) context block) → HopeAt w known j r) ⌝ }
+    ensures { λ r. ⌜ ((w : World (now (script .entry)) (now (ranks .entry)) (now (table .entry)) (now (quads .entry)) (now (leasts .entry)) context block) → HopeAt w known j r) ⌝ }
 {
     let at = block.at;
     let left = block.left;
@@ -125,6 +131,7 @@ fn hope(
             ends,
             context,
             block,
+            ranks,
             table,
             quads,
             leasts,
@@ -143,6 +150,7 @@ fn hope(
             context,
             at,
             left,
+            ranks,
             table,
             &with,
             quads,
@@ -163,31 +171,37 @@ fn hopeful(
     ends: &[u16],
     context: Context,
     block: Block,
+    ranks: &[u8],
     table: &[u8],
     quads: &[u64],
     leasts: &[u8],
     known: [usize; VARIABLE_LIMIT],
     from: usize,
 ) -> bool
-    requires { ⌜ World (now script) (now table) (now quads) (now leasts) context block ⌝ }
+    requires { ⌜ World (now script) (now ranks) (now table) (now quads) (now leasts) context block ⌝ }
     requires { ⌜ EndsLent (now script) (now ends) ⌝ }
-    ensures { λ r. ⌜ ((w : World (now (script .entry)) (now (table .entry)) (now (quads .entry)) (now (leasts .entry)) context block) → HopeOf w known from r) ⌝ }
+    ensures { λ r. ⌜ ((w : World (now (script .entry)) (now (ranks .entry)) (now (table .entry)) (now (quads .entry)) (now (leasts .entry)) context block) → HopeOf w known from r) ⌝ }
 {
     let size = block.size;
     let mut j = from;
     while j < size {
-        if !hope(script, ends, context, block, table, quads, leasts, known, j) {
+        if !hope(
+            script,
+            ends,
+            context,
+            block,
+            ranks,
+            table,
+            quads,
+            leasts,
+            known,
+            j,
+        ) {
             return false;
         }
         j += 1;
     }
     true
-}
-
-fn either(first: bool, a: usize, b: usize) -> usize
-    ensures { λ r. ⌜ r ≡ cond first a b ⌝ }
-{
-    if first { a } else { b }
 }
 
 // The first tuple from level k on; with tight, after the last one. Where the numbers so far are those of the last tuple, which was an answer once, the later
@@ -197,6 +211,7 @@ pub fn find(
     ends: &[u16],
     context: Context,
     block: Block,
+    ranks: &[u8],
     table: &[u8],
     quads: &[u64],
     leasts: &[u8],
@@ -204,9 +219,9 @@ pub fn find(
     k: usize,
     tight: bool,
 ) -> Found
-    requires { ⌜ World (now script) (now table) (now quads) (now leasts) context block ⌝ }
+    requires { ⌜ World (now script) (now ranks) (now table) (now quads) (now leasts) context block ⌝ }
     requires { ⌜ EndsLent (now script) (now ends) ⌝ }
-    ensures { λ r. ⌜ ((w : World (now (script .entry)) (now (table .entry)) (now (quads .entry)) (now (leasts .entry)) context block) → FindOf w known k tight r) ⌝ }
+    ensures { λ r. ⌜ ((w : World (now (script .entry)) (now (ranks .entry)) (now (table .entry)) (now (quads .entry)) (now (leasts .entry)) context block) → FindOf w known k tight r) ⌝ }
     ensures { λ r. ⌜ length (r .tuple) ≡ pairLimit ⌝ }
 {
     let at = block.at;
@@ -220,7 +235,7 @@ pub fn find(
                 tuple: [0; PAIR_LIMIT],
             };
         }
-        let t = eval_query(script, ends, context, at, left, table, &known, quads);
+        let t = eval_query(script, ends, context, at, left, ranks, table, &known, quads);
         return Found {
             found: t.holds,
             tuple: [0; PAIR_LIMIT],
@@ -237,6 +252,7 @@ pub fn find(
             ends,
             context,
             block,
+            ranks,
             table,
             quads,
             leasts,
@@ -260,6 +276,7 @@ pub fn find(
             ends,
             context,
             block,
+            ranks,
             table,
             quads,
             leasts,
@@ -271,6 +288,7 @@ pub fn find(
                 ends,
                 context,
                 block,
+                ranks,
                 table,
                 quads,
                 leasts,

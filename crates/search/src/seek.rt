@@ -6,7 +6,7 @@ ghost use Rattle.laws.specs.Ends.{EndsLent};
 ghost use Rattle.laws.specs.Walks.{Loads};
 ghost use Rattle.laws.specs.Walks.{Walked};
 ghost use Rattle.query.specs.StoreLent.{Stored, rowsOf};
-ghost use Rattle.query.specs.Eval.{Lent};
+ghost use Rattle.query.specs.Eval.{RanksLent};
 ghost use Rattle.search.specs.Seeking.{FilterOf, SeekOf};
 use crate::Sought;
 use ends::after;
@@ -28,21 +28,22 @@ fn seek_filter(
     context: Context,
     at: usize,
     left: u8,
+    ranks: &[u8],
     table: &[u8],
     known: &[usize],
     lo: usize,
 ) -> Sought
     requires { ⌜ Loads (readCond (now script) (context .loaded) left at) ⌝ }
-    requires { ⌜ Lent (now table) (now known) context ⌝ }
+    requires { ⌜ RanksLent (now ranks) (now table) (now known) context ⌝ }
     requires { ⌜ EndsLent (now script) (now ends) ⌝ }
-    ensures { λ r. ⌜ Walked (FilterOf (now (table .entry)) (now (known .entry)) context lo (r .least)) (readCond (now (script .entry)) (context .loaded) left at) (r .next) ⌝ }
+    ensures { λ r. ⌜ Walked (FilterOf (now (ranks .entry)) (now (table .entry)) (now (known .entry)) context lo (r .least)) (readCond (now (script .entry)) (context .loaded) left at) (r .next) ⌝ }
 {
     let count = context.count;
     if lo == count {
         let next = after(ends, script.len(), at);
         return Sought { next, least: lo };
     }
-    let m = may_cond(script, ends, context, at, left, table, known, true);
+    let m = may_cond(script, ends, context, at, left, ranks, table, known, true);
     if m.holds {
         return Sought {
             next: m.next,
@@ -63,6 +64,7 @@ pub fn seek(
     context: Context,
     at: usize,
     left: u8,
+    ranks: &[u8],
     table: &[u8],
     known: &[usize],
     quads: &[u64],
@@ -70,10 +72,10 @@ pub fn seek(
     lo: usize,
 ) -> Sought
     requires { ⌜ Loads (readQuery (now script) (context .loaded) left at) ⌝ }
-    requires { ⌜ Lent (now table) (now known) context ⌝ }
+    requires { ⌜ RanksLent (now ranks) (now table) (now known) context ⌝ }
     requires { ⌜ EndsLent (now script) (now ends) ⌝ }
     requires { ⌜ Stored (now quads) context ⌝ }
-    ensures { λ r. ⌜ Walked (SeekOf (now (table .entry)) (now (known .entry)) context (rowsOf (now (quads .entry)) context) v lo (r .least))
+    ensures { λ r. ⌜ Walked (SeekOf (now (ranks .entry)) (now (table .entry)) (now (known .entry)) context (rowsOf (now (quads .entry)) context) v lo (r .least))
         (readQuery (now (script .entry)) (context .loaded) left at) (r .next) ⌝ }
 {
     let kind = script[at];
@@ -95,6 +97,7 @@ pub fn seek(
                 context,
                 first,
                 below,
+                ranks,
                 table,
                 known,
                 quads,
@@ -114,6 +117,7 @@ pub fn seek(
                 context,
                 a.next,
                 below,
+                ranks,
                 table,
                 known,
                 quads,
@@ -128,6 +132,7 @@ pub fn seek(
                 context,
                 first,
                 below,
+                ranks,
                 table,
                 known,
                 quads,
@@ -144,6 +149,7 @@ pub fn seek(
                 context,
                 a.next,
                 below,
+                ranks,
                 table,
                 known,
                 quads,
@@ -156,7 +162,7 @@ pub fn seek(
                 least,
             }
         }
-        0x64 => seek_filter(script, ends, context, first, below, table, known, lo),
+        0x64 => seek_filter(script, ends, context, first, below, ranks, table, known, lo),
         _ => Sought {
             next: first,
             least: lo,

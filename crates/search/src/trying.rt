@@ -28,6 +28,7 @@ pub fn try_tuple(
     ends: &[u16],
     context: Context,
     block: Block,
+    ranks: &[u8],
     table: &[u8],
     quads: &[u64],
     leasts: &[u8],
@@ -35,15 +36,15 @@ pub fn try_tuple(
     tuple: [usize; PAIR_LIMIT],
     k: usize,
 ) -> Tried
-    requires { ⌜ World (now script) (now table) (now quads) (now leasts) context block ⌝ }
+    requires { ⌜ World (now script) (now ranks) (now table) (now quads) (now leasts) context block ⌝ }
     requires { ⌜ EndsLent (now script) (now ends) ⌝ }
-    ensures { λ r. ⌜ ((w : World (now (script .entry)) (now (table .entry)) (now (quads .entry)) (now (leasts .entry)) context block) → TriedOf w known tuple k r) ⌝ }
+    ensures { λ r. ⌜ ((w : World (now (script .entry)) (now (ranks .entry)) (now (table .entry)) (now (quads .entry)) (now (leasts .entry)) context block) → TriedOf w known tuple k r) ⌝ }
 {
     let at = block.at;
     let left = block.left;
     let size = block.size;
     if size <= k {
-        let t = eval_query(script, ends, context, at, left, table, &known, quads);
+        let t = eval_query(script, ends, context, at, left, ranks, table, &known, quads);
         return Tried {
             fits: true,
             holds: t.holds,
@@ -67,6 +68,7 @@ pub fn try_tuple(
         ends,
         context,
         block,
+        ranks,
         table,
         quads,
         leasts,

@@ -26,31 +26,31 @@ pub record RunPassed (l : Lent) (saved : SavedRun) (budget : ℕ) (now : ℤ) (x
   pub lengths : T (lengthsFit l)
   pub sound : SoundIn l saved (record { checked = x .checked; state = x .state })
   pub limits : T (leb budget budgetLimit && isDateTime now)
-  pub isRun : x .run ≡ run (settingOf (x .checked) now) (typeAt (x .checked .types)) budget (x .state)
+  pub isRun : x .run ≡ run (settingOf (x .checked) (l .ranks) now) (typeAt (x .checked .types)) budget (x .state)
 
 module _ (l : Lent) (saved : SavedRun) (budget : ℕ) (now : ℤ) (x : Running) where
   pub run-passed : runTests l saved budget now ≡ passed x → RunPassed l saved budget now x
   unfolding runTests runIn
   run-passed e =
       let made : Sound → Outcome Run → Running = λ y o. record { checked = y .checked; state = y .state; run = o } in
-      let rest : Sound → Result Running = λ y. runIn (y .checked) budget now (y .state) >>= λ o. passed (made y o) in
+      let rest : Sound → Result Running = λ y. runIn (y .checked) (l .ranks) budget now (y .state) >>= λ o. passed (made y o) in
       let i = bind-inv (entryTests l saved) rest e in
       let y = i .0 in
       let p = entry-inv l saved (i .1) in
-      let b = bind-inv (runIn (y .checked) budget now (y .state)) (λ o. passed (made y o)) (i .2) in
-      let machine = run (settingOf (y .checked) now) (typeAt (y .checked .types)) budget (y .state) in
+      let b = bind-inv (runIn (y .checked) (l .ranks) budget now (y .state)) (λ o. passed (made y o)) (i .2) in
+      let machine = run (settingOf (y .checked) (l .ranks) now) (typeAt (y .checked .types)) budget (y .state) in
       let i₁₁ = require-after-inv 11 (leb budget budgetLimit && isDateTime now) (passed machine) (b .1) in
       let found : made y (b .0) ≡ x = passed-is (b .2) in
       let same : machine ≡ b .0 = passed-is (i₁₁ .1) in
       subst (RunPassed l saved budget now) found
       (subst (λ (o : Outcome Run). RunPassed l saved budget now (made y o)) same
-      (record { lengths = p .0; sound = sound-in l saved y (p .1); limits = i₁₁ .0; isRun = refl }))
+      (record { lengths = p .0; sound = sound-in l saved y (p .2); limits = i₁₁ .0; isRun = refl }))
 
   -- the machine meets no fault, and passes sound states only
   pub run-fine : RunPassed l saved budget now x → (r : Run) × (x .run ≡ ok r) × RunSound (x .checked) budget r
   run-fine p =
       let y : Sound = record { checked = x .checked; state = x .state } in
-      let f = fine-ok (run-sound (x .checked) (is-accepted l saved y (p .sound)) now budget (x .state) (p .sound .sound)) in
+      let f = fine-ok (run-sound (x .checked) (is-accepted l saved y (p .sound)) (l .ranks) now budget (x .state) (p .sound .sound)) in
       (f .0, p .isRun ∙ f .1, f .2)
 
   -- and the call gives what it did
@@ -79,4 +79,4 @@ module _ (l : Lent) (saved : SavedRun) (graph : ℕ) (page : List ℕ) (x : Taki
       let b = bind-inv (takeIn (y .checked) graph page (y .state)) (λ k. passed (made y k)) (i .2) in
       let found : made y (b .0) ≡ x = passed-is (b .2) in
       subst (TakingPassed l saved graph page) found
-      (record { lengths = p .0; state = y .state; sound = sound-in l saved y (p .1); isTaken = b .1 })
+      (record { lengths = p .0; state = y .state; sound = sound-in l saved y (p .2); isTaken = b .1 })

@@ -10,6 +10,7 @@ use lib.ListN.{length, getElem?}
 use lib.IntN.{ℤ}
 use Rattle.definitions.specs.Limits.{budgetLimit}
 use Rattle.definitions.specs.Lists.{every, some?, distinct, isEmpty}
+use Rattle.definitions.specs.Alphabet.{isAlphabet}
 use Rattle.definitions.specs.Bytes.{onward}
 use Rattle.definitions.specs.Types.{Ty}
 use Rattle.definitions.specs.Terms.{Term, Schema, sameTerm, sameProperty, isDateTime, readTerms, readSchema}
@@ -135,9 +136,10 @@ load-follows : (l : Lent) → Follows (loadTests l) (loadRules (lengthsFit l) l)
 unfolding loadTests check typeTests onward ifThere verdict _>>=_
 load-follows l =
     rule 1 (λ e. omega (arith, e)) (lengthsFit l)
+    (rule 21 (λ e. omega (arith, e)) (isAlphabet (l .ranks))
     (read-follows (l .terms) (l .schema) (l .script) typeTests _ λ listed S root e₂ e₄ e₆.
     let ts = withProperties S listed in
-    rw (e₂, e₄, e₆) (judge-follows (λ Γ. record { schema = S; terms = ts; root = root; types = Γ }) (typings (constantsOf S ts) (writtenTypes root) root)))
+    rw (e₂, e₄, e₆) (judge-follows (λ Γ. record { schema = S; terms = ts; root = root; types = Γ }) (typings (constantsOf S ts) (writtenTypes root) root))))
 
 load-refuses : (l : Lent) (r : Result Checked) → Follows r (loadRules (lengthsFit l) l) → loadTests l ≡ r → LoadRefuses l
 unfolding load loadResult
@@ -147,16 +149,18 @@ load-refuses l (passed c) (passes e) q = record { number = rw q (sym e); keeps =
 -- ── the proof: run ──────────────────────────────────────────────────────────────────────────
 
 module _ (l : Lent) (saved : SavedRun) (budget : ℕ) (now : ℤ) where
-  run-follows : Follows (runTests l saved budget now) (runRules (lengthsFit l) (soundIn l saved) budget now)
+  run-follows : Follows (runTests l saved budget now) (runRules (lengthsFit l) (l .ranks) (soundIn l saved) budget now)
   unfolding runTests entryTests runIn
   run-follows =
       together (require 1 (lengthsFit l)) _ _
       (rule 1 (λ e. omega (arith, e)) (lengthsFit l)
+      (together (require 21 (isAlphabet (l .ranks))) _ _
+      (rule 21 (λ e. omega (arith, e)) (isAlphabet (l .ranks))
       (there 10 (λ e. omega (arith, e)) (soundIn l saved) λ x e₁₀.
       then-passes (λ o. record { checked = x .checked; state = x .state; run = o })
-      (rule 11 (λ e. omega (arith, e)) (leb budget budgetLimit && isDateTime now) end)))
+      (rule 11 (λ e. omega (arith, e)) (leb budget budgetLimit && isDateTime now) end)))))
 
-  run-refuses : (r : Result Running) → Follows r (runRules (lengthsFit l) (soundIn l saved) budget now)
+  run-refuses : (r : Result Running) → Follows r (runRules (lengthsFit l) (l .ranks) (soundIn l saved) budget now)
       → runTests l saved budget now ≡ r → RunRefuses l saved budget now
   unfolding runCall runResult Outcomes._>>=_ ranOf
   run-refuses (refused n) (refuses e h) q =
@@ -181,18 +185,20 @@ module _ (l : Lent) (saved : SavedRun) (budget : ℕ) (now : ℤ) where
 -- ── the proof: page ─────────────────────────────────────────────────────────────────────────
 
 module _ (l : Lent) (saved : SavedRun) (g : ℕ) (page : List ℕ) where
-  page-follows : Follows (pageTests l saved g page) (pageRules (lengthsFit l) (soundIn l saved) g page)
+  page-follows : Follows (pageTests l saved g page) (pageRules (lengthsFit l) (l .ranks) (soundIn l saved) g page)
   unfolding pageTests entryTests takeIn ifThere
   page-follows =
       together (require 1 (lengthsFit l)) _ _
       (rule 1 (λ e. omega (arith, e)) (lengthsFit l)
+      (together (require 21 (isAlphabet (l .ranks))) _ _
+      (rule 21 (λ e. omega (arith, e)) (isAlphabet (l .ranks))
       (there 10 (λ e. omega (arith, e)) (soundIn l saved) λ x e₁₀. rw e₁₀
       (then-passes (λ k. record { checked = x .checked; taken = k })
       (rule 12 (λ e. omega (arith, e)) (isGraph (getElem? (x .state .store .terms) g))
       (there 13 (λ e. omega (arith, e)) (pageIn page) λ rs e₁₃. rw e₁₃
-      (rule 14 (λ e. omega (arith, e)) (inLimits (withPage g (taken (x .checked .schema) g rs (x .state .store)) (x .state .store))) end))))))
+      (rule 14 (λ e. omega (arith, e)) (inLimits (withPage g (taken (x .checked .schema) g rs (x .state .store)) (x .state .store))) end))))))))
 
-  page-refuses : (r : Result Taking) → Follows r (pageRules (lengthsFit l) (soundIn l saved) g page)
+  page-refuses : (r : Result Taking) → Follows r (pageRules (lengthsFit l) (l .ranks) (soundIn l saved) g page)
       → pageTests l saved g page ≡ r → PageRefuses l saved g page
   unfolding pageCall pageResult
   page-refuses (refused n) (refuses e h) q = record { number = rw q e; keeps = λ k. rw q (refl, refl, refl); answers = λ z. absurd (h (e ∙ z)) }

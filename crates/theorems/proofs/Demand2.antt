@@ -1,5 +1,5 @@
 -- Demand 2, proved.
-use Prim.Native.Nat.{ℕ, _≤_}
+use Prim.Native.Nat.{ℕ}
 use native.Mathlib.Omega.{arith}
 use mathlib.Core.Path.{_≡_, refl, sym, ap, subst, _∙_}
 use mathlib.Core.Logic.{_⊎_, inl, inr}
@@ -19,6 +19,7 @@ use Rattle.definitions.specs.Outcome.{ok}
 use Rattle.definitions.specs.Machine.{Run, lastOf, withProperties}
 use Rattle.definitions.specs.Saved.{savedControl}
 use Rattle.definitions.specs.Result.{Result, refused, passed, _>>=_, _>>_, require, given}
+use Rattle.definitions.specs.Alphabet.{isAlphabet}
 use Rattle.definitions.specs.Calls.{recordTests, scriptTests, readTests, typeTests, Checked, typesOf, sizesFit, check, reportedTypes, reported, settingOf}
 use Rattle.definitions.specs.Calls.{Lent, lengthsFit, loadTests, loadResult, load}
 use Rattle.definitions.specs.Calls.{Running, runTests, ranOf, runResult, runCall, Taking, pageTests, pageResult, pageCall}
@@ -46,24 +47,24 @@ use Rattle.theorems.specs.PageLeaves.{PageLeaves}
 use Rattle.theorems.proofs.PageTaken.{page-leaves}
 use Rattle.theorems.proofs.CallsPassed.{RunPassed, run-passed, run-fine, run-gives, taking-passed}
 use Rattle.theorems.proofs.StillHeld.{valid-held, still-held}
-use Rattle.theorems.specs.Demand2.{PastSeven, constants, written, LoadDecides, RunTakes, PageTakes, Demand2}
+use Rattle.theorems.specs.Demand2.{BeforeEight, PastSeven, constants, written, LoadDecides, RunTakes, PageTakes, Demand2}
 
 -- ── the proof: load ─────────────────────────────────────────────────────────────────────────
 
--- refused with 1 to 7, or past them
+-- refused before 8 is asked, or past that
 data Reaches {A : Type 0} (P : Type 0) : Result A → Type 0 where
-  low : {n : ℕ} → 1 ≤ n → n ≤ 7 → Reaches P (refused n)
+  low : {n : ℕ} → BeforeEight n → Reaches P (refused n)
   past : {m : Result A} → P → Reaches P m
 
-module _ {A : Type 0} {P : Type 0} (n : ℕ) (lo : 1 ≤ n) (hi : n ≤ 7) where
+module _ {A : Type 0} {P : Type 0} (n : ℕ) (early : BeforeEight n) where
   require-reaches : (t : Bool) {m : Result A} → (T t → Reaches P m) → Reaches P (require n t >> m)
   unfolding require _>>_
   require-reaches true k = k tt
-  require-reaches false k = low lo hi
+  require-reaches false k = low early
 
   given-reaches : {B : Type 0} (o : Option B) {f : B → Result A} → ((b : B) → o ≡ some b → Reaches P (f b)) → Reaches P (given n o >>= f)
   unfolding given _>>=_
-  given-reaches none k = low lo hi
+  given-reaches none k = low early
   given-reaches (some b) k = k b refl
 
 module _ {A B C : Type 0} {P : Type 0} where
@@ -76,25 +77,27 @@ module _ {A B C : Type 0} {P : Type 0} where
 load-reaches : (l : Lent) → Reaches (PastSeven l) (loadTests l)
 unfolding loadTests check readTests recordTests scriptTests _>>=_
 load-reaches l =
-    require-reaches 1 (omega arith) (omega arith) (lengthsFit l) λ lengths.
+    require-reaches 1 (inl (omega arith, omega arith)) (lengthsFit l) λ lengths.
+    require-reaches 21 (inr refl) (isAlphabet (l .ranks)) λ ranks.
     regroup (recordTests (l .terms) (l .schema)) _ _
     (regroup (given 2 (readTerms (l .terms))) _ _
-    (given-reaches 2 (omega arith) (omega arith) (readTerms (l .terms)) λ listed reads.
+    (given-reaches 2 (inl (omega arith, omega arith)) (readTerms (l .terms)) λ listed reads.
     together (require 3 (distinct sameTerm listed)) _ _
-    (require-reaches 3 (omega arith) (omega arith) (distinct sameTerm listed) λ apart.
+    (require-reaches 3 (inl (omega arith, omega arith)) (distinct sameTerm listed) λ apart.
     regroup (given 4 (readSchema (l .schema))) _ _
-    (given-reaches 4 (omega arith) (omega arith) (readSchema (l .schema)) λ S entries.
+    (given-reaches 4 (inl (omega arith, omega arith)) (readSchema (l .schema)) λ S entries.
     together (require 5 (distinct sameProperty S)) _ _
-    (require-reaches 5 (omega arith) (omega arith) (distinct sameProperty S) λ properties.
+    (require-reaches 5 (inl (omega arith, omega arith)) (distinct sameProperty S) λ properties.
     regroup (scriptTests (withProperties S listed) S (l .script)) _ _
     (together (require 6 (sizesFit (withProperties S listed) S (l .script))) _ _
-    (require-reaches 6 (omega arith) (omega arith) (sizesFit (withProperties S listed) S (l .script)) λ sizes.
+    (require-reaches 6 (inl (omega arith, omega arith)) (sizesFit (withProperties S listed) S (l .script)) λ sizes.
     regroup (given 6 (parsed (length (withProperties S listed)) (l .script))) _ _
-    (given-reaches 6 (omega arith) (omega arith) (parsed (length (withProperties S listed)) (l .script)) λ root parses.
+    (given-reaches 6 (inl (omega arith, omega arith)) (parsed (length (withProperties S listed)) (l .script)) λ root parses.
     together (require 7 (inScope root)) _ _
-    (require-reaches 7 (omega arith) (omega arith) (inScope root) λ scope.
+    (require-reaches 7 (inl (omega arith, omega arith)) (inScope root) λ scope.
     past (record {
       lengths = lengths;
+      ranks = ranks;
       listed = listed;
       reads = reads;
       apart = apart;
@@ -108,9 +111,9 @@ load-reaches l =
     }))))))))))
 
 number-reaches : (l : Lent) (r : Result Checked) → Reaches (PastSeven l) r
-    → ((1 ≤ loadNumber (loadResult l r .returned .answer)) × (loadNumber (loadResult l r .returned .answer) ≤ 7)) ⊎ PastSeven l
+    → BeforeEight (loadNumber (loadResult l r .returned .answer)) ⊎ PastSeven l
 unfolding loadResult
-number-reaches l r (low lo hi) = inl (lo, hi)
+number-reaches l r (low early) = inl early
 number-reaches l r (past p) = inr p
 
 -- the answer that a verdict makes
@@ -147,7 +150,7 @@ module _ (l : Lent) (p : PastSeven l) where
   unfolding loadTests check readTests recordTests scriptTests typeTests require given _>>_ _>>=_ decided found
   tests =
       let sizes = isTrue (sizesFit (withProperties (p .schema) (p .listed)) (p .schema) (l .script)) (p .sizes) in
-      rw (isTrue (lengthsFit l) (p .lengths), p .reads, isTrue (distinct sameTerm (p .listed)) (p .apart), p .entries)
+      rw (isTrue (lengthsFit l) (p .lengths), isTrue (isAlphabet (l .ranks)) (p .ranks), p .reads, isTrue (distinct sameTerm (p .listed)) (p .apart), p .entries)
       (rw (isTrue (distinct sameProperty (p .schema)) (p .properties)) (rw (sizes, p .parses, isTrue (inScope (p .root)) (p .scope)) refl))
 
   answer-of : (v : Verdict) → loadResult l (typesOf v >>= λ Γ. passed (found Γ)) .returned .answer ≡ answerOf v
@@ -189,10 +192,10 @@ module _ (l : Lent) (saved : SavedRun) (budget : ℕ) (now : ℤ) where
       let s = x .state in
       let accepted = is-accepted l saved (record { checked = c; state = s }) (p .sound) in
       let isRun = sym (p .isRun) ∙ e in
-      let took = fine-at r isRun (run-takes c accepted now budget s (p .sound .sound)) in
-      let sound = fine-at r isRun (run-sound c accepted now budget s (p .sound .sound)) in
+      let took = fine-at r isRun (run-takes c accepted (l .ranks) now budget s (p .sound .sound)) in
+      let sound = fine-at r isRun (run-sound c accepted (l .ranks) now budget s (p .sound .sound)) in
       let after = lastOf s (r .passed) in
-      let same = last-all (λ x. x .store ≡ s .store) s (r .passed) refl (run-keeps (settingOf c now) (typeAt (c .types)) budget s r isRun) in
+      let same = last-all (λ x. x .store ≡ s .store) s (r .passed) refl (run-keeps (settingOf c (l .ranks) now) (typeAt (c .types)) budget s r isRun) in
       record {
         checked = c;
         loads = p .sound .loads;

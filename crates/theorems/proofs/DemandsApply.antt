@@ -13,6 +13,7 @@ use Rattle.definitions.specs.Terms.{Term}
 use Rattle.definitions.specs.Tree.{var, const, Query, success, fromNamed, block}
 use Rattle.definitions.specs.Outcome.{Outcome, ok, fault}
 use Rattle.definitions.specs.Saved.{noRun}
+use Rattle.definitions.specs.Alphabet.{builtIn}
 use Rattle.definitions.specs.Calls.{Lent, tablesFit, load}
 use Rattle.definitions.specs.CallList.{Answer, ran, paged}
 use Rattle.definitions.specs.Limits.{savedWidth}
@@ -38,7 +39,7 @@ accepted = refl
 
 -- no records, and tables of no bytes
 none : Lent
-none = record { terms = []; schema = []; script = []; termTable = []; quadTable = [] }
+none = record { ranks = []; terms = []; schema = []; script = []; termTable = []; quadTable = [] }
 
 -- a run; one with tables of no bytes, no records and the saved run of a refused load; one with too large a budget; a page lent in the same way; an empty page; the rest of the run
 calls : List HostCall
@@ -77,7 +78,7 @@ applies = demand-3 card accepted calls
 
 -- a run; one lent a saved run of 485 bytes; one a report of 7; a page lent a report of 3; an empty page; the rest of the run
 exportsCalled : List ExportCall
-unfolding tablesFit card
+unfolding tablesFit card builtIn
 exportsCalled =
     ExportCall.running (OnBytes.asLeft (replicate 8 9) refl) 10 (pos 0)
     ∷ ExportCall.running (OnBytes.others card (replicate 485 5) (replicate 8 9) tt) 10 (pos 0)
@@ -102,7 +103,7 @@ applies-on-bytes = on-bytes card accepted (replicate savedWidth 9) refl exportsC
 
 -- the card with a once block in place of the each block
 once : Lent
-once = record { terms = card .terms; schema = card .schema; script = set (card .script) 5 0; termTable = card .termTable; quadTable = card .quadTable }
+once = record { ranks = card .ranks; terms = card .terms; schema = card .schema; script = set (card .script) 5 0; termTable = card .termTable; quadTable = card .quadTable }
 
 once-load : OnceLoad once
 unfolding once card uri number opened

@@ -16,7 +16,8 @@ use Rattle.definitions.specs.Machine.{State, Store, Run, run, lastOf}
 use Rattle.definitions.specs.Saved.{termTable, quadTable, savedOf}
 use Rattle.definitions.specs.Result.{Result, refused, passed, _>>=_, _>>_, require}
 use Rattle.definitions.specs.Calls as Calls
-use Rattle.definitions.specs.Calls.{Checked, check, reported, Lent, tablesFit, lengthsFit, soundIn, settingOf}
+use Rattle.definitions.specs.Calls.{Checked, check, reported, Lent, tablesFit, lengthsFit, soundIn, settingOf, loadTests}
+use Rattle.definitions.specs.Alphabet.{isAlphabet}
 use Rattle.definitions.specs.Calls.{runIn, Running, runTests, ranOf, runResult, runCall}
 use Rattle.definitions.specs.Calls.{PageTaken, takeIn, Taking, pageTests, PageResult, pageResult, pageCall}
 use Rattle.definitions.specs.CallList.{ran, paged, Done, runDone, pageDone, machineCall}
@@ -30,7 +31,7 @@ use Rattle.laws.proofs.RunStore.{run-keeps, last-all}
 use Rattle.laws.specs.Sound.{Sound}
 use Rattle.laws.proofs.SoundIn.{entry-of, entry-one, lengths-again, sound-again}
 use Rattle.laws.proofs.NoFault.{ok-is}
-use Rattle.theorems.specs.Hosts.{Kept, Lending, asLeft, others, HostCall, lending, termBytes, quadBytes, fed, keptOf, Handed, lentTo, engineCall}
+use Rattle.theorems.specs.Hosts.{Kept, Lending, asLeft, others, HostCall, lending, lengthsLent, fed, keptOf, Handed, lentTo, engineCall}
 use Rattle.definitions.specs.declared.SavedRun.{SavedRun}
 
 -- what a call hands back where the machine does this from a state
@@ -44,7 +45,7 @@ answer-of c (others l saved wrong) s d = refl
 
 -- refusal 1, as the machine tests it
 abbrev fits : Lending → Result (Unit {0})
-fits t = require 1 (tablesFit (termBytes t) (quadBytes t))
+fits t = require 1 (tablesFit (lengthsLent t))
 
 fits-as-left : {A : Type 0} (m : Result A) → (fits asLeft >> m) ≡ m
 unfolding tablesFit require _>>_
@@ -63,8 +64,20 @@ module _ (l : Lent) (saved : SavedRun) (wrong : T (not (lengthsFit l))) where
   unfolding pageTests
   page-one g page = bind-refused _ (entry-one l saved (isFalse (lengthsFit l) wrong))
 
-module _ (l : Lent) (c : Checked) (loads : check (l .terms) (l .schema) (l .script) ≡ passed c)
-    (s : State) (sound : Sound c s) (valid : ValidIn s) where
+-- what is lent loads: 1 and 21 do not refuse it, and the check finds c
+pub record Loads (l : Lent) (c : Checked) : Type 0 where
+  pub lengths : T (lengthsFit l)
+  pub ranks : T (isAlphabet (l .ranks))
+  pub checks : check (l .terms) (l .schema) (l .script) ≡ passed c
+
+pub loads-of : {l : Lent} {c : Checked} → loadTests l ≡ passed c → Loads l c
+unfolding loadTests
+loads-of {l} e =
+    let i = require-after-inv 1 (lengthsFit l) _ e in
+    let j = require-after-inv 21 (isAlphabet (l .ranks)) _ (i .1) in
+    record { lengths = i .0; ranks = j .0; checks = j .1 }
+
+module _ (l : Lent) (c : Checked) (loads : Loads l c) (s : State) (sound : Sound c s) (valid : ValidIn s) where
   abbrev kept : Kept
   kept = keptOf c s
 
@@ -72,10 +85,10 @@ module _ (l : Lent) (c : Checked) (loads : check (l .terms) (l .schema) (l .scri
   lent = lentTo l asLeft kept
 
   fit : T (lengthsFit lent)
-  fit = lengths-again (l .terms) (l .schema) (l .script) c loads s sound valid
+  fit = lengths-again l c (loads .checks) s sound valid (loads .lengths)
 
   found : soundIn lent (kept .saved) ≡ some (record { checked = c; state = s })
-  found = sound-again (l .terms) (l .schema) (l .script) c loads s sound valid
+  found = sound-again l c (loads .checks) s sound valid
 
   -- ── a run ─────────────────────────────────────────────────────────────────────────────────
 
@@ -84,13 +97,13 @@ module _ (l : Lent) (c : Checked) (loads : check (l .terms) (l .schema) (l .scri
     running o = record { checked = c; state = s; run = o }
 
     -- refusal 1 is tested on the lengths, refusal 10 does not come, and 11 is the machine's
-    run-tests : runTests lent (kept .saved) budget now ≡ ((fits asLeft >> runIn c budget now s) >>= λ o. passed (running o))
+    run-tests : runTests lent (kept .saved) budget now ≡ ((fits asLeft >> runIn c (l .ranks) budget now s) >>= λ o. passed (running o))
     unfolding runTests
     run-tests =
         let rest : Calls.Sound → Result Running = λ x.
-        runIn (x .checked) budget now (x .state) >>= λ o. passed (record { checked = x .checked; state = x .state; run = o }) in
-        bind-passed rest (entry-of lent (kept .saved) fit found)
-        ∙ sym (ap (λ m. m >>= λ o. passed (running o)) (fits-as-left (runIn c budget now s)))
+        runIn (x .checked) (l .ranks) budget now (x .state) >>= λ o. passed (record { checked = x .checked; state = x .state; run = o }) in
+        bind-passed rest (entry-of lent (kept .saved) fit (loads .ranks) found)
+        ∙ sym (ap (λ m. m >>= λ o. passed (running o)) (fits-as-left (runIn c (l .ranks) budget now s)))
 
     -- what the host makes of it
     abbrev handed : Ran → Handed
@@ -109,23 +122,23 @@ module _ (l : Lent) (c : Checked) (loads : check (l .terms) (l .schema) (l .scri
         ap (λ (σ : Store). ok (record { answer = ran (ranOf c s r .answer); left = tables σ })) (sym (same r refl))
         ∙ ap (λ (d : Done). ok (handedOf c asLeft s d)) (ok-is e)
 
-    store-same : (t : Lending) (r : Run) → (fits t >> runIn c budget now s) ≡ passed (ok r) → lastOf s (r .passed) .store ≡ s .store
+    store-same : (t : Lending) (r : Run) → (fits t >> runIn c (l .ranks) budget now s) ≡ passed (ok r) → lastOf s (r .passed) .store ≡ s .store
     unfolding runIn
     store-same t r e =
-        let i₁ = require-after-inv 1 (tablesFit (termBytes t) (quadBytes t)) (runIn c budget now s) e in
-        let machine = run (settingOf c now) (typeAt (c .types)) budget s in
+        let i₁ = require-after-inv 1 (tablesFit (lengthsLent t)) (runIn c (l .ranks) budget now s) e in
+        let machine = run (settingOf c (l .ranks) now) (typeAt (c .types)) budget s in
         let i₁₁ = require-after-inv 11 (leb budget budgetLimit && isDateTime now) (passed machine) (i₁ .1) in
-        last-all (λ x. x .store ≡ s .store) s (r .passed) refl (run-keeps (settingOf c now) (typeAt (c .types)) budget s r (passed-is (i₁₁ .1)))
+        last-all (λ x. x .store ≡ s .store) s (r .passed) refl (run-keeps (settingOf c (l .ranks) now) (typeAt (c .types)) budget s r (passed-is (i₁₁ .1)))
 
-    run-call : (t : Lending) (d : Done) → machineCall c (fed (HostCall.running t budget now)) s ≡ ok d
+    run-call : (t : Lending) (d : Done) → machineCall c (l .ranks) (fed (HostCall.running t budget now)) s ≡ ok d
         → engineCall l (HostCall.running t budget now) kept ≡ ok (handedOf c t s d)
     unfolding machineCall engineCall runCall
     run-call asLeft d e =
         ap (λ m. Outcomes._>>=_ (runResult (kept .saved) m) (λ r. ok (handed r))) run-tests
-        ∙ run-handed (fits asLeft >> runIn c budget now s) (store-same asLeft) d e
+        ∙ run-handed (fits asLeft >> runIn c (l .ranks) budget now s) (store-same asLeft) d e
     run-call (others x saved wrong) d e =
         unfold runResult runDone Outcomes._>>=_ in
-        let one = rw (fits-others x saved wrong (runIn c budget now s)) at e in
+        let one = rw (fits-others x saved wrong (runIn c (l .ranks) budget now s)) at e in
         rw (run-one x saved wrong budget now) (ap (λ (d : Done). ok (handedOf c (others x saved wrong) s d)) (ok-is one))
 
     run-store : (m : Result (Outcome Run)) → ((r : Run) → m ≡ passed (ok r) → lastOf s (r .passed) .store ≡ s .store) → (d : Done) → runDone m ≡ ok d
@@ -135,9 +148,9 @@ module _ (l : Lent) (c : Checked) (loads : check (l .terms) (l .schema) (l .scri
     run-store (passed (fault x)) same d e = absurd (let z : _≡_ {A = ℕ} 0 1 = cc in omega arith)
     run-store (passed (ok r)) same d e = subst (λ (d : Done). lastOf s (d .passed) .store ≡ s .store) (ok-is e) (same r refl)
 
-    run-valid : (t : Lending) (d : Done) → machineCall c (fed (HostCall.running t budget now)) s ≡ ok d → ValidIn (lastOf s (d .passed))
+    run-valid : (t : Lending) (d : Done) → machineCall c (l .ranks) (fed (HostCall.running t budget now)) s ≡ ok d → ValidIn (lastOf s (d .passed))
     unfolding machineCall
-    run-valid t d e = subst (λ (σ : Store). All Valid (σ .terms)) (sym (run-store (fits t >> runIn c budget now s) (store-same t) d e)) valid
+    run-valid t d e = subst (λ (σ : Store). All Valid (σ .terms)) (sym (run-store (fits t >> runIn c (l .ranks) budget now s) (store-same t) d e)) valid
 
   -- ── a page ────────────────────────────────────────────────────────────────────────────────
 
@@ -151,7 +164,7 @@ module _ (l : Lent) (c : Checked) (loads : check (l .terms) (l .schema) (l .scri
     page-tests =
         let rest : Calls.Sound → Result Taking = λ x.
         takeIn (x .checked) g page (x .state) >>= λ k. passed (record { checked = x .checked; taken = k }) in
-        bind-passed rest (entry-of lent (kept .saved) fit found)
+        bind-passed rest (entry-of lent (kept .saved) fit (loads .ranks) found)
         ∙ sym (ap (λ m. m >>= λ k. passed (taking k)) (fits-as-left (takeIn c g page s)))
 
     -- what the host makes of it
@@ -167,7 +180,7 @@ module _ (l : Lent) (c : Checked) (loads : check (l .terms) (l .schema) (l .scri
     page-handed (refused n) = refl
     page-handed (passed k) = refl
 
-    page-call : (t : Lending) (d : Done) → machineCall c (fed (HostCall.paging t g page)) s ≡ ok d
+    page-call : (t : Lending) (d : Done) → machineCall c (l .ranks) (fed (HostCall.paging t g page)) s ≡ ok d
         → engineCall l (HostCall.paging t g page) kept ≡ ok (handedOf c t s d)
     unfolding machineCall engineCall pageCall
     page-call asLeft d e =
@@ -178,21 +191,21 @@ module _ (l : Lent) (c : Checked) (loads : check (l .terms) (l .schema) (l .scri
         let one = rw (fits-others x saved wrong (takeIn c g page s)) at e in
         rw (page-one x saved wrong g page) (ap (λ (d : Done). ok (handedOf c (others x saved wrong) s d)) (ok-is one))
 
-    page-valid : (t : Lending) (d : Done) → machineCall c (fed (HostCall.paging t g page)) s ≡ ok d → ValidIn (lastOf s (d .passed))
+    page-valid : (t : Lending) (d : Done) → machineCall c (l .ranks) (fed (HostCall.paging t g page)) s ≡ ok d → ValidIn (lastOf s (d .passed))
     unfolding machineCall pageDone
     page-valid t d e = subst (λ (d : Done). ValidIn (lastOf s (d .passed))) (ok-is e) (go (fits t >> takeIn c g page s) refl)
       where
         go : (m : Result PageTaken) → (fits t >> takeIn c g page s) ≡ m → ValidIn (lastOf s (pageDone m .passed))
         go (refused n) e = valid
         go (passed k) e =
-            page-keeps-valid c g page s k (require-after-inv 1 (tablesFit (termBytes t) (quadBytes t)) (takeIn c g page s) e .1) valid
+            page-keeps-valid c g page s k (require-after-inv 1 (tablesFit (lengthsLent t)) (takeIn c g page s) e .1) valid
 
   -- ── any call ──────────────────────────────────────────────────────────────────────────────
 
-  pub engine-call : (x : HostCall) (d : Done) → machineCall c (fed x) s ≡ ok d → engineCall l x kept ≡ ok (handedOf c (lending x) s d)
+  pub engine-call : (x : HostCall) (d : Done) → machineCall c (l .ranks) (fed x) s ≡ ok d → engineCall l x kept ≡ ok (handedOf c (lending x) s d)
   engine-call (HostCall.running t budget now) d e = run-call budget now t d e
   engine-call (HostCall.paging t g page) d e = page-call g page t d e
 
-  pub call-valid : (x : HostCall) (d : Done) → machineCall c (fed x) s ≡ ok d → ValidIn (lastOf s (d .passed))
+  pub call-valid : (x : HostCall) (d : Done) → machineCall c (l .ranks) (fed x) s ≡ ok d → ValidIn (lastOf s (d .passed))
   call-valid (HostCall.running t budget now) d e = run-valid budget now t d e
   call-valid (HostCall.paging t g page) d e = page-valid g page t d e

@@ -42,8 +42,8 @@ use Rattle.laws.specs.Sound.{Accepted, Sound}
 use Rattle.safety.proofs.RunSound.{last-sound}
 use Rattle.theorems.proofs.StepsLeft.{NoEach, AnswerEnds, stepsIn, call-left}
 use Rattle.theorems.proofs.Safety.{loaded-sound, call-sound}
-use Rattle.theorems.proofs.EngineSound.{handedOf, answer-of, engine-call, call-valid}
-use Rattle.theorems.proofs.Demand3.{wrong-one, engine-more, kept-again, call-keeps, demand-3}
+use Rattle.theorems.proofs.EngineSound.{Loads, handedOf, answer-of, engine-call, call-valid}
+use Rattle.theorems.proofs.Demand3.{loads-with, wrong-one, engine-more, kept-again, call-keeps, demand-3}
 use Rattle.theorems.proofs.SavedFits.{sound-again}
 use Rattle.theorems.proofs.OnBytes.{same-kept, on-bytes}
 use Rattle.theorems.specs.Hosts as Hosts
@@ -123,15 +123,15 @@ unfolding pageDone
 page-kind (refused n) = tt
 page-kind (passed k) = tt
 
-answer-to : (c : Checked) (x : HostCall) (s : State) (d : Done) → machineCall c (fed x) s ≡ ok d → AnswerTo x (d .answer)
+answer-to : (c : Checked) (ranks : List ℕ) (x : HostCall) (s : State) (d : Done) → machineCall c ranks (fed x) s ≡ ok d → AnswerTo x (d .answer)
 unfolding machineCall runIn
-answer-to c (HostCall.running t budget now) s d e =
+answer-to c ranks (HostCall.running t budget now) s d e =
     let ask : Result (Outcome Run) → Type 0 = λ r. OrFault OfRun (runDone r) in
-    let kind = by-require ask 1 (tablesFit (Hosts.termBytes t) (Hosts.quadBytes t)) _ (refused-kind 1 (λ z. omega (arith, z)))
+    let kind = by-require ask 1 (tablesFit (Hosts.lengthsLent t)) _ (refused-kind 1 (λ z. omega (arith, z)))
     (by-require ask 11 (leb budget budgetLimit && isDateTime now) _ (refused-kind 11 (λ z. omega (arith, z)))
-    (ran-kind (run (settingOf c now) (typeAt (c .types)) budget s))) in
-    (holds-ok d e kind, λ w. wrong-one c (HostCall.running t budget now) s d e w)
-answer-to c (HostCall.paging t g page) s d e = subst (λ (d : Done). PageKind (d .answer)) (ok-is e) (page-kind _)
+    (ran-kind (run (settingOf c ranks now) (typeAt (c .types)) budget s))) in
+    (holds-ok d e kind, λ w. wrong-one c ranks (HostCall.running t budget now) s d e w)
+answer-to c ranks (HostCall.paging t g page) s d e = subst (λ (d : Done). PageKind (d .answer)) (ok-is e) (page-kind _)
 
 -- ── the list ────────────────────────────────────────────────────────────────────────────────
 
@@ -147,19 +147,19 @@ record FromHere (l : Lent) (c : Checked) (s : State) (calls : List HostCall) : T
   counted : stepsOf (runsTold handed) + stackRecords (left .control .stack) ≡ stackRecords (s .control .stack)
   ends : (n before : ℕ) → before + stackRecords (s .control .stack) ≡ n → EndsExactly n before (runsTold handed)
 
-module _ (l : Lent) (c : Checked) (loads : check (l .terms) (l .schema) (l .script) ≡ passed c) where
+module _ (l : Lent) (c : Checked) (loads : Loads l c) where
   accepted : Accepted c
-  accepted = check-accepted (l .terms) (l .schema) (l .script) c loads
+  accepted = check-accepted (l .terms) (l .schema) (l .script) c (loads .checks)
 
   from-here : (calls : List HostCall) (s : State) → Sound c s → ValidIn s → NoEach (s .control .stack) → FromHere l c s calls
   unfolding engineCalls keptAfterAll runsTold stepsOf
   from-here [] s sound valid none =
       record { handed = []; given = refl; kinds = tt; left = s; sound = sound; valid = valid; kept = refl; counted = omega arith; ends = λ n before e. tt }
   from-here (x ∷ xs) s sound valid none =
-      let m = fine-ok (call-sound c accepted (fed x) s sound) in
+      let m = fine-ok (call-sound c accepted (l .ranks) (fed x) s sound) in
       let d = m .0 in
       let after = lastOf s (d .passed) in
-      let one = holds-ok d (m .1) (call-left c (fed x) s none) in
+      let one = holds-ok d (m .1) (call-left c (l .ranks) (fed x) s none) in
       let rest = from-here xs after (last-sound c s (d .passed) sound (m .2 .passed)) (call-valid l c loads s sound valid x d (m .1)) (one .left .noneEach) in
       let h = handedOf c (lending x) s d in
       let a = answer-of c (lending x) s d in
@@ -168,7 +168,7 @@ module _ (l : Lent) (c : Checked) (loads : check (l .terms) (l .schema) (l .scri
       record {
         handed = h ∷ rest .handed;
         given = engine-more l x xs (keptOf c s) h (rest .handed) (engine-call l c loads s sound valid x d (m .1)) (ap (engineCalls l xs) kept ∙ rest .given);
-        kinds = (subst⁻¹ (AnswerTo x) a (answer-to c x s d (m .1)), rest .kinds);
+        kinds = (subst⁻¹ (AnswerTo x) a (answer-to c (l .ranks) x s d (m .1)), rest .kinds);
         left = rest .left;
         sound = rest .sound;
         valid = rest .valid;
@@ -246,13 +246,13 @@ module _ (l : Lent) (o : OnceLoad l) where
   told = rw (o .reads, isFalse (hasEach root) (o .noEach)) refl
 
 -- of the script that is checked
-module _ (l : Lent) (e : load l .returned .answer ≡ LoadAnswers.Accepted) (c : Checked) (loads : check (l .terms) (l .schema) (l .script) ≡ passed c)
+module _ (l : Lent) (e : load l .returned .answer ≡ LoadAnswers.Accepted) (c : Checked) (loads : Loads l c)
     (start : keptAfterLoad l ≡ keptOf c (loaded (c .terms) (c .root))) (once : T (not (hasEach (c .root)))) where
   all-calls : (calls : List HostCall) → FromHere l c (loaded (c .terms) (c .root)) calls
   unfolding loaded
   all-calls calls =
       from-here l c loads calls (loaded (c .terms) (c .root)) (loaded-sound c (accepted l c loads))
-      (loaded-valid c (check-valid (l .terms) (l .schema) (l .script) c loads)) (once, tt)
+      (loaded-valid c (check-valid (l .terms) (l .schema) (l .script) c (loads .checks))) (once, tt)
 
   left-exact : (calls : List HostCall) → let h = all-calls calls in Exact (scriptRecords (c .root)) (runsTold (h .handed)) (h .left .control .stack)
   unfolding loaded stackRecords
@@ -289,7 +289,7 @@ module _ (l : Lent) (e : load l .returned .answer ≡ LoadAnswers.Accepted) (c :
         exported = exportedAll calls (h .handed);
         given = d .agree ∙ ap (λ (hs : List Handed). ok (exportedAll calls hs)) same;
         saved = k .saved;
-        reads = ap (λ (b : KeptBytes). savedFrom (b .saved)) kept ∙ sound-again (l .terms) (l .schema) (l .script) c loads (h .left) (h .sound);
+        reads = ap (λ (b : KeptBytes). savedFrom (b .saved)) kept ∙ sound-again (l .terms) (l .schema) (l .script) c (loads .checks) (h .left) (h .sound);
         left = h .left;
         holds = ap (λ (b : KeptBytes). held (c .root) (b .termTable) (b .quadTable) (k .saved)) kept ∙ kept-again l c loads (h .left) (h .sound) (h .valid) .holds;
         exact = subst⁻¹ (λ (runs : List RunTold). Exact (scriptRecords (c .root)) runs (h .left .control .stack)) (reported-same calls (h .handed) (h .kinds) (few xs)) (left-exact xs);
@@ -302,9 +302,9 @@ exact-steps l o =
     let same = same-root (l .terms) (l .schema) (l .script) (o .read) c (o .reads) (d .loads) in
     let once = subst (λ (root : Script). T (not (hasEach root))) same (o .noEach) in
     let answers : (calls : List HostCall) → ExactAnswers l (o .read .root) calls = λ calls.
-    subst⁻¹ (λ (root : Script). ExactAnswers l root calls) same (exact-answers l (o .accepted) c (d .loads) (d .start .written) once calls) in
+    subst⁻¹ (λ (root : Script). ExactAnswers l root calls) same (exact-answers l (o .accepted) c (loads-with (o .accepted) (d .loads)) (d .start .written) once calls) in
     let reports : (calls : List ExportCall) → ExactReports l (o .read .root) calls = λ calls.
-    subst⁻¹ (λ (root : Script). ExactReports l root calls) same (exact-reports l (o .accepted) c (d .loads) (d .start .written) once calls) in
+    subst⁻¹ (λ (root : Script). ExactReports l root calls) same (exact-reports l (o .accepted) c (loads-with (o .accepted) (d .loads)) (d .start .written) once calls) in
     record {
       told = told l o;
       answers = answers;

@@ -9,6 +9,7 @@ use lib.ListN.{length}
 use lib.IntN.{ℤ}
 use Rattle.definitions.specs.Bytes.{onward}
 use Rattle.definitions.specs.Outcome.{ok, _>>=_}
+use Rattle.definitions.specs.Alphabet.{isAlphabet}
 use Rattle.definitions.specs.Calls.{Lent, lengthsFit, load, soundIn, pageCall, total}
 use Rattle.definitions.specs.Numbers.{loadNumber, runNumber, pageNumber, totalNumber}
 use Rattle.definitions.specs.Limits.{savedWidth, runReportWidth, pageReportWidth, totalReportWidth}
@@ -71,15 +72,15 @@ module _ (l : Lent) (saved : List ℕ) (budget : ℕ) (now : ℤ) (report : List
   record RunOn (o : Option SavedRun) : Type 0 where
     ran : RunExport
     given : runOn l budget now saved report o ≡ ok ran
-    number : ran .number ≡ firstBroken (runRules true (onward o (soundIn l)) budget now)
-    keeps : (firstBroken (runRules true (onward o (soundIn l)) budget now) ≡ 0 → ⊥) → (ran .saved ≡ saved) × (ran .report ≡ report)
+    number : ran .number ≡ firstBroken (runRules true (l .ranks) (onward o (soundIn l)) budget now)
+    keeps : (firstBroken (runRules true (l .ranks) (onward o (soundIn l)) budget now) ≡ 0 → ⊥) → (ran .saved ≡ saved) × (ran .report ≡ report)
 
-  run-on : (o : Option SavedRun) → T (lengthsFit l) → RunOn o
+  run-on : (o : Option SavedRun) → T (lengthsFit l) → isAlphabet (l .ranks) ≡ true → RunOn o
   unfolding onward firstBroken isThere _>>=_
-  run-on none fit = record { ran = record { number = 10; saved = saved; report = report }; given = refl; number = refl; keeps = λ h. (refl, refl) }
-  run-on (some r) fit =
+  run-on none fit good = record { ran = record { number = 10; saved = saved; report = report }; given = refl; number = rw good refl; keeps = λ h. (refl, refl) }
+  run-on (some r) fit good =
       let d = demand-1 .run l r budget now in
-      let n : runNumber (d .ran .answer) ≡ firstBroken (runRules true (soundIn l r) budget now) = rw (isTrue (lengthsFit l) fit) at (d .number) in
+      let n : runNumber (d .ran .answer) ≡ firstBroken (runRules true (l .ranks) (soundIn l r) budget now) = rw (isTrue (lengthsFit l) fit) at (d .number) in
       record {
         ran = ranExport saved report (d .ran);
         given = rw (d .given) refl;
@@ -90,34 +91,41 @@ module _ (l : Lent) (saved : List ℕ) (budget : ℕ) (now : ℤ) (report : List
         );
       }
 
-  ran-on : buffersFit l saved report runReportWidth ≡ true → RunOn (savedFrom saved) → RunRefuses l saved budget now report
+  ran-on : buffersFit l saved report runReportWidth ≡ true → isAlphabet (l .ranks) ≡ true → RunOn (savedFrom saved) → RunRefuses l saved budget now report
   unfolding runExport firstBroken
-  ran-on e r = record { ran = r .ran; given = rw (e, runExport) (r .given); number = rw e (r .number); keeps = rw e (r .keeps) }
+  ran-on e good r = record { ran = r .ran; given = rw (e, good, runExport) (r .given); number = rw e (r .number); keeps = rw e (r .keeps) }
 
-  run-refuses : (b : Bool) → buffersFit l saved report runReportWidth ≡ b → RunRefuses l saved budget now report
+  run-refuses : (b a : Bool) → buffersFit l saved report runReportWidth ≡ b → isAlphabet (l .ranks) ≡ a → RunRefuses l saved budget now report
   unfolding runExport firstBroken
-  run-refuses false e =
+  run-refuses true false e bad =
+      record {
+        ran = record { number = 21; saved = saved; report = report };
+        given = rw (e, bad, runExport) refl;
+        number = rw (e, bad) refl;
+        keeps = λ h. (refl, refl);
+      }
+  run-refuses false a e good =
       record {
         ran = record { number = 1; saved = saved; report = report };
         given = rw (e, runExport) refl;
         number = rw e refl;
         keeps = λ h. (refl, refl);
       }
-  run-refuses true e =
+  run-refuses true true e good =
       let others = eqb (length saved) savedWidth && eqb (length report) runReportWidth in
-      ran-on e (run-on (savedFrom saved) (andLeft (lengthsFit l) others (trueIs (lengthsFit l && others) e)))
+      ran-on e good (run-on (savedFrom saved) (andLeft (lengthsFit l) others (trueIs (lengthsFit l && others) e)) good)
 
-page-on : (l : Lent) (saved : List ℕ) (g : ℕ) (page report : List ℕ) (o : Option SavedRun) → T (lengthsFit l)
+page-on : (l : Lent) (saved : List ℕ) (g : ℕ) (page report : List ℕ) (o : Option SavedRun) → T (lengthsFit l) → isAlphabet (l .ranks) ≡ true
     → let r = pageOn l g page saved report o in
-    (r .number ≡ firstBroken (pageRules true (onward o (soundIn l)) g page))
-    × ((firstBroken (pageRules true (onward o (soundIn l)) g page) ≡ 0 → ⊥)
+    (r .number ≡ firstBroken (pageRules true (l .ranks) (onward o (soundIn l)) g page))
+    × ((firstBroken (pageRules true (l .ranks) (onward o (soundIn l)) g page) ≡ 0 → ⊥)
     → (r .termTable ≡ l .termTable) × (r .quadTable ≡ l .quadTable) × (r .saved ≡ saved) × (r .report ≡ report))
 unfolding onward firstBroken isThere
-page-on l saved g page report none fit = (refl, λ h. (refl, refl, refl, refl))
-page-on l saved g page report (some r) fit =
+page-on l saved g page report none fit good = (rw good refl, λ h. (refl, refl, refl, refl))
+page-on l saved g page report (some r) fit good =
     let d = demand-1 .page l r g page in
     let x = pageCall l r g page .returned in
-    let same : firstBroken (pageRules (lengthsFit l) (soundIn l r) g page) ≡ firstBroken (pageRules true (soundIn l r) g page) =
+    let same : firstBroken (pageRules (lengthsFit l) (l .ranks) (soundIn l r) g page) ≡ firstBroken (pageRules true (l .ranks) (soundIn l r) g page) =
     rw (isTrue (lengthsFit l) fit) refl in
     let n = d .number ∙ same in (
       n,
@@ -127,15 +135,26 @@ page-on l saved g page report (some r) fit =
           (k .1, k .2, saved-kept (pageNumber (x .answer)) (x .saved) saved number, page-report-kept report (x .answer) number),
     )
 
-page-refuses : (l : Lent) (saved : List ℕ) (g : ℕ) (page report : List ℕ) (b : Bool) → buffersFit l saved report pageReportWidth ≡ b
+pub page-is : (l : Lent) (saved : List ℕ) (g : ℕ) (page report : List ℕ) → buffersFit l saved report pageReportWidth ≡ true → isAlphabet (l .ranks) ≡ true
+    → pageExport l saved g page report ≡ pageOn l g page saved report (savedFrom saved)
+unfolding pageExport
+page-is l saved g page report e good = rw (e, good, pageExport) refl
+
+page-answers : (l : Lent) (saved : List ℕ) (g : ℕ) (page report : List ℕ) → buffersFit l saved report pageReportWidth ≡ true → isAlphabet (l .ranks) ≡ true
     → PageRefuses l saved g page report
-unfolding pageExport firstBroken
-page-refuses l saved g page report false e = record { number = rw (e, pageExport) refl; keeps = λ h. rw (e, pageExport) (refl, refl, refl, refl) }
-page-refuses l saved g page report true e =
+page-answers l saved g page report e good =
     let fit = andLeft (lengthsFit l) (eqb (length saved) savedWidth && eqb (length report) pageReportWidth)
     (trueIs (buffersFit l saved report pageReportWidth) e) in
-    let r = page-on l saved g page report (savedFrom saved) fit in
-    record { number = rw (e, pageExport) (r .0); keeps = rw (e, pageExport) (r .1) }
+    let r = page-on l saved g page report (savedFrom saved) fit good in
+    let same = page-is l saved g page report e good in
+    record { number = rw (same, e) (r .0); keeps = rw (same, e) (r .1) }
+
+page-refuses : (l : Lent) (saved : List ℕ) (g : ℕ) (page report : List ℕ) (b a : Bool) → buffersFit l saved report pageReportWidth ≡ b → isAlphabet (l .ranks) ≡ a
+    → PageRefuses l saved g page report
+unfolding pageExport firstBroken
+page-refuses l saved g page report true false e bad = record { number = rw (e, bad, pageExport) refl; keeps = λ h. rw (e, bad, pageExport) (refl, refl, refl, refl) }
+page-refuses l saved g page report false a e good = record { number = rw (e, pageExport) refl; keeps = λ h. rw (e, pageExport) (refl, refl, refl, refl) }
+page-refuses l saved g page report true true e good = page-answers l saved g page report e good
 
 module _ (terms schema script report : List ℕ) where
   total-report-kept : (a : TotalAnswer) → (totalNumber a ≡ 0 → ⊥) → totalReport report a ≡ report
@@ -158,7 +177,7 @@ module _ (terms schema script report : List ℕ) where
 pub export-refusals : ExportRefusals
 export-refusals = record {
   load = λ l saved. load-refuses l saved (eqb (length saved) savedWidth) refl;
-  run = λ l saved budget now report. run-refuses l saved budget now report (buffersFit l saved report runReportWidth) refl;
-  page = λ l saved g page report. page-refuses l saved g page report (buffersFit l saved report pageReportWidth) refl;
+  run = λ l saved budget now report. run-refuses l saved budget now report (buffersFit l saved report runReportWidth) (isAlphabet (l .ranks)) refl refl;
+  page = λ l saved g page report. page-refuses l saved g page report (buffersFit l saved report pageReportWidth) (isAlphabet (l .ranks)) refl refl;
   total = λ terms schema script report. total-refuses terms schema script report (eqb (length report) totalReportWidth) refl;
 }

@@ -18,3 +18,4 @@ pub mod ExactSteps
 pub mod OneOrder
 pub mod Truths
 pub mod DemandsApply
+pub mod Alphabets

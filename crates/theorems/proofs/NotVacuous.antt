@@ -7,7 +7,7 @@ use mathlib.Core.Bool.{Bool, true, false}
 use mathlib.Core.Option.{none, some}
 use lib.IntN.{pos}
 use lib.ListN.{length, replicate}
-use Rattle.definitions.specs.Limits.{termTableWidth, quadTableWidth}
+use Rattle.definitions.specs.Limits.{ranksWidth, termTableWidth, quadTableWidth}
 use Rattle.definitions.specs.Ascii.{ascii}
 use Rattle.definitions.specs.Types.{Datatype, plain}
 use Rattle.definitions.specs.Terms.{Term}
@@ -15,7 +15,8 @@ use Rattle.definitions.specs.Tree.{var, const, Query, success, fromNamed, block
 use Rattle.definitions.specs.Outcome.{Outcome, ok, fault}
 use Rattle.definitions.specs.Machine.{loaded}
 use Rattle.definitions.specs.Result.{passed}
-use Rattle.definitions.specs.Calls.{Checked, check}
+use Rattle.definitions.specs.Alphabet.{builtIn}
+use Rattle.definitions.specs.Calls.{Lengths, Checked, check}
 use Rattle.definitions.specs.CallList.{Call, running, paging, Answer, ran, paged, Done, machineCalls}
 use Rattle.definitions.specs.declared.RunState.the-variants.{Ended, Wanted, Waiting, Spent}
 use Rattle.definitions.specs.declared.RunAnswer.the-variants as RunAnswers
@@ -52,11 +53,14 @@ script mode =
     ∷ 0x61 ∷ 0x32 ∷ 1 ∷ 0 ∷ 0x31 ∷ 0 ∷ 0x32 ∷ 2 ∷ 0 ∷ 0x31 ∷ 1
     ∷ 0x71 ∷ []
 
+whole : Lengths
+whole = record { ranks = ranksWidth; termTable = termTableWidth; quadTable = quadTableWidth }
+
 run : (budget : ℕ) → Call
-run budget = running termTableWidth quadTableWidth budget (pos 0)
+run budget = running whole budget (pos 0)
 
 take : (page : List ℕ) → Call
-take p = paging termTableWidth quadTableWidth 1 p
+take p = paging whole 1 p
 
 -- ── what loading finds ──────────────────────────────────────────────────────────────────────
 
@@ -92,13 +96,13 @@ each-calls : List Call
 each-calls = run 10 ∷ take page ∷ run 2 ∷ run 10 ∷ []
 
 each-runs :
-    told (machineCalls (found true) each-calls (loaded (found true .terms) (found true .root)))
+    told (machineCalls (found true) builtIn each-calls (loaded (found true .terms) (found true .root)))
     ≡ (ran (RunAnswers.Ran 0 (Wanted 1)), 0)
     ∷ (paged (PageAnswers.Taken 2), 1)
     ∷ (ran (RunAnswers.Ran 2 Spent), 2)
     ∷ (ran (RunAnswers.Ran 4 Ended), 4)
     ∷ []
-unfolding found uri number opened run take page triple told each-calls
+unfolding found uri number opened whole run take page triple told each-calls
 each-runs = refl
 
 -- an empty page, and the block waits; then the page: three steps in all, as many as it has records of kinds 71 to 74
@@ -106,17 +110,17 @@ once-calls : List Call
 once-calls = run 10 ∷ take [] ∷ run 10 ∷ take page ∷ run 10 ∷ []
 
 once-runs :
-    told (machineCalls (found false) once-calls (loaded (found false .terms) (found false .root)))
+    told (machineCalls (found false) builtIn once-calls (loaded (found false .terms) (found false .root)))
     ≡ (ran (RunAnswers.Ran 0 (Wanted 1)), 0)
     ∷ (paged (PageAnswers.Taken 0), 1)
     ∷ (ran (RunAnswers.Ran 1 Waiting), 1)
     ∷ (paged (PageAnswers.Taken 2), 1)
     ∷ (ran (RunAnswers.Ran 2 Ended), 2)
     ∷ []
-unfolding found uri number opened run take page triple told once-calls
+unfolding found uri number opened whole run take page triple told once-calls
 once-runs = refl
 
 -- ── the theorem applies ─────────────────────────────────────────────────────────────────────
 
-each-safe : (calls : List Call) → Safe (found true) calls (loaded (found true .terms) (found true .root))
-each-safe calls = safety-from-load terms schema (script 1) (found true) each-accepted calls
+each-safe : (calls : List Call) → Safe (found true) builtIn calls (loaded (found true .terms) (found true .root))
+each-safe calls = safety-from-load terms schema (script 1) (found true) each-accepted builtIn calls

@@ -18,7 +18,7 @@ use Rattle.definitions.specs.Evaluate.{sameQuad, stored}
 use Rattle.definitions.specs.Machine.{Item, State, Run, lastOf, loaded, inLimits, inOrder}
 use Rattle.definitions.specs.Result.{Result, refused, passed}
 use Rattle.definitions.specs.Calls as Calls
-use Rattle.definitions.specs.Calls.{Checked, check, constantsOf, reported, tablesFit, runIn, PageTaken, takeIn}
+use Rattle.definitions.specs.Calls.{Checked, check, constantsOf, reported, Lengths, tablesFit, runIn, PageTaken, takeIn}
 use Rattle.definitions.specs.CallList.{Call, running, paging, ran, Done, runDone, pageDone, machineCall, machineCalls}
 use Rattle.definitions.specs.declared.RunState.{RunState}
 use Rattle.definitions.specs.declared.RunState.the-variants.{Spent}
@@ -140,9 +140,9 @@ module _ (c : Checked) (accepted : Accepted c) where
 
 -- a run call reports the states that it passes, at most its budget and as many where it is spent
 abbrev pub Counted : Call → Done → Type 0
-Counted (running m n budget now) d =
+Counted (running n budget now) d =
     (k : ℕ) (r : RunState) → d .answer ≡ ran (RunAnswers.Ran k r) → (k ≡ length (d .passed)) × (k ≤ budget) × (r ≡ Spent → k ≡ budget)
-Counted (paging m n g page) d = Unit {0}
+Counted (paging n g page) d = Unit {0}
 
 pub record CallSound (c : Checked) (x : Call) (d : Done) : Type 0 where
   -- every state that the call passes is sound, and so well typed
@@ -151,14 +151,14 @@ pub record CallSound (c : Checked) (x : Call) (d : Done) : Type 0 where
   pub counted : Counted x d
 
 module _ (c : Checked) (accepted : Accepted c) where
-  module _ (m n budget : ℕ) (now : ℤ) where
-    refused-run : (x : ℕ) → Fine (CallSound c (running m n budget now)) (runDone (refused x))
+  module _ (n : Lengths) (budget : ℕ) (now : ℤ) where
+    refused-run : (x : ℕ) → Fine (CallSound c (running n budget now)) (runDone (refused x))
     unfolding runDone
     refused-run x =
         fine {a = record { answer = ran (RunAnswers.Refused x); passed = [] }}
         (record { passed = tt; typed = tt; counted = λ k r e. absurd (let z : _≡_ {A = ℕ} 0 1 = cc in omega arith) })
 
-    passed-run : {o : Outcome Run} → Fine (RunSound c budget) o → Fine (CallSound c (running m n budget now)) (runDone (passed o))
+    passed-run : {o : Outcome Run} → Fine (RunSound c budget) o → Fine (CallSound c (running n budget now)) (runDone (passed o))
     unfolding runDone
     passed-run h = fine-then h λ r p. fine {a = record { answer = ran (RunAnswers.Ran (length (r .passed)) (r .ending)); passed = r .passed }} (record {
       passed = p .passed;
@@ -169,23 +169,23 @@ module _ (c : Checked) (accepted : Accepted c) where
           (omega (arith, steps), omega (arith, steps, p .steps), λ s. let spent = p .spent (ending ∙ s) in omega (arith, steps, spent));
     })
 
-  paged-call : (m n g : ℕ) (page : List ℕ) (r : Result PageTaken) → ((k : PageTaken) → r ≡ passed k → Sound c (k .state))
-      → CallSound c (paging m n g page) (pageDone r)
+  paged-call : (n : Lengths) (g : ℕ) (page : List ℕ) (r : Result PageTaken) → ((k : PageTaken) → r ≡ passed k → Sound c (k .state))
+      → CallSound c (paging n g page) (pageDone r)
   unfolding pageDone
-  paged-call m n g page (refused x) h = record { passed = tt; typed = tt; counted = tt }
-  paged-call m n g page (passed k) h = record { passed = (h k refl, tt); typed = (well-typed c accepted (k .state) (h k refl), tt); counted = tt }
+  paged-call n g page (refused x) h = record { passed = tt; typed = tt; counted = tt }
+  paged-call n g page (passed k) h = record { passed = (h k refl, tt); typed = (well-typed c accepted (k .state) (h k refl), tt); counted = tt }
 
-  pub call-sound : (x : Call) (s : State) → Sound c s → Fine (CallSound c x) (machineCall c x s)
+  pub call-sound : (ranks : List ℕ) (x : Call) (s : State) → Sound c s → Fine (CallSound c x) (machineCall c ranks x s)
   unfolding machineCall runIn
-  call-sound (running m n budget now) s h =
-      let ask : Result (Outcome Run) → Type 0 = λ r. Fine (CallSound c (running m n budget now)) (runDone r) in
-      by-require ask 1 (tablesFit m n) _ (refused-run m n budget now 1)
-      (by-require ask 11 (leb budget budgetLimit && isDateTime now) _ (refused-run m n budget now 11)
-      (passed-run m n budget now (run-sound c accepted now budget s h)))
-  call-sound (paging m n g page) s h =
-      fine (by-require (λ r. CallSound c (paging m n g page) (pageDone r)) 1 (tablesFit m n) (takeIn c g page s)
-      (paged-call m n g page (refused 1) (λ k e. absurd (not-refused e)))
-      (paged-call m n g page (takeIn c g page s) (λ k e. page-sound c accepted g page s k h e)))
+  call-sound ranks (running n budget now) s h =
+      let ask : Result (Outcome Run) → Type 0 = λ r. Fine (CallSound c (running n budget now)) (runDone r) in
+      by-require ask 1 (tablesFit n) _ (refused-run n budget now 1)
+      (by-require ask 11 (leb budget budgetLimit && isDateTime now) _ (refused-run n budget now 11)
+      (passed-run n budget now (run-sound c accepted ranks now budget s h)))
+  call-sound ranks (paging n g page) s h =
+      fine (by-require (λ r. CallSound c (paging n g page) (pageDone r)) 1 (tablesFit n) (takeIn c g page s)
+      (paged-call n g page (refused 1) (λ k e. absurd (not-refused e)))
+      (paged-call n g page (takeIn c g page s) (λ k e. page-sound c accepted g page s k h e)))
 
 -- ── any list of calls ───────────────────────────────────────────────────────────────────────
 
@@ -196,28 +196,28 @@ Each P [] (d ∷ ds) = ⊥
 Each P (x ∷ xs) [] = ⊥
 Each P (x ∷ xs) (d ∷ ds) = P x d × Each P xs ds
 
-calls-sound : (c : Checked) → Accepted c → (xs : List Call) (s : State) → Sound c s → Fine (Each (CallSound c) xs) (machineCalls c xs s)
+calls-sound : (c : Checked) → Accepted c → (ranks : List ℕ) (xs : List Call) (s : State) → Sound c s → Fine (Each (CallSound c) xs) (machineCalls c ranks xs s)
 unfolding machineCalls
-calls-sound c accepted [] s h = fine tt
-calls-sound c accepted (x ∷ xs) s h =
-    fine-then (call-sound c accepted x s h) λ d p.
-    fine-then (calls-sound c accepted xs (lastOf s (d .passed)) (last-sound c s (d .passed) h (p .passed))) λ ds q. fine (p, q)
+calls-sound c accepted ranks [] s h = fine tt
+calls-sound c accepted ranks (x ∷ xs) s h =
+    fine-then (call-sound c accepted ranks x s h) λ d p.
+    fine-then (calls-sound c accepted ranks xs (lastOf s (d .passed)) (last-sound c s (d .passed) h (p .passed))) λ ds q. fine (p, q)
 
 -- no call meets a fault, and every state, from the first on, is well typed
-pub record Safe (c : Checked) (calls : List Call) (s : State) : Type 0 where
+pub record Safe (c : Checked) (ranks : List ℕ) (calls : List Call) (s : State) : Type 0 where
   pub start : WellTyped c s
   pub done : List Done
-  pub noFault : machineCalls c calls s ≡ ok done
+  pub noFault : machineCalls c ranks calls s ≡ ok done
   pub each : Each (CallSound c) calls done
 
-pub safety : (c : Checked) → Accepted c → (s : State) → Sound c s → (calls : List Call) → Safe c calls s
-safety c accepted s h calls =
-    let r = fine-ok (calls-sound c accepted calls s h) in
+pub safety : (c : Checked) → Accepted c → (s : State) → Sound c s → (ranks : List ℕ) (calls : List Call) → Safe c ranks calls s
+safety c accepted s h ranks calls =
+    let r = fine-ok (calls-sound c accepted ranks calls s h) in
     record { start = well-typed c accepted s h; done = r .0; noFault = r .1; each = r .2 }
 
 -- from the load of bytes that nothing refuses
-pub safety-from-load : (terms schema script : List ℕ) (c : Checked) → check terms schema script ≡ passed c → (calls : List Call)
-    → Safe c calls (loaded (c .terms) (c .root))
-safety-from-load terms schema script c e calls =
+pub safety-from-load : (terms schema script : List ℕ) (c : Checked) → check terms schema script ≡ passed c → (ranks : List ℕ) (calls : List Call)
+    → Safe c ranks calls (loaded (c .terms) (c .root))
+safety-from-load terms schema script c e ranks calls =
     let accepted = check-accepted terms schema script c e in
-    safety c accepted (loaded (c .terms) (c .root)) (loaded-sound c accepted) calls
+    safety c accepted (loaded (c .terms) (c .root)) (loaded-sound c accepted) ranks calls

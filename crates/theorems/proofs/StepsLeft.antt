@@ -175,12 +175,12 @@ module _ (s : State) (h : NoEach (s .control .stack)) where
   page-left (refused n) f = record { left = record { counted = omega arith; noneEach = h }; ended = tt }
   page-left (passed k) f = record { left = rw (f k refl) (record { counted = omega arith; noneEach = h }); ended = tt }
 
-pub call-left : (c : Checked) (x : Call) (s : State) → NoEach (s .control .stack) → OrFault (DoneLeft s) (machineCall c x s)
+pub call-left : (c : Checked) (ranks : List ℕ) (x : Call) (s : State) → NoEach (s .control .stack) → OrFault (DoneLeft s) (machineCall c ranks x s)
 unfolding machineCall runIn
-call-left c (running m n budget now) s h =
-    by-require (λ r. OrFault (DoneLeft s) (runDone r)) 1 (tablesFit m n) _ (refused-run s h 1)
+call-left c ranks (running n budget now) s h =
+    by-require (λ r. OrFault (DoneLeft s) (runDone r)) 1 (tablesFit n) _ (refused-run s h 1)
     (by-require (λ r. OrFault (DoneLeft s) (runDone r)) 11 (leb budget budgetLimit && isDateTime now) _ (refused-run s h 11)
-    (passed-run s h (run-left (settingOf c now) (typeAt (c .types)) budget s h)))
-call-left c (paging m n g page) s h =
-    holds (by-require (λ r. DoneLeft s (pageDone r)) 1 (tablesFit m n) (takeIn c g page s) (page-left s h (refused 1) (λ k e. absurd (not-refused e)))
+    (passed-run s h (run-left (settingOf c ranks now) (typeAt (c .types)) budget s h)))
+call-left c ranks (paging n g page) s h =
+    holds (by-require (λ r. DoneLeft s (pageDone r)) 1 (tablesFit n) (takeIn c g page s) (page-left s h (refused 1) (λ k e. absurd (not-refused e)))
     (page-left s h (takeIn c g page s) (λ k e. ap (λ (k : PageTaken). k .state .control) (page-passed c g s page k e .result))))

@@ -15,6 +15,7 @@ use lib.ListN.{length, getElem?}
 use lib.IntN.{ℤ}
 use Rattle.definitions.specs.Limits.{budgetLimit}
 use Rattle.definitions.specs.Lists.{every, some?, distinct, isEmpty}
+use Rattle.definitions.specs.Alphabet.{isAlphabet}
 use Rattle.definitions.specs.Bytes.{onward}
 use Rattle.definitions.specs.Terms.{Term, sameTerm, sameProperty, isDateTime, readTerms, readSchema}
 use Rattle.definitions.specs.Tree.{Script}
@@ -71,30 +72,33 @@ readRules terms schema script =
     ∷ (7, ifThere root inScope)  -- a variable unbound at its use, or bound by two pairs
     ∷ []
 
--- Loading checks 1 to 9 in that order. (`lengths`: the lent tables have their lengths.)
+-- Loading checks 1, 21, and 2 to 9 in that order. (`lengths`: the lent tables have their lengths.)
 abbrev pub loadRules : (lengths : Bool) → Lent → List (ℕ × Bool)
 loadRules lengths l =
     let all = onward (readSchema (l .schema)) (λ S. onward (numberedIn (l .terms) (l .schema)) (λ ts. onward (rootIn (l .terms) (l .schema) (l .script)) (λ c.
     some (typings (constantsOf S ts) (writtenTypes c) c)))) in
-    (1, lengths)  -- a lent table of another length
+    (1, lengths)  -- ranks or a lent table of another length
+    ∷ (21, isAlphabet (l .ranks))  -- ranks that are no alphabet
     ∷ readRules (l .terms) (l .schema) (l .script)
     ++ ((8, ifThere all (λ Γs. not (isEmpty Γs)))  -- no typing
     ∷ (9, ifThere all (λ Γs. some? (λ Γ. every (above Γ) Γs) Γs))  -- typings, none above the rest
     ∷ [])
 
--- Running: 1, 10, 11. (`found`: the sound state that saved run and tables hold, if they do.)
-abbrev pub runRules : (lengths : Bool) → (found : Option Sound) → (budget : ℕ) → (now : ℤ) → List (ℕ × Bool)
-runRules lengths found budget now =
+-- Running: 1, 21, 10, 11. (`found`: the sound state that saved run and tables hold, if they do.)
+abbrev pub runRules : (lengths : Bool) → (ranks : List ℕ) → (found : Option Sound) → (budget : ℕ) → (now : ℤ) → List (ℕ × Bool)
+runRules lengths ranks found budget now =
     (1, lengths)
+    ∷ (21, isAlphabet ranks)
     ∷ (10, isThere found)  -- saved run or tables unsound
     ∷ (11, leb budget budgetLimit && isDateTime now)  -- budget over 60,000, or now no dateTime
     ∷ []
 
--- A page: 1, 10, 12, 13, 14.
-abbrev pub pageRules : (lengths : Bool) → (found : Option Sound) → (graph : ℕ) → (page : List ℕ) → List (ℕ × Bool)
-pageRules lengths found g page =
+-- A page: 1, 21, 10, 12, 13, 14.
+abbrev pub pageRules : (lengths : Bool) → (ranks : List ℕ) → (found : Option Sound) → (graph : ℕ) → (page : List ℕ) → List (ℕ × Bool)
+pageRules lengths ranks found g page =
     let triples = pageIn page in
     (1, lengths)
+    ∷ (21, isAlphabet ranks)
     ∷ (10, isThere found)
     ∷ (12, ifThere found (λ x. isGraph (getElem? (x .state .store .terms) g)))  -- page graph no URI of the table
     ∷ (13, isThere triples)  -- page over 65,536 bytes or a bad record in it
@@ -108,10 +112,10 @@ abbrev pub loadBroken : Lent → ℕ
 loadBroken l = firstBroken (loadRules (lengthsFit l) l)
 
 abbrev pub runBroken : Lent → SavedRun → (budget : ℕ) → (now : ℤ) → ℕ
-runBroken l saved budget now = firstBroken (runRules (lengthsFit l) (soundIn l saved) budget now)
+runBroken l saved budget now = firstBroken (runRules (lengthsFit l) (l .ranks) (soundIn l saved) budget now)
 
 abbrev pub pageBroken : Lent → SavedRun → (graph : ℕ) → (page : List ℕ) → ℕ
-pageBroken l saved g page = firstBroken (pageRules (lengthsFit l) (soundIn l saved) g page)
+pageBroken l saved g page = firstBroken (pageRules (lengthsFit l) (l .ranks) (soundIn l saved) g page)
 
 -- the total: 2 to 7
 abbrev pub totalBroken : (terms schema script : List ℕ) → ℕ

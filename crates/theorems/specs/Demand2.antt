@@ -27,6 +27,7 @@ use Rattle.definitions.specs.Outcome.{ok}
 use Rattle.definitions.specs.Machine.{State, lastOf, withProperties}
 use Rattle.definitions.specs.Saved.{held}
 use Rattle.definitions.specs.Result.{passed}
+use Rattle.definitions.specs.Alphabet.{isAlphabet}
 use Rattle.definitions.specs.Calls.{Checked, constantsOf, sizesFit, check, reportedTypes, reported, Lent, lengthsFit, load, runCall, pageIn, pageCall, settingOf}
 use Rattle.definitions.specs.Numbers.{loadNumber}
 use Rattle.definitions.specs.declared.SavedRun.{SavedRun}
@@ -42,9 +43,14 @@ use Rattle.definitions.specs.declared.PageAnswer.the-variants as PageAnswers
 -- ── load ──────────────────────────────────────────────────────────────────────────────────────
 
 -- past refusals 1 to 7
+-- a refusal that comes before 8 does
+abbrev pub BeforeEight : ℕ → Type 0
+BeforeEight n = ((1 ≤ n) × (n ≤ 7)) ⊎ (n ≡ 21)
+
 pub record PastSeven (l : Lent) : Type 0 where
-  -- 1: the tables have their lengths
+  -- 1: ranks and tables have their lengths; 21: the ranks are an alphabet
   pub lengths : T (lengthsFit l)
+  pub ranks : T (isAlphabet (l .ranks))
   -- 2 and 3: the terms are read, none twice
   pub listed : List Term
   pub reads : readTerms (l .terms) ≡ some listed
@@ -95,11 +101,11 @@ pub record RunTakes (l : Lent) (saved : SavedRun) (budget : ℕ) (now : ℤ) (ra
   pub entry : held (checked .root) (l .termTable) (l .quadTable) saved ≡ some before
   -- from it the machine takes as many steps as are reported
   pub states : List State
-  pub isSteps : Steps (settingOf checked now) (typeAt (checked .types)) before states
+  pub isSteps : Steps (settingOf checked (l .ranks) now) (typeAt (checked .types)) before states
   pub count : length states ≡ steps
   pub inBudget : steps ≤ budget
   -- and stands as is reported, or could go on with the budget spent
-  pub ends : Ends (settingOf checked now) (typeAt (checked .types)) budget steps (lastOf before states) ending
+  pub ends : Ends (settingOf checked (l .ranks) now) (typeAt (checked .types)) budget steps (lastOf before states) ending
   -- the saved run handed back and the tables hold the state after the last step
   pub exit : held (checked .root) (l .termTable) (l .quadTable) (ran .saved) ≡ some (lastOf before states)
 
@@ -122,8 +128,8 @@ pub record PageTakes (l : Lent) (saved : SavedRun) (graph : ℕ) (page : List �
 -- ── the whole ─────────────────────────────────────────────────────────────────────────────────
 
 pub record Demand2 : Type 0 where
-  -- a load is refused with 1 to 7, or its script is past them
-  pub reaches : (l : Lent) → ((1 ≤ loadNumber (load l .returned .answer)) × (loadNumber (load l .returned .answer) ≤ 7)) ⊎ PastSeven l
+  -- a load is refused with 1 to 7 or 21, or its script is past them
+  pub reaches : (l : Lent) → BeforeEight (loadNumber (load l .returned .answer)) ⊎ PastSeven l
   pub load : (l : Lent) (p : PastSeven l) → LoadDecides p
   pub run : (l : Lent) (saved : SavedRun) (budget : ℕ) (now : ℤ) (ran : Ran) → runCall l saved budget now ≡ ok ran
       → (steps : ℕ) (ending : RunState) → ran .answer ≡ RunAnswers.Ran steps ending → RunTakes l saved budget now ran steps ending

@@ -69,7 +69,7 @@ pub record Demand3 (l : Lent) (calls : List HostCall) : Type 0 where
   pub startTyped : WellTyped checked (loaded (checked .terms) (checked .root))
   -- fed the same calls it stops at no fault; its look with no budget left, which tells waiting from spent, is part of it
   pub done : List Done
-  pub noFault : machineCalls checked (map fed calls) (loaded (checked .terms) (checked .root)) ≡ ok done
+  pub noFault : machineCalls checked (l .ranks) (map fed calls) (loaded (checked .terms) (checked .root)) ≡ ok done
   -- and the calls, each on what the one before left, agree with it
   pub handed : List Handed
   pub given : engineCalls l calls (keptAfterLoad l) ≡ ok handed

@@ -27,10 +27,10 @@ abbrev pub loadBroken : Lent → (saved : List ℕ) → ℕ
 loadBroken l saved = firstBroken (loadRules (lengthsFit l && eqb (length saved) savedWidth) l)
 
 abbrev pub runBroken : Lent → (saved : List ℕ) → (budget : ℕ) → (now : ℤ) → (report : List ℕ) → ℕ
-runBroken l saved budget now report = firstBroken (runRules (buffersFit l saved report runReportWidth) (soundBytes l saved) budget now)
+runBroken l saved budget now report = firstBroken (runRules (buffersFit l saved report runReportWidth) (l .ranks) (soundBytes l saved) budget now)
 
 abbrev pub pageBroken : Lent → (saved : List ℕ) → (graph : ℕ) → (page report : List ℕ) → ℕ
-pageBroken l saved g page report = firstBroken (pageRules (buffersFit l saved report pageReportWidth) (soundBytes l saved) g page)
+pageBroken l saved g page report = firstBroken (pageRules (buffersFit l saved report pageReportWidth) (l .ranks) (soundBytes l saved) g page)
 
 -- its report alone has a length to keep
 abbrev pub totalBroken : (terms schema script report : List ℕ) → ℕ

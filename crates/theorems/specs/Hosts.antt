@@ -1,16 +1,15 @@
--- A list of run and page calls as a host makes them after a load: each call is lent terms, schema and script of the load again, and saved run and tables as
--- the call before left them. Except where 1 refuses: a call that is lent a table of another length may be lent anything.
+-- A list of run and page calls as a host makes them after a load: each call is lent ranks, terms, schema and script of the load again, and saved run and tables as
+-- the call before left them. Except where 1 refuses: a call that is lent ranks or a table of another length may be lent anything.
 use Prim.Native.Nat.{ℕ}
 use mathlib.Core.List.{List, [], _∷_}
 use mathlib.Core.Bool.{not}
 use lib.Dec.{T}
-use lib.ListN.{length}
 use lib.IntN.{ℤ}
-use Rattle.definitions.specs.Limits.{termTableWidth, quadTableWidth}
+use Rattle.definitions.specs.Limits.{ranksWidth, termTableWidth, quadTableWidth}
 use Rattle.definitions.specs.Outcome.{Outcome, ok, _>>=_}
 use Rattle.definitions.specs.Machine.{State}
 use Rattle.definitions.specs.Saved.{termTable, quadTable, savedOf}
-use Rattle.definitions.specs.Calls.{Checked, reported, Lent, lengthsFit, load, runCall, pageCall}
+use Rattle.definitions.specs.Calls.{Checked, reported, Lent, Lengths, lengthsOf, lengthsFit, load, runCall, pageCall}
 use Rattle.definitions.specs.CallList.{Call, Answer, ran, paged}
 use Rattle.definitions.specs.Numbers.{runNumber, pageNumber}
 use Rattle.definitions.specs.declared.SavedRun.{SavedRun}
@@ -23,7 +22,7 @@ pub record Kept : Type 0 where
   pub termTable : List ℕ
   pub quadTable : List ℕ
 
--- what is lent to a call: what the call before left; or others, of which a table has another length, with any saved run and any records
+-- what is lent to a call: what the call before left; or others, of which ranks or a table have another length, with any saved run and any records
 pub data Lending : Type 0 where
   asLeft : Lending
   others : (l : Lent) → (saved : SavedRun) → T (not (lengthsFit l)) → Lending
@@ -38,18 +37,14 @@ lending (HostCall.paging t g page) = t
 
 -- ── what the machine is fed of it ───────────────────────────────────────────────────────────
 
-abbrev pub termBytes : Lending → ℕ
-termBytes asLeft = termTableWidth
-termBytes (others l saved wrong) = length (l .termTable)
+abbrev pub lengthsLent : Lending → Lengths
+lengthsLent asLeft = record { ranks = ranksWidth; termTable = termTableWidth; quadTable = quadTableWidth }
+lengthsLent (others l saved wrong) = lengthsOf l
 
-abbrev pub quadBytes : Lending → ℕ
-quadBytes asLeft = quadTableWidth
-quadBytes (others l saved wrong) = length (l .quadTable)
-
--- only the table lengths with budget and now, or with graph number and page
+-- only the lengths of ranks and tables with budget and now, or with graph number and page
 abbrev pub fed : HostCall → Call
-fed (HostCall.running t budget now) = Call.running (termBytes t) (quadBytes t) budget now
-fed (HostCall.paging t g page) = Call.paging (termBytes t) (quadBytes t) g page
+fed (HostCall.running t budget now) = Call.running (lengthsLent t) budget now
+fed (HostCall.paging t g page) = Call.paging (lengthsLent t) g page
 
 -- ── the calls, one after the other ──────────────────────────────────────────────────────────
 
@@ -86,10 +81,10 @@ keptAfterAll [] k hs = k
 keptAfterAll (x ∷ xs) k [] = k
 keptAfterAll (x ∷ xs) k (h ∷ hs) = keptAfterAll xs (keptAfter (lending x) k h) hs
 
--- what the load was lent gives terms, schema and script to every call
+-- what the load was lent gives ranks, terms, schema and script to every call
 module _ (l : Lent) where
   abbrev pub lentTo : Lending → Kept → Lent
-  lentTo asLeft k = record { terms = l .terms; schema = l .schema; script = l .script; termTable = k .termTable; quadTable = k .quadTable }
+  lentTo asLeft k = record { ranks = l .ranks; terms = l .terms; schema = l .schema; script = l .script; termTable = k .termTable; quadTable = k .quadTable }
   lentTo (others x saved wrong) k = x
 
   -- a run call only reads the tables

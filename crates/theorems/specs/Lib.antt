@@ -10,3 +10,4 @@ pub mod OnBytes
 pub mod ExactSteps
 pub mod OneOrder
 pub mod Truths
+pub mod Alphabets

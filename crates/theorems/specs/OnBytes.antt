@@ -69,10 +69,10 @@ afterAll [] k es = k
 afterAll (x ∷ xs) k [] = k
 afterAll (x ∷ xs) k (e ∷ es) = afterAll xs (after x k e) es
 
--- what the load was lent gives terms, schema and script to every call
+-- what the load was lent gives ranks, terms, schema and script to every call
 module _ (l : Lent) where
   abbrev pub lentTo : {width : ℕ} → Lending width → KeptBytes → Lent
-  lentTo (asLeft report fits) k = record { terms = l .terms; schema = l .schema; script = l .script; termTable = k .termTable; quadTable = k .quadTable }
+  lentTo (asLeft report fits) k = record { ranks = l .ranks; terms = l .terms; schema = l .schema; script = l .script; termTable = k .termTable; quadTable = k .quadTable }
   lentTo (others x saved report wrong) k = x
 
   -- a run call only reads the tables
@@ -97,7 +97,7 @@ module _ (l : Lent) where
 -- tables of no bytes: for the machine, a buffer of another length is a table of another length, whichever it is
 unfoldable pub noTables : Hosts.Lending
 unfolding tablesFit
-noTables = Hosts.others (record { terms = []; schema = []; script = []; termTable = []; quadTable = [] }) noRun tt
+noTables = Hosts.others (record { ranks = []; terms = []; schema = []; script = []; termTable = []; quadTable = [] }) noRun tt
 
 abbrev pub lendingOf : {width : ℕ} → Lending width → Hosts.Lending
 lendingOf (asLeft report fits) = Hosts.asLeft

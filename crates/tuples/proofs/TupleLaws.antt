@@ -1,11 +1,11 @@
 -- Tuples one after the other, each with its line, for the block on top.
-use Prim.Native.Nat.{ℕ, zero, suc, _+_, _*_, _/_, _≤_}
+use Prim.Native.Nat.{ℕ, zero, suc, _+_, _*_, _/_}
 use native.Mathlib.Omega.{arith}
 use native.Mathlib.Numerals.{add-one}
 use mathlib.Core.Path.{_≡_, refl, sym, ap, subst, _∙_}
 use mathlib.Core.List.{List, [], _∷_, _++_, append-assoc, append-nil}
 use mathlib.Core.Bool.{Bool}
-use mathlib.Core.Option.{Option, none, some}
+use mathlib.Core.Option.{none}
 use lib.ListN.{length}
 use Rattle.definitions.specs.Limits.{pairLimit}
 use Rattle.definitions.specs.Ascii.{ascii}
@@ -27,7 +27,7 @@ use Rattle.machine.proofs.StepLaws.{top, blocked}
 use Rattle.machine.proofs.RunLaws.{no-item}
 use Rattle.output.specs.Written.{Written}
 use Rattle.output.proofs.WritingLaws.{written-none, written-as, written-then}
-use Rattle.tuples.specs.Asking.{tupleWidth, Asked, tuplesFrom, tuplesIn, askedBy, askedOn, tupleLine, tupleLines, askedLines}
+use Rattle.tuples.specs.Asking.{tupleWidth, tuplesFrom, tuplesIn, askedBy, askedOn, tupleLine, tupleLines, askedLines}
 use Rattle.tuples.specs.Lines.{triedLine, soundHere, TuplesWritten, linesHere}
 use Rattle.tuples.proofs.LineLaws.{line-is}
 
@@ -57,10 +57,10 @@ tuples-more f s (suc k) at =
 
 -- ── with the block on top ───────────────────────────────────────────────────────────────────
 
-module _ {script table quads leasts : List ℕ} {x : Context} {run : SavedControl} (w : Lends script table quads leasts x run) where
+module _ {script ranks table quads leasts : List ℕ} {x : Context} {run : SavedControl} (w : Lends script ranks table quads leasts x run) where
   module _ {at : ℕ} (t : Top (w .here) at) where
     line-here : (tuple : Tuple) (r : Tried) → TriesNow w t tuple r → (each : Bool) (bs : List Binder) (q : Query) (c : Script) → t .item .script ≡ block at each bs q c
-        → triedLine r ≡ tupleLine (soundHere w) (signed (x .clock)) (record { variables = variablesOf bs; query = q }) tuple
+        → triedLine r ≡ tupleLine (soundHere w) ranks (signed (x .clock)) (record { variables = variablesOf bs; query = q }) tuple
     unfolding tupleLine
     line-here tuple r h each bs q c is =
         let s = w .here .state in
@@ -76,7 +76,7 @@ module _ {script table quads leasts : List ℕ} {x : Context} {run : SavedContro
     pub tuples-next : (tuples : List ℕ) (k : ℕ) {old mid new : List ℕ} {e r : ℕ} → TuplesWritten w t k tuples old mid e → {tuple : Tuple} → tuple ≡ wordsFrom pairLimit tuples (tupleWidth * k)
         → (y : Tried) → TriesNow w t tuple y → Written (triedLine y) mid new e r → TuplesWritten w t (k + 1) tuples old new r
     tuples-next tuples k h {tuple} f y g z each bs q c is =
-        let line = tupleLine (soundHere w) (signed (x .clock)) (record { variables = variablesOf bs; query = q }) in
+        let line = tupleLine (soundHere w) ranks (signed (x .clock)) (record { variables = variablesOf bs; query = q }) in
         let from : tupleWidth * k ≡ 0 + tupleWidth * k = omega arith in
         let one : triedLine y ≡ line (wordsFrom pairLimit tuples (0 + tupleWidth * k)) =
         line-here tuple y g each bs q c is ∙ ap line (f ∙ ap (wordsFrom pairLimit tuples) from) in
@@ -99,11 +99,11 @@ module _ {script table quads leasts : List ℕ} {x : Context} {run : SavedContro
         let b = blocked (onTop (w .here) t) k in
         let e = asks ∙ ap askedBy (b .is) in
         written-as (h (b .reads .each) (b .reads .binders) (b .reads .query) (b .reads .body) (b .is))
-        (sym (ap (askedLines (soundHere w) (signed (x .clock)) (tuplesIn tuples)) e))
+        (sym (ap (askedLines (soundHere w) ranks (signed (x .clock)) (tuplesIn tuples)) e))
 
     pub other-here : (byte script at ≡ 0x73 → ⊥) → (tuples : List ℕ) → line (ascii "no block") ≡ linesHere w tuples
     unfolding askedBy askedLines
-    other-here k tuples = sym (ap (askedLines (soundHere w) (signed (x .clock)) (tuplesIn tuples)) (asks ∙ go (t .item .script) (top (onTop (w .here) t) .is)))
+    other-here k tuples = sym (ap (askedLines (soundHere w) ranks (signed (x .clock)) (tuplesIn tuples)) (asks ∙ go (t .item .script) (top (onTop (w .here) t) .is)))
       where
         go : (c : Script) → ReadsAs script (x .loaded) (top (onTop (w .here) t) .left) at c (top (onTop (w .here) t) .ends) → askedBy c ≡ none
         go (success o) r = refl
@@ -113,4 +113,4 @@ module _ {script table quads leasts : List ℕ} {x : Context} {run : SavedContro
 
   pub none-here : run .height ≡ 0 → (tuples : List ℕ) → line (ascii "no block") ≡ linesHere w tuples
   unfolding askedOn askedLines
-  none-here e tuples = sym (ap (λ (stack : List _). askedLines (soundHere w) (signed (x .clock)) (tuplesIn tuples) (askedOn stack)) (no-item (w .here) e))
+  none-here e tuples = sym (ap (λ (stack : List _). askedLines (soundHere w) ranks (signed (x .clock)) (tuplesIn tuples) (askedOn stack)) (no-item (w .here) e))

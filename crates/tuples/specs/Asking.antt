@@ -19,6 +19,7 @@ use Rattle.definitions.specs.Search.{Tuple, bind}
 use Rattle.definitions.specs.Machine.{Item}
 use Rattle.definitions.specs.Result.{Result, refused, passed, _>>=_, _>>_, require, given}
 use Rattle.definitions.specs.Calls.{Lent, Sound, settingOf, entryTests}
+use Rattle.definitions.specs.Alphabet.{isAlphabet}
 use Rattle.definitions.specs.Exports.{wordsFrom, savedFrom}
 use Rattle.definitions.specs.Printer.{line}
 use Rattle.search.specs.Trying.{tupleFits}
@@ -62,13 +63,14 @@ outcomeText (ok false) = ascii "false "
 outcomeText (fault f) = ascii "fault "
 
 -- the tuple's terms for the block's variables, the run's other bindings, and this now
-unfoldable pub tupleLine : Sound → (now : ℤ) → Asked → Tuple → List ℕ
-tupleLine x now a t =
+unfoldable pub tupleLine : Sound → (ranks : List ℕ) → (now : ℤ) → Asked → Tuple → List ℕ
+tupleLine x ranks now a t =
     let c = x .checked in
+    let here = settingOf c ranks now in
     let s = x .state .store in
     let β = bind (a .variables) t (x .state .control .bindings) in
     elim (tupleFits (c .schema) (typeAt (c .types)) (s .terms) (a .variables) t) [
-      | true ↦ line (outcomeText (query (settingOf c now) (s .terms) (s .quads) β (a .query)) ++ naturalText (queryRecords (settingOf c now) (s .terms) (s .quads) β (a .query)))
+      | true ↦ line (outcomeText (query here (s .terms) (s .quads) β (a .query)) ++ naturalText (queryRecords here (s .terms) (s .quads) β (a .query)))
       | false ↦ line (ascii "bad")
     ]
 
@@ -76,20 +78,21 @@ unfoldable pub tupleLines : (Tuple → List ℕ) → List Tuple → List ℕ
 tupleLines f [] = []
 tupleLines f (t ∷ ts) = f t ++ tupleLines f ts
 
-unfoldable pub askedLines : Sound → (now : ℤ) → List Tuple → Option Asked → List ℕ
-askedLines x now ts none = line (ascii "no block")
-askedLines x now ts (some a) = tupleLines (tupleLine x now a) ts
+unfoldable pub askedLines : Sound → (ranks : List ℕ) → (now : ℤ) → List Tuple → Option Asked → List ℕ
+askedLines x ranks now ts none = line (ascii "no block")
+askedLines x ranks now ts (some a) = tupleLines (tupleLine x ranks now a) ts
 
 -- ── on a saved run ──────────────────────────────────────────────────────────────────────────
 
--- as a run call is refused: 10, also for bytes that no saved run has, then 11 for now
+-- as a run call is refused: 21, then 10, also for bytes that no saved run has, then 11 for now
 unfoldable pub entered : Lent → (saved : List ℕ) → (now : ℤ) → Result Sound
 entered l saved now = do
+  require 21 (isAlphabet (l .ranks))
   run ← given 10 (savedFrom saved)
   x ← entryTests l run
   require 11 (isDateTime now)
   passed x
 
-unfoldable pub enteredLines : (now : ℤ) → List Tuple → Result Sound → List ℕ
-enteredLines now ts (refused n) = line (ascii "refused " ++ naturalText n)
-enteredLines now ts (passed x) = askedLines x now ts (askedOn (x .state .control .stack))
+unfoldable pub enteredLines : (ranks : List ℕ) → (now : ℤ) → List Tuple → Result Sound → List ℕ
+enteredLines ranks now ts (refused n) = line (ascii "refused " ++ naturalText n)
+enteredLines ranks now ts (passed x) = askedLines x ranks now ts (askedOn (x .state .control .stack))

@@ -27,7 +27,7 @@ truthText b = cond b (ascii "true ") (ascii "false ")
 unfoldable pub triedLine : Tried → List ℕ
 triedLine r = cond (r .fits) (line (truthText (r .holds) ++ naturalText (r .records))) (line (ascii "bad"))
 
-module _ {script table quads leasts : List ℕ} {x : Context} {run : SavedControl} (w : Lends script table quads leasts x run) where
+module _ {script ranks table quads leasts : List ℕ} {x : Context} {run : SavedControl} (w : Lends script ranks table quads leasts x run) where
   -- the state that the run is at
   abbrev pub soundHere : Sound
   soundHere = record { checked = w .here .checked; state = w .here .state }
@@ -36,8 +36,8 @@ module _ {script table quads leasts : List ℕ} {x : Context} {run : SavedContro
   abbrev pub TuplesWritten : {at : ℕ} → Top (w .here) at → (count : ℕ) → (tuples old new : List ℕ) → (r : ℕ) → Type 0
   TuplesWritten {at} t count tuples old new r =
       (each : Bool) (bs : List Binder) (q : Query) (c : Script) → t .item .script ≡ block at each bs q c
-      → Written (tupleLines (tupleLine soundHere (signed (x .clock)) (record { variables = variablesOf bs; query = q })) (tuplesFrom count tuples 0)) old new 0 r
+      → Written (tupleLines (tupleLine soundHere ranks (signed (x .clock)) (record { variables = variablesOf bs; query = q })) (tuplesFrom count tuples 0)) old new 0 r
 
   -- the lines of a state that was entered
   abbrev pub linesHere : (tuples : List ℕ) → List ℕ
-  linesHere tuples = askedLines soundHere (signed (x .clock)) (tuplesIn tuples) (askedOn (w .here .state .control .stack))
+  linesHere tuples = askedLines soundHere ranks (signed (x .clock)) (tuplesIn tuples) (askedOn (w .here .state .control .stack))

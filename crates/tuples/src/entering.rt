@@ -2,11 +2,13 @@
 ghost use mathlib.Core.Path.{_≡_};
 ghost use mathlib.Core.List.{_++_};
 ghost use Prim.Native.Nat.{_*_, _/_, _≤_};
+ghost use lib.Dec.{T};
 ghost use lib.ListN.{length};
 ghost use Rattle.definitions.specs.Limits.{savedWidth};
 ghost use Rattle.definitions.specs.Ascii.{ascii};
 ghost use Rattle.definitions.specs.Bytes.{signed};
 ghost use Rattle.definitions.specs.Values.{naturalText};
+ghost use Rattle.definitions.specs.Calls.{lengthsFit};
 ghost use Rattle.definitions.specs.Printer.{line};
 ghost use Rattle.entry.specs.Entry.{lentOf};
 ghost use Rattle.output.specs.Written.{Written};
@@ -18,8 +20,8 @@ use definitions::QUAD_LIMIT;
 use definitions::SECONDS_AFTER;
 use definitions::SECONDS_BEFORE;
 use definitions::TERM_LIMIT;
-use definitions::UNSOUND;
 use entry::enter;
+use entry::unread_number;
 use fields::numbers::within;
 use layout::reading::read_saved;
 use output::put_byte;
@@ -41,6 +43,7 @@ fn put_refused(refusal: u8, out: &mut [u8]) -> usize
 // What tuples on a saved run come to: a refusal as of a run call, or lines.
 // Ruled out: a now that no run call takes; another refusal told where no saved run has the bytes.
 pub fn put_entered(
+    ranks: &[u8],
     terms: &[u8],
     schema: &[u8],
     script: &[u8],
@@ -51,22 +54,24 @@ pub fn put_entered(
     tuples: &[u8],
     out: &mut [u8],
 ) -> usize
+    requires { ⌜ T (lengthsFit (lentOf (now ranks) (now terms) (now schema) (now script) (now table) (now store))) ⌝ }
     requires { ⌜ length (now saved) ≡ savedWidth ⌝ }
     requires { ⌜ lineRoom * (length (now tuples) / tupleWidth) ≤ length (now out) ⌝ }
     requires { ⌜ lineRoom ≤ length (now out) ⌝ }
-    ensures { λ r. ⌜ Written (enteredLines (signed clock) (tuplesIn (now (tuples .entry)))
-        (entered (lentOf (now (terms .entry)) (now (schema .entry)) (now (script .entry)) (now (table .entry)) (now (store .entry))) (now (saved .entry)) (signed clock)))
+    ensures { λ r. ⌜ Written (enteredLines (now (ranks .entry)) (signed clock) (tuplesIn (now (tuples .entry)))
+        (entered (lentOf (now (ranks .entry)) (now (terms .entry)) (now (schema .entry)) (now (script .entry)) (now (table .entry)) (now (store .entry))) (now (saved .entry)) (signed clock)))
         (now (out .entry)) (now (out .exit)) 0 r ⌝ }
     ensures { λ r. ⌜ r ≤ length (now (out .entry)) ⌝ }
 {
     let read = read_saved(saved);
     if !read.ok {
-        return put_refused(UNSOUND, out);
+        return put_refused(unread_number(ranks), out);
     }
     let run = read.saved;
     let mut keys = [0u64; QUAD_LIMIT];
     let mut leasts = [0u8; TERM_LIMIT];
     let found = enter(
+        ranks,
         terms,
         schema,
         script,
@@ -92,5 +97,15 @@ pub fn put_entered(
         quads,
         clock,
     };
-    put_lines(clean, script, context, table, &keys, &leasts, tuples, out)
+    put_lines(
+        clean,
+        script,
+        context,
+        ranks,
+        table,
+        &keys,
+        &leasts,
+        tuples,
+        out,
+    )
 }

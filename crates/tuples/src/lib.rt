@@ -49,17 +49,18 @@ fn put_tuples(
     ends: &[u16],
     context: Context,
     at: usize,
+    ranks: &[u8],
     table: &[u8],
     quads: &[u64],
     leasts: &[u8],
     tuples: &[u8],
     out: &mut [u8],
 ) -> usize
-    requires { ⌜ ((w : Lends (now script) (now table) (now quads) (now leasts) context run) × Top (w .here) at) ⌝ }
+    requires { ⌜ ((w : Lends (now script) (now ranks) (now table) (now quads) (now leasts) context run) × Top (w .here) at) ⌝ }
     requires { ⌜ byte (now script) at ≡ 0x73 ⌝ }
     requires { ⌜ EndsLent (now script) (now ends) ⌝ }
     requires { ⌜ lineRoom * (length (now tuples) / tupleWidth) ≤ length (now out) ⌝ }
-    ensures { λ r. ⌜ ((w : Lends (now (script .entry)) (now (table .entry)) (now (quads .entry)) (now (leasts .entry)) context run) (t : Top (w .here) at)
+    ensures { λ r. ⌜ ((w : Lends (now (script .entry)) (now (ranks .entry)) (now (table .entry)) (now (quads .entry)) (now (leasts .entry)) context run) (t : Top (w .here) at)
         → TuplesWritten w t (length (now (tuples .entry)) / tupleWidth) (now (tuples .entry)) (now (out .entry)) (now (out .exit)) r) ⌝ }
     ensures { λ r. ⌜ r ≤ length (now (out .entry)) ⌝ }
 {
@@ -69,7 +70,18 @@ fn put_tuples(
     while k < count {
         let from = TUPLE_WIDTH * k;
         let tuple = tuple_at(tuples, from);
-        let tried = try_top(run, script, ends, context, at, table, quads, leasts, tuple);
+        let tried = try_top(
+            run,
+            script,
+            ends,
+            context,
+            at,
+            ranks,
+            table,
+            quads,
+            leasts,
+            tuple,
+        );
         end = put_tried(tried, out, end);
         k += 1;
     }
@@ -82,17 +94,18 @@ pub fn put_lines(
     run: SavedControl,
     script: &[u8],
     context: Context,
+    ranks: &[u8],
     table: &[u8],
     quads: &[u64],
     leasts: &[u8],
     tuples: &[u8],
     out: &mut [u8],
 ) -> usize
-    requires { ⌜ Lends (now script) (now table) (now quads) (now leasts) context run ⌝ }
+    requires { ⌜ Lends (now script) (now ranks) (now table) (now quads) (now leasts) context run ⌝ }
     requires { ⌜ length (now script) ≤ scriptLimit ⌝ }
     requires { ⌜ lineRoom * (length (now tuples) / tupleWidth) ≤ length (now out) ⌝ }
     requires { ⌜ lineRoom ≤ length (now out) ⌝ }
-    ensures { λ r. ⌜ ((w : Lends (now (script .entry)) (now (table .entry)) (now (quads .entry)) (now (leasts .entry)) context run)
+    ensures { λ r. ⌜ ((w : Lends (now (script .entry)) (now (ranks .entry)) (now (table .entry)) (now (quads .entry)) (now (leasts .entry)) context run)
         → Written (linesHere w (now (tuples .entry))) (now (out .entry)) (now (out .exit)) 0 r) ⌝ }
     ensures { λ r. ⌜ r ≤ length (now (out .entry)) ⌝ }
 {
@@ -113,6 +126,7 @@ pub fn put_lines(
         &ends,
         context,
         at,
+        ranks,
         table,
         quads,
         leasts,

@@ -1,6 +1,8 @@
 -- Equal and less: what the code compares is what the definitions pair.
 use mathlib.Core.Bool.{Bool, true, false, _&&_}
 use mathlib.Core.Option.{Option}
+use Prim.Native.Nat.{ℕ}
+use mathlib.Core.List.{List}
 use mathlib.Core.Path.{_≡_, refl, ap, ap₂, _∙_}
 use mathlib.Core.Logic.{_⊎_, inl, inr}
 use native.Mathlib.Omega.{arith}
@@ -14,7 +16,7 @@ use Rattle.definitions.specs.Outcome.{ok, fault, _>>=_, nothingInCommon}
 use Rattle.definitions.specs.Truth.{truthOf}
 use Rattle.definitions.specs.declared.Truth.{Truth}
 use Rattle.truth.specs.Told.{toldOf}
-use Rattle.definitions.specs.Values.{Pair, uris, strings, numbers, dateTimes, paired, present, widened, sameTagged, stringBefore, equalPair, lessPair, before, ranks}
+use Rattle.definitions.specs.Values.{Pair, uris, strings, numbers, dateTimes, paired, present, widened, sameTagged, stringBefore, equalPair, lessPair, before}
 use Rattle.values.specs.declared.Value.{Value}
 use Rattle.values.specs.Meaning.{meaning, where?, numberOf, stringOf, taggedOf, Good, Tells, compared}
 use Rattle.values.specs.NumberKinds.{countedIn}
@@ -135,10 +137,10 @@ module _ (a b : Value) (t : Bool) {r : Truth} where
         strings-told equalPair a b r (pairs a b (view a) (view b)) k
         (told ∙ rw e (present-where sameTagged (a .present) (b .present) (stringOf a) (stringOf b)))
 
-    pub less-strings : a .kind ≡ 2 → t ≡ stringBefore ranks (stringOf a) (stringOf b) → Tells r (compared lessPair (meaning a) (meaning b))
+    pub less-strings : (ranks : List ℕ) → a .kind ≡ 2 → t ≡ stringBefore ranks (stringOf a) (stringOf b) → Tells r (compared (lessPair ranks) (meaning a) (meaning b))
     unfolding lessPair
-    less-strings k e =
-        strings-told lessPair a b r (pairs a b (view a) (view b)) k
+    less-strings ranks k e =
+        strings-told (lessPair ranks) a b r (pairs a b (view a) (view b)) k
         (told ∙ rw e (present-where (stringBefore ranks) (a .present) (b .present) (stringOf a) (stringOf b)))
 
     module _ (k : (a .kind ≡ 3) ⊎ (a .kind ≡ 5)) (x y : ℤ) (cx : Counted a 3 x) (cy : Counted b 3 y) where
@@ -151,9 +153,9 @@ module _ (a b : Value) (t : Bool) {r : Truth} where
       unfolding equalPair
       equal-numbers e = numbers-told equalPair a b r (pairs a b (view a) (view b)) k (counted-test sameNumber e)
 
-      pub less-numbers : t ≡ ltZ (toZ w64 (ofZ w64 x)) (toZ w64 (ofZ w64 y)) → Tells r (compared lessPair (meaning a) (meaning b))
+      pub less-numbers : (ranks : List ℕ) → t ≡ ltZ (toZ w64 (ofZ w64 x)) (toZ w64 (ofZ w64 y)) → Tells r (compared (lessPair ranks) (meaning a) (meaning b))
       unfolding lessPair
-      less-numbers e = numbers-told lessPair a b r (pairs a b (view a) (view b)) k (counted-test ltZ e)
+      less-numbers ranks e = numbers-told (lessPair ranks) a b r (pairs a b (view a) (view b)) k (counted-test ltZ e)
 
   -- of two that are always there
   module _ (told : r ≡ truthOf t) where
@@ -165,15 +167,15 @@ module _ (a b : Value) (t : Bool) {r : Truth} where
       unfolding equalPair
       equal-dateTimes e = dateTimes-told equalPair a b r (pairs a b (view a) (view b)) k (counted-seconds sameNumber e)
 
-      pub less-dateTimes : t ≡ ltZ (toZ w64 (ofZ w64 (a .number))) (toZ w64 (ofZ w64 (b .number))) → Tells r (compared lessPair (meaning a) (meaning b))
+      pub less-dateTimes : (ranks : List ℕ) → t ≡ ltZ (toZ w64 (ofZ w64 (a .number))) (toZ w64 (ofZ w64 (b .number))) → Tells r (compared (lessPair ranks) (meaning a) (meaning b))
       unfolding lessPair
-      less-dateTimes e = dateTimes-told lessPair a b r (pairs a b (view a) (view b)) k (counted-seconds ltZ e)
+      less-dateTimes ranks e = dateTimes-told (lessPair ranks) a b r (pairs a b (view a) (view b)) k (counted-seconds ltZ e)
 
     module _ (n₅ : a .kind ≡ 5 → ⊥) (n₃ : a .kind ≡ 3 → ⊥) (n₄ : a .kind ≡ 4 → ⊥) (n₂ : a .kind ≡ 2 → ⊥) where
       pub equal-uris : t ≡ sameBytes (unfilled (a .text)) (unfilled (b .text)) → Tells r (compared equalPair (meaning a) (meaning b))
       unfolding equalPair
       equal-uris e = uris-told equalPair a b r (pairs a b (view a) (view b)) n₅ n₃ n₄ n₂ (told ∙ ap truthOf e)
 
-      pub less-uris : t ≡ before (λ n. n) (unfilled (a .text)) (unfilled (b .text)) → Tells r (compared lessPair (meaning a) (meaning b))
+      pub less-uris : (ranks : List ℕ) → t ≡ before (λ n. n) (unfilled (a .text)) (unfilled (b .text)) → Tells r (compared (lessPair ranks) (meaning a) (meaning b))
       unfolding lessPair
-      less-uris e = uris-told lessPair a b r (pairs a b (view a) (view b)) n₅ n₃ n₄ n₂ (told ∙ ap truthOf e)
+      less-uris ranks e = uris-told (lessPair ranks) a b r (pairs a b (view a) (view b)) n₅ n₃ n₄ n₂ (told ∙ ap truthOf e)

@@ -1,11 +1,10 @@
--- Read KindLaws and SignedLaws first, then ArithmeticLaws, ComparisonLaws with OrderLaws and RankTable, TestLaws, TextOfLaws with
+-- Read KindLaws and SignedLaws first, then ArithmeticLaws, ComparisonLaws with OrderLaws, TestLaws, TextOfLaws with
 -- LineLaws, CalendarLaws and TextLaws, and SlotLaws.
 pub mod SignedLaws
 mod KindLaws
 pub mod ArithmeticLaws
 mod OrderLaws
 mod ComparisonLaws
-mod RankTable
 mod TestLaws
 mod LineLaws
 mod CalendarLaws

@@ -9,6 +9,8 @@ use definitions::Truth;
 use truth::told;
 ghost use mathlib.Core.Path.{_≡_};
 ghost use mathlib.Core.Bool.{_&&_};
+ghost use lib.ListN.{length};
+ghost use Rattle.definitions.specs.Limits.{ranksWidth};
 ghost use Rattle.definitions.specs.Bytes.{sameBytes, unfilled};
 ghost use Rattle.definitions.specs.Values.{rankIn, before, stringBefore, equalPair, lessPair};
 ghost use Rattle.values.specs.Meaning.{meaning, stringOf, Good, Tells, compared};
@@ -37,37 +39,50 @@ fn same_texts(a: Value, b: Value) -> bool
     order::same(&text, &other_text)
 }
 
-// Whether one text comes before another under a rank table.
-fn text_before(a: Value, b: Value, table: [u8; 95]) -> bool
+// Whether one text comes before another under ranks.
+fn text_before(ranks: &[u8], a: Value, b: Value) -> bool
+    requires { ⌜ length (now ranks) ≡ ranksWidth ⌝ }
     requires { ⌜ Good a ⌝ }
     requires { ⌜ Good b ⌝ }
-    ensures { λ r. ⌜ r ≡ before (rankIn table) (unfilled (a .text)) (unfilled (b .text)) ⌝ }
+    ensures { λ r. ⌜ r ≡ before (rankIn (now (ranks .entry))) (unfilled (a .text)) (unfilled (b .text)) ⌝ }
 {
     let text = a.text;
     let other_text = b.text;
-    order::before(&text, &other_text, &table)
+    order::before(ranks, &text, &other_text)
 }
 
-// Whether one tag comes before another under a rank table.
-fn tag_before(a: Value, b: Value, table: [u8; 95]) -> bool
+// Whether one URI comes before another, by bytes.
+fn uri_before(a: Value, b: Value) -> bool
     requires { ⌜ Good a ⌝ }
     requires { ⌜ Good b ⌝ }
-    ensures { λ r. ⌜ r ≡ before (rankIn table) (unfilled (a .tag)) (unfilled (b .tag)) ⌝ }
+    ensures { λ r. ⌜ r ≡ before (λ n. n) (unfilled (a .text)) (unfilled (b .text)) ⌝ }
+{
+    let bytes = tables::BYTES;
+    text_before(&bytes, a, b)
+}
+
+// Whether one tag comes before another under ranks.
+fn tag_before(ranks: &[u8], a: Value, b: Value) -> bool
+    requires { ⌜ length (now ranks) ≡ ranksWidth ⌝ }
+    requires { ⌜ Good a ⌝ }
+    requires { ⌜ Good b ⌝ }
+    ensures { λ r. ⌜ r ≡ before (rankIn (now (ranks .entry))) (unfilled (a .tag)) (unfilled (b .tag)) ⌝ }
 {
     let tag = a.tag;
     let other_tag = b.tag;
-    order::before(&tag, &other_tag, &table)
+    order::before(ranks, &tag, &other_tag)
 }
 
-// Whether one string comes before another: by text, then tag, under a rank table.
-fn string_before(a: Value, b: Value, table: [u8; 95]) -> bool
+// Whether one string comes before another: by text, then tag, under ranks.
+fn string_before(ranks: &[u8], a: Value, b: Value) -> bool
+    requires { ⌜ length (now ranks) ≡ ranksWidth ⌝ }
     requires { ⌜ Good a ⌝ }
     requires { ⌜ Good b ⌝ }
-    ensures { λ r. ⌜ r ≡ stringBefore table (stringOf a) (stringOf b) ⌝ }
+    ensures { λ r. ⌜ r ≡ stringBefore (now (ranks .entry)) (stringOf a) (stringOf b) ⌝ }
 {
-    let by_text = text_before(a, b, table);
+    let by_text = text_before(ranks, a, b);
     let texts = same_texts(a, b);
-    let by_tag = tag_before(a, b, table);
+    let by_tag = tag_before(ranks, a, b);
     by_text | (texts & by_tag)
 }
 
@@ -91,22 +106,23 @@ pub fn equal(a: Value, b: Value) -> Truth
     }
 }
 
-// Whether a value is less than another: strings by text, then tag, under the rank table, URIs by bytes.
-// Ruled out: string Z before string a; a text before its own beginning.
-pub fn less(a: Value, b: Value) -> Truth
+// Whether a value is less than another: strings by text, then tag, under the ranks that are lent, URIs by bytes.
+// Ruled out: tags by bytes; a text before its own beginning.
+pub fn less(ranks: &[u8], a: Value, b: Value) -> Truth
+    requires { ⌜ length (now ranks) ≡ ranksWidth ⌝ }
     requires { ⌜ Good a ⌝ }
     requires { ⌜ Good b ⌝ }
-    ensures { λ r. ⌜ Tells r (compared lessPair (meaning a) (meaning b)) ⌝ }
+    ensures { λ r. ⌜ Tells r (compared (lessPair (now (ranks .entry))) (meaning a) (meaning b)) ⌝ }
 {
     let kind = a.kind;
     let present = a.present & b.present;
     match kind {
-        2 => told(present, string_before(a, b, tables::RANKS)),
+        2 => told(present, string_before(ranks, a, b)),
         3 | 5 => told(
             present,
             number::is_less(counted(a, DECIMAL), counted(b, DECIMAL)),
         ),
         4 => told(true, number::is_less(a.number, b.number)),
-        _ => told(true, text_before(a, b, tables::BYTES)),
+        _ => told(true, uri_before(a, b)),
     }
 }

@@ -9,11 +9,13 @@
 mod calls;
 mod case;
 mod filters;
+mod names;
 mod stock;
 
 use compare::call::archive::Archive;
 use compare::call::engine::fast;
 use compare::call::{Answer, Call, Engine, Station};
+use names::By;
 use std::error::Error;
 use std::time::{Duration, Instant};
 use willetcoffer::limits::BUDGET_LIMIT;
@@ -109,6 +111,17 @@ impl Bench {
         for uris in [16, 33, 66] {
             let (station, call) = filters::station(reference, uris)?;
             self.row("union, two variables to filters", &format!("{uris} URIs"), &station, &call);
+        }
+        let rows = [
+            ("every pair of names, by text", By::Text, false),
+            ("every pair of names, by tag", By::Tag, false),
+            ("the same by ranks turned round", By::Text, true),
+        ];
+        for (name, by, turned) in rows {
+            for names in [42, 168] {
+                let (station, call) = names::station(reference, by, names, turned)?;
+                self.row(name, &format!("{names} names"), &station, &call);
+            }
         }
         Ok(())
     }

@@ -3,8 +3,9 @@
 use crate::call::evaluator::Evaluator;
 use crate::call::{Answer, Call, Engine, Made, Station};
 use crate::count::{Coverage, Met};
+use crate::draw::pool::Size;
 use crate::draw::Draw;
-use crate::judge::{judge, Breach, Difference, History, Once};
+use crate::judge::{judge, ranks, Breach, Difference, History, Once};
 use crate::replay::{describe, describe_asked, Move, Replay, Tampering};
 use std::time::Duration;
 use willetcoffer::{SavedRun, State};
@@ -20,9 +21,16 @@ pub struct Case<'a> {
     sort: &'static str,
     watch: Watch,
     evaluator: Option<&'a mut Evaluator>,
+    /// The ranks lent at the load.
+    ranks: Vec<u8>,
+    /// Whether each call is made again by ranks turned round.
+    turning: bool,
     /// The slowest call of each engine.
     pub slowest: [Duration; 2],
 }
+
+/// Each so-manieth case is made by ranks turned round too.
+const TURNING: u64 = 4;
 
 /// What is done with each call beside comparing it.
 pub enum Watch {
@@ -43,6 +51,8 @@ impl<'a> Case<'a> {
             draw,
             engines,
             coverage,
+            ranks: station.ranks.clone(),
+            turning: index.is_multiple_of(TURNING),
             station,
             history: History::default(),
             last: None,
@@ -91,17 +101,25 @@ impl<'a> Case<'a> {
         if loads {
             self.loaded();
         }
+        if self.draw.rng.one_in(4) {
+            self.spoiled_call(Call::Load)?;
+        }
         self.total()?;
         if !loads {
             return Ok(());
         }
         for _ in 0..self.draw.rng.within(3, 10) {
+            self.draw.other_ranks(&mut self.station);
             if self.draw.rng.one_in(4) {
                 self.tampered_call()?;
             } else if self.has_ended() && self.draw.rng.percent(70) {
                 break;
             } else {
                 let call = self.draw.next_call(&self.station, self.last.as_ref());
+                let few = if self.draw.pool.size == Size::Full { 2 } else { 8 };
+                if self.draw.rng.one_in(few) {
+                    self.spoiled_call(call.clone())?;
+                }
                 self.call(&call, None)?;
             }
         }
@@ -144,7 +162,8 @@ impl<'a> Case<'a> {
     fn call(&mut self, call: &Call, tampering: Option<&Tampering>) -> Result<Answer, Difference> {
         let label = tampering.map_or("", |tampering| tampering.label);
         if let Watch::Keep(replay) = &mut self.watch {
-            replay.moves.push(Move { tampering: tampering.cloned(), call: call.clone() });
+            let ranks = self.station.ranks.clone();
+            replay.moves.push(Move { tampering: tampering.cloned(), ranks, call: call.clone() });
         }
         let made = Made::new(&self.station, call, self.engines);
         for (slowest, time) in self.slowest.iter_mut().zip(made.times) {
@@ -156,7 +175,10 @@ impl<'a> Case<'a> {
         let (why, notes) = (self.engines[0].why(), self.engines[0].notes());
         let exact = self.history.once.is_some() && !self.history.tampered && tampering.is_none();
         self.coverage.call(&Met { call, tamper: label, answer: &made.answers[0], why, exact, notes });
-        judge(&made, tampering.is_some(), &mut self.history).map_err(|difference| {
+        self.coverage.ranks(&made, &self.ranks);
+        let judged = judge(&made, tampering.is_some(), &mut self.history);
+        let turned = || if self.turning { ranks::turned(&made, self.engines) } else { Ok(()) };
+        judged.and_then(|()| turned()).map_err(|difference| {
             let names = self.engines.map(|engine| engine.name());
             let what = format!("{} {label}: {} and {}: {}", call.name(), names[0], names[1], difference.what);
             Difference { what, ..difference }
@@ -165,13 +187,16 @@ impl<'a> Case<'a> {
             self.coverage.add("a store again", how);
         }
         let (station, answer) = made.into_first();
+        if answer.code == 21 {
+            self.otherwise(call);
+        }
         self.station = station;
         self.last = Some(answer.clone());
         if answer.code == 0 && tampering.is_none() {
             self.draw.answered(call);
         }
         // A total is told without the tables, which may be of another length.
-        if answer.code == 0 && !matches!(call, Call::Total { .. }) {
+        if answer.code == 0 && call.is_lent() {
             self.evaluate()?;
         }
         Ok(answer)
@@ -190,11 +215,33 @@ impl<'a> Case<'a> {
         evaluator.compare(self.engines, &input, self.coverage)
     }
 
+    /// Counts what a call that 21 refuses would have met with good ranks.
+    fn otherwise(&mut self, call: &Call) {
+        let mut station = Station { ranks: self.ranks.clone(), ..self.station.clone() };
+        let code = station.call(self.engines[0], call).code;
+        self.coverage.add("21 before", format!("{} {code:02}", call.name()));
+    }
+
+    /// Makes a call by ranks that are none. It is refused, and the case goes on as if it had not been made.
+    fn spoiled_call(&mut self, call: Call) -> Result<(), Difference> {
+        let (mut call, ranks, last) = (call, self.station.ranks.clone(), self.last.clone());
+        self.draw.spoiled(&mut self.station, &mut call);
+        self.call(&call, None)?;
+        (self.station.ranks, self.last) = (ranks, last);
+        if let Watch::Keep(replay) = &mut self.watch {
+            replay.moves.pop();
+        }
+        Ok(())
+    }
+
     /// Makes a call on a station that was tampered with, and goes on from there now and then.
     fn tampered_call(&mut self) -> Result<(), Difference> {
         let kept = (self.station.clone(), self.last.clone(), self.history.steps);
         let stores = self.history.stores.len();
-        let (label, call) = self.draw.tampered_call(&mut self.station, self.last.as_ref());
+        let (label, mut call) = self.draw.tampered_call(&mut self.station, self.last.as_ref());
+        if self.draw.rng.one_in(10) {
+            self.draw.spoiled(&mut self.station, &mut call);
+        }
         let tampering = match &self.watch {
             Watch::Keep(_) => Tampering::between(label, &kept.0, &self.station),
             _ => Tampering::named(label),

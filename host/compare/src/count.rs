@@ -5,12 +5,16 @@ pub mod kinds;
 
 pub use coverage::Coverage;
 
-use crate::call::{Answer, Call};
+use crate::call::{Answer, Call, Made};
 use crate::draw::is_block;
+use crate::draw::ranks::turn;
+use crate::judge::ranks::each_once;
 use second::evaluator::Line;
 use second::note::Note;
 use second::script::Script;
+use willetcoffer::limits::RANKS_WIDTH;
 use willetcoffer::page::records;
+use willetcoffer::ranks::BUILT_IN;
 use willetcoffer::{SavedRun, State};
 
 /// What a call was made on and what came of it.
@@ -29,7 +33,46 @@ pub struct Met<'a> {
     pub notes: Vec<Note>,
 }
 
+/// What sort of ranks these are.
+pub fn sort_of(ranks: &[u8]) -> &'static str {
+    let mut turned = ranks.to_vec();
+    turn(&mut turned);
+    match ranks.len() {
+        94 => "of 94 bytes",
+        96 => "of 96 bytes",
+        RANKS_WIDTH if ranks == BUILT_IN => "built in",
+        RANKS_WIDTH if turned == BUILT_IN => "built in, turned round",
+        RANKS_WIDTH if ranks.is_sorted() && each_once(ranks) => "by byte",
+        RANKS_WIDTH if each_once(ranks) => "others",
+        RANKS_WIDTH => match ranks.iter().max() {
+            Some(95) => "with a rank of 95",
+            Some(96..) => "with a rank over 95",
+            _ => "with a rank twice, one missing",
+        },
+        _ => "of another length",
+    }
+}
+
 impl Coverage {
+    /// Counts the ranks that a call was lent, whether they are those lent at the load, and where 1 came before 21.
+    pub fn ranks(&mut self, made: &Made, at_load: &[u8]) {
+        let ranks = &made.before.ranks;
+        let section = match made.call {
+            Call::Load => "ranks of a load",
+            Call::Run { .. } => "ranks of a run",
+            Call::Page { .. } => "ranks of a page",
+            Call::Total { .. } => return,
+        };
+        self.add(section, sort_of(ranks));
+        match made.answers[0].code {
+            1 if ranks.len() == RANKS_WIDTH && !each_once(ranks) => self.add("1 before 21", made.call.name()),
+            0 if *made.call != Call::Load => {
+                self.add("ranks lent", if ranks == at_load { "as at the load" } else { "others than at the load" });
+            }
+            _ => {}
+        }
+    }
+
     /// Counts a call.
     pub fn call(&mut self, Met { call, tamper, answer, why, exact, notes }: &Met) {
         self.add(call.name(), format!("{:02}", answer.code));
@@ -41,7 +84,7 @@ impl Coverage {
         }
         if !tamper.is_empty() {
             let verdict = match answer.code {
-                1 => "not looked at",
+                1 | 21 => "not looked at",
                 10 => "unsound",
                 _ => "sound",
             };

@@ -5,6 +5,7 @@ pub mod first;
 pub mod next;
 pub mod pages;
 pub mod pool;
+pub mod ranks;
 pub mod rng;
 pub mod scripts;
 pub mod tamper;
@@ -33,6 +34,8 @@ pub struct Draw {
     pub each: bool,
     /// The page that each graph had last, with the graph's number.
     taken: BTreeMap<u64, Vec<u8>>,
+    /// Whether calls after the load are lent other ranks now and then.
+    restless: bool,
 }
 
 /// Whether a node is a block of this mode.
@@ -45,9 +48,11 @@ impl Draw {
     pub fn new(seed: u64, index: u64) -> (Draw, Station, &'static str) {
         let mut rng = Rng::new(seed, index);
         let pool = Pool::new(&mut rng);
-        let (station, sort) = first::station(&mut rng, &pool);
+        let (mut station, sort) = first::station(&mut rng, &pool);
         let asking = Rng::new(!seed, index);
-        let draw = Draw { rng, asking, pool, witnesses: Vec::new(), each: false, taken: BTreeMap::new() };
+        station.ranks = ranks::good(&mut rng);
+        let restless = rng.one_in(4);
+        let draw = Draw { rng, asking, pool, witnesses: Vec::new(), each: false, taken: BTreeMap::new(), restless };
         (draw, station, sort)
     }
 
@@ -55,6 +60,21 @@ impl Draw {
     pub fn loaded(&mut self, loaded: &Loaded) {
         self.witnesses = pages::witnesses(&mut self.rng, loaded);
         self.each = loaded.script.nodes.iter().any(|node| is_block(node, true));
+    }
+
+    /// Lends other good ranks from here on, now and then in some cases.
+    pub fn other_ranks(&mut self, station: &mut Station) {
+        if self.restless && self.rng.one_in(3) {
+            station.ranks = ranks::good(&mut self.rng);
+        }
+    }
+
+    /// Spoils the ranks of a station for one call, and now and then the length of the call's report too.
+    pub fn spoiled(&mut self, station: &mut Station, call: &mut Call) {
+        ranks::spoil(&mut self.rng, &mut station.ranks);
+        if let (Call::Run { report, .. } | Call::Page { report, .. }, true) = (call, self.rng.one_in(8)) {
+            *report += self.rng.within(1, 3);
+        }
     }
 
     /// Learns of a call that was not refused.

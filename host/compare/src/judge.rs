@@ -1,5 +1,6 @@
 //! Judging: what two engines owe each other on one call, and what either of them promises.
 
+pub mod ranks;
 mod stores;
 
 pub use stores::Stores;
@@ -20,6 +21,10 @@ pub enum Breach {
     Tables,
     /// A refused call changed a table.
     Kept,
+    /// 1 or 21 where it is not due, or something else where it is.
+    Lent,
+    /// Something else than less on strings goes by the ranks.
+    Turned,
     /// The machine met a fault.
     Fault,
     /// Refusal 10 of a station that nobody tampered with.
@@ -121,6 +126,7 @@ pub fn judge(made: &Made, tampered: bool, history: &mut History) -> Result<(), D
     if answer.code != 0 && made.before != station {
         return differs(Breach::Kept, format!("refused {} and changed a table", answer.code));
     }
+    ranks::refused_first(made)?;
     if answer.code >= FAULT {
         return differs(Breach::Fault, format!("fault {}", answer.code - FAULT));
     }
@@ -128,8 +134,11 @@ pub fn judge(made: &Made, tampered: bool, history: &mut History) -> Result<(), D
         return differs(Breach::Unsound, "refusal 10 without tampering".to_string());
     }
     history.alike = None;
+    if (made.call, answer.code) == (&Call::Load, 0) {
+        history.steps = 0;
+    }
     // A total is not lent the tables.
-    if answer.code == 0 && !matches!(made.call, Call::Total { .. }) {
+    if answer.code == 0 && made.call.is_lent() {
         history.alike = history.stores.meet(made.call, station)?;
     }
     if let (Call::Run { budget, .. }, 0) = (made.call, answer.code) {

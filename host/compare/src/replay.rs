@@ -7,7 +7,7 @@ pub use asked::{Asked, Numbers};
 pub use words::{describe, describe_asked};
 
 use crate::call::{Call, Engine, Made, Station};
-use crate::judge::{judge, Breach, Difference, History, Once};
+use crate::judge::{judge, ranks, Breach, Difference, History, Once};
 use std::panic::{catch_unwind, AssertUnwindSafe};
 use willetcoffer::Card;
 
@@ -22,11 +22,13 @@ pub struct Replay {
     pub asked: Option<Asked>,
 }
 
-/// A call, and what was tampered with before it.
+/// A call, the ranks that it is lent, and what was tampered with before it.
 #[derive(Clone, PartialEq, Eq)]
 pub struct Move {
     /// The tampering, if there is one.
     pub tampering: Option<Tampering>,
+    /// The ranks.
+    pub ranks: Vec<u8>,
     /// The call.
     pub call: Call,
 }
@@ -95,8 +97,8 @@ fn once(card: &Card) -> Option<Once> {
 }
 
 impl Replay {
-    /// Makes the moves by both engines; the first difference, with the place of its move. After a refused load a total is the only
-    /// move.
+    /// Makes the moves by both engines; the first difference, with the place of its move. Until a load is taken, loads and totals are the
+    /// only moves.
     pub fn play(&self, engines: [&dyn Engine; 2]) -> Option<(usize, Difference)> {
         let mut place = 0;
         let play = AssertUnwindSafe(|| self.play_on(engines, &mut place, &mut |_, _| {}));
@@ -114,25 +116,27 @@ impl Replay {
     ) -> Result<(), Difference> {
         let mut station = self.station.clone();
         let mut history = History::default();
-        let mut refused = false;
+        let mut loaded = false;
         engines.iter().for_each(|engine| engine.begin());
-        for (at, Move { tampering, call }) in self.moves.iter().enumerate() {
-            if refused && !matches!(call, Call::Total { .. }) {
+        for (at, Move { tampering, ranks, call }) in self.moves.iter().enumerate() {
+            if !loaded && !matches!(call, Call::Load | Call::Total { .. }) {
                 continue;
             }
             *place = at;
             if let Some(tampering) = tampering {
                 tampering.apply(&mut station);
             }
+            station.ranks.clone_from(ranks);
             let made = Made::new(&station, call, engines);
             see(&made, tampering.as_ref().map_or("", |tampering| tampering.label));
             judge(&made, tampering.is_some(), &mut history)?;
+            ranks::turned(&made, engines)?;
             let (after, answer) = made.into_first();
             station = after;
             history.tampered |= tampering.is_some();
-            if *call == Call::Load {
-                refused = answer.code != 0;
-                history.once = once(&station.card).filter(|_| !refused);
+            if (call, answer.code) == (&Call::Load, 0) {
+                loaded = true;
+                history.once = once(&station.card);
             }
         }
         Ok(())
@@ -142,10 +146,11 @@ impl Replay {
     pub fn stations(&self, engine: &dyn Engine) -> Vec<Station> {
         let mut all = Vec::new();
         let mut station = self.station.clone();
-        for Move { tampering, call } in &self.moves {
+        for Move { tampering, ranks, call } in &self.moves {
             if let Some(tampering) = tampering {
                 tampering.apply(&mut station);
             }
+            station.ranks.clone_from(ranks);
             all.push(station.clone());
             station.call(engine, call);
         }

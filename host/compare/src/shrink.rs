@@ -9,6 +9,7 @@ use std::time::{Duration, Instant};
 use tree::Node;
 use willetcoffer::limits::{SLOT_WIDTH, TEXT_WIDTH};
 use willetcoffer::page::records;
+use willetcoffer::ranks::BUILT_IN;
 use willetcoffer::term::body_width;
 use willetcoffer::Card;
 
@@ -43,6 +44,7 @@ pub fn shrink(replay: Replay, patience: Patience, fails: &mut dyn FnMut(&Replay)
         let before = shrink.best.clone();
         shrink.moves();
         shrink.asked();
+        shrink.ranks();
         shrink.calls();
         shrink.shared_records();
         shrink.tampering();
@@ -115,6 +117,32 @@ impl Shrink<'_> {
         self.attempt(|replay| with_asked(replay, |asked| asked.tampering = None));
         self.attempt(|replay| with_asked(replay, |asked| asked.left = None));
         self.attempt(|replay| with_asked(replay, |asked| asked.now = 0));
+    }
+
+    /// The built-in ranks, or else fewer places that differ from them; the same for all that are lent the same.
+    fn ranks(&mut self) {
+        let mut lists: Vec<Vec<u8>> = self.best.moves.iter().map(|m| m.ranks.clone()).collect();
+        lists.extend(self.best.asked.iter().map(|asked| asked.ranks.clone()));
+        lists.sort_unstable();
+        lists.dedup();
+        if self.attempt(|replay| lists.iter().for_each(|list| with_ranks(replay, list, &BUILT_IN))) {
+            return;
+        }
+        for mut list in lists {
+            if self.attempt(|replay| with_ranks(replay, &list, &BUILT_IN)) || list.len() != BUILT_IN.len() {
+                continue;
+            }
+            for (place, built_in) in BUILT_IN.iter().enumerate() {
+                let mut nearer = list.clone();
+                match list.iter().position(|rank| rank == built_in) {
+                    Some(other) => nearer.swap(place, other),
+                    None => nearer[place] = *built_in,
+                }
+                if self.attempt(|replay| with_ranks(replay, &list, &nearer)) {
+                    list = nearer;
+                }
+            }
+        }
     }
 
     /// Fewer steps, another now, a lower graph, fewer records of a page.
@@ -250,6 +278,13 @@ impl Shrink<'_> {
             }
         })
     }
+}
+
+/// Lends these ranks in the place of those.
+fn with_ranks(replay: &mut Replay, old: &[u8], new: &[u8]) {
+    let lent =
+        replay.moves.iter_mut().map(|m| &mut m.ranks).chain(replay.asked.iter_mut().map(|asked| &mut asked.ranks));
+    lent.filter(|ranks| ranks[..] == *old).for_each(|ranks| *ranks = new.to_vec());
 }
 
 fn with_asked(replay: &mut Replay, change: impl FnOnce(&mut Asked)) {

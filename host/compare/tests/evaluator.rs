@@ -149,8 +149,9 @@ impl Engine for Lines {
 #[test]
 fn wrong_lines_are_found() {
     assert_eq!(breach(&Lines(|text| text)), None);
-    let wrong: [fn(String) -> String; 5] = [
+    let wrong: [fn(String) -> String; 6] = [
         |text| text.replace("cut off\n", ""),
+        |text| text.replace("refused 21", "refused 10"),
         |text| text.replace("refused 11", "refused 10"),
         |text| text.replace("no block\n", ""),
         |text| text.replace("bad", "false 1"),

@@ -137,7 +137,8 @@ fn a_panic_is_cut_down() {
             let mut coverage = Coverage::default();
             let case = Case::new(5, index, engines, &mut coverage).keeping();
             let mut kept = case.kept()?;
-            kept.moves = vec![compare::replay::Move { tampering: None, call: Call::Load }];
+            let ranks = kept.station.ranks.clone();
+            kept.moves = vec![compare::replay::Move { tampering: None, ranks, call: Call::Load }];
             kept.play(engines).map(|_| (index, kept))
         })
         .expect("some script has a union");

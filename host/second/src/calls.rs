@@ -1,4 +1,4 @@
-//! The calls over bytes, as the C interface has them: inputs are terms, schema and script, tables are term table, quad
+//! The calls over bytes, as the C interface has them: inputs are ranks, terms, schema and script, tables are term table, quad
 //! table and, where it is written with them, saved run.
 
 use crate::check::{check, read, Typer};
@@ -6,7 +6,8 @@ use crate::eval::{Fault, Quad, Store};
 use crate::limits::{BUDGET, PAGE_REPORT, QUAD_TABLE, RUN_REPORT, SAVED, SLOT, TERM_TABLE, TOTAL_REPORT};
 use crate::machine::{Machine, State, World};
 use crate::order::{self, Order};
-use crate::refusal::{demand, Refusal};
+use crate::rank::{self, Alphabet, Ranks};
+use crate::refusal::{demand, refuse, Refusal};
 use crate::saved;
 use crate::search::{Naive, Search};
 use crate::seek::Seek;
@@ -15,13 +16,15 @@ use crate::term::is_second;
 use crate::terms::Terms;
 use crate::{arcs, assignments, page as pages};
 
-/// An engine: how it works out types, keeps quads in order and finds answers.
+/// An engine: how it works out types, keeps quads in order, takes ranks and finds answers.
 #[derive(Clone, Copy)]
 pub struct Engine<'a> {
     /// How types are worked out.
     pub typer: Typer,
     /// How quads are kept in order.
     pub order: Order,
+    /// How ranks are tested and followed.
+    pub alphabet: Alphabet,
     /// How answers are found.
     pub search: &'a dyn Search,
 }
@@ -36,9 +39,11 @@ fn lent<const N: usize>(bytes: &mut [u8]) -> Result<&mut [u8; N], Refusal> {
     bytes.try_into().or(Err(Refusal { number: 1, why: "lent table's length" }))
 }
 
-fn lengths(term_table: &[u8], quad_table: &[u8]) -> Outcome {
+/// The lent ranks where they and both tables have their lengths.
+fn lengths<'a>(ranks: &'a [u8], term_table: &[u8], quad_table: &[u8]) -> Result<&'a Ranks, Refusal> {
     demand(term_table.len() == TERM_TABLE, 1, "term table's length")?;
-    demand(quad_table.len() == QUAD_TABLE, 1, "quad table's length")
+    demand(quad_table.len() == QUAD_TABLE, 1, "quad table's length")?;
+    ranks.try_into().or(refuse(1, "ranks' length"))
 }
 
 fn write_terms(terms: &Terms, table: &mut [u8]) {
@@ -63,22 +68,28 @@ pub(crate) fn faulted(fault: Fault) -> Refusal {
 impl Engine<'_> {
     /// The fast engine.
     pub const fn fast() -> Engine<'static> {
-        Engine { typer: arcs::solve, order: order::FAST, search: &Seek }
+        Engine { typer: arcs::solve, order: order::FAST, alphabet: rank::FAST, search: &Seek }
     }
 
     /// The engine by the definitions.
     pub const fn plain() -> Engine<'static> {
-        Engine { typer: assignments::solve, order: order::PLAIN, search: &Naive }
+        Engine { typer: assignments::solve, order: order::PLAIN, alphabet: rank::PLAIN, search: &Naive }
+    }
+
+    /// Refusal 21, straight after 1: whether each rank stands once.
+    fn ranked(&self, ranks: &Ranks) -> Outcome {
+        demand((self.alphabet.stands)(ranks), 21, "not each rank once")
     }
 
     /// Loads terms, schema and script: writes both tables and the saved run.
     pub fn load(
         &self,
-        [terms, schema, script]: [&[u8]; 3],
+        [ranks, terms, schema, script]: [&[u8]; 4],
         [term_table, quad_table, saved]: [&mut [u8]; 3],
     ) -> Outcome {
-        lengths(term_table, quad_table)?;
+        let ranks = lengths(ranks, term_table, quad_table)?;
         let saved = lent::<SAVED>(saved)?;
+        self.ranked(ranks)?;
         let loaded = check(self.typer, terms, schema, script)?;
         write_terms(&loaded.terms, term_table);
         quad_table.fill(0);
@@ -89,19 +100,21 @@ impl Engine<'_> {
     /// Takes up to `budget` steps: writes the saved run and the report.
     pub fn run(
         &self,
-        [terms, schema, script]: [&[u8]; 3],
+        [ranks, terms, schema, script]: [&[u8]; 4],
         [term_table, quad_table]: [&[u8]; 2],
         saved: &mut [u8],
         (budget, now): (u64, i64),
         report: &mut [u8],
     ) -> Outcome {
-        lengths(term_table, quad_table)?;
+        let ranks = lengths(ranks, term_table, quad_table)?;
         let saved = lent::<SAVED>(saved)?;
         let report = lent::<RUN_REPORT>(report)?;
+        self.ranked(ranks)?;
         let mut held = sound(self.typer, self.order, &Lent { terms, schema, script, term_table, quad_table, saved })?;
         demand(budget <= BUDGET, 11, "budget")?;
         demand(is_second(now), 11, "now")?;
-        let store = Store { terms: &held.loaded.terms, quads: &held.quads, now };
+        let lent = rank::Lent { ranks, alphabet: self.alphabet };
+        let store = Store { terms: &held.loaded.terms, quads: &held.quads, now, lent };
         let (script, types) = (&held.loaded.script, &held.loaded.types);
         let world = World { script, types, store, search: self.search };
         let (steps, state) = held.machine.run(&world, budget).map_err(faulted)?;
@@ -123,15 +136,16 @@ impl Engine<'_> {
     /// Takes a page in: writes both tables, the saved run and the report.
     pub fn page(
         &self,
-        [terms, schema, script]: [&[u8]; 3],
+        [ranks, terms, schema, script]: [&[u8]; 4],
         [term_table, quad_table, saved]: [&mut [u8]; 3],
         graph: u64,
         page: &[u8],
         report: &mut [u8],
     ) -> Outcome {
-        lengths(term_table, quad_table)?;
+        let ranks = lengths(ranks, term_table, quad_table)?;
         let saved = lent::<SAVED>(saved)?;
         let report = lent::<PAGE_REPORT>(report)?;
+        self.ranked(ranks)?;
         let mut held = sound(self.typer, self.order, &Lent { terms, schema, script, term_table, quad_table, saved })?;
         let terms = &held.loaded.terms;
         let number = usize::try_from(graph).unwrap_or(usize::MAX);
@@ -147,7 +161,7 @@ impl Engine<'_> {
         Ok(())
     }
 
-    /// Tells how many steps the script takes in all: writes the report, 0 where an each block leaves that open.
+    /// Tells how many steps the script takes in all: writes the report, 0 where an each block leaves that open. It is lent no ranks.
     pub fn total(&self, [terms, schema, script]: [&[u8]; 3], report: &mut [u8]) -> Outcome {
         let report = lent::<TOTAL_REPORT>(report)?;
         let (_, _, script) = read(terms, schema, script)?;

@@ -1,13 +1,13 @@
 //! The untyped evaluation of a query for one tuple: whether it holds, or one of the eight faults. All parts are evaluated.
 
 use crate::note::{note, Note};
+use crate::rank::Lent;
 use crate::script::{Cond, Expr, Name, Query};
 use crate::term::trim;
 use crate::terms::Terms;
 use crate::truth::Truth;
 use crate::types::Type;
 use crate::value::Value;
-use std::cmp::Ordering;
 
 /// A quad by term numbers: graph, subject, property, object.
 pub type Quad = [u16; 4];
@@ -48,6 +48,8 @@ pub struct Store<'a> {
     pub quads: &'a [Quad],
     /// The value of now.
     pub now: i64,
+    /// The ranks that less on strings goes by.
+    pub lent: Lent<'a>,
 }
 
 /// The term number that a name stands for. Scope and soundness see to it that a variable in use is bound.
@@ -87,9 +89,9 @@ impl Store<'_> {
         a.arithmetic(&b, f).ok_or(Fault::NoNumber)
     }
 
-    fn compare(&self, a: &Expr, b: &Expr, bindings: &Bindings) -> Result<Option<Ordering>, Fault> {
-        let (a, b) = (self.expr(a, bindings)?, self.expr(b, bindings)?);
-        a.compare(&b).ok_or(Fault::Comparison)
+    /// The values of both sides of a comparison.
+    fn sides(&self, a: &Expr, b: &Expr, bindings: &Bindings) -> Result<[Value; 2], Fault> {
+        Ok([self.expr(a, bindings)?, self.expr(b, bindings)?])
     }
 
     /// What a boolean comes to.
@@ -109,8 +111,14 @@ impl Store<'_> {
                 Value::Str(string) => Ok(string.map(|(tag, _)| range.accepts(&tag)).into()),
                 _ => Err(Fault::NoString),
             },
-            Cond::Equal(a, b) => Ok(self.compare(a, b, bindings)?.map(Ordering::is_eq).into()),
-            Cond::Less(a, b) => Ok(self.compare(a, b, bindings)?.map(Ordering::is_lt).into()),
+            Cond::Equal(a, b) => {
+                let [a, b] = self.sides(a, b, bindings)?;
+                a.equal(&b).map(Truth::from).ok_or(Fault::Comparison)
+            }
+            Cond::Less(a, b) => {
+                let [a, b] = self.sides(a, b, bindings)?;
+                a.less(&b, &self.lent).map(Truth::from).ok_or(Fault::Comparison)
+            }
         }
     }
 

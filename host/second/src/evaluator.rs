@@ -4,6 +4,7 @@
 //!
 //! | bytes | what |
 //! |---|---|
+//! | [`RANKS`] | the ranks |
 //! | 2 each | the lengths of terms, schema and script |
 //! | as told | terms, schema, script |
 //! | [`TERM_TABLE`], [`QUAD_TABLE`], [`SAVED`] | term table, quad table, saved run |
@@ -17,8 +18,9 @@ use crate::calls::faulted;
 use crate::check::Typer;
 use crate::count;
 use crate::eval::{Evaluate, Store};
-use crate::limits::{EVALUATOR, QUAD_TABLE, SAVED, TERM_TABLE, TUPLE};
+use crate::limits::{EVALUATOR, QUAD_TABLE, RANKS, SAVED, TERM_TABLE, TUPLE};
 use crate::order::{self, Order};
+use crate::rank::{self, Alphabet, Ranks};
 use crate::refusal::{demand, Refusal};
 use crate::script::Kind;
 use crate::sound::{sound, Held, Lent};
@@ -63,6 +65,7 @@ impl From<Refusal> for Line {
 
 /// What the evaluator is asked.
 struct Asked<'a> {
+    ranks: &'a Ranks,
     lent: Lent<'a>,
     now: i64,
     tuples: &'a [[u8; TUPLE]],
@@ -70,7 +73,8 @@ struct Asked<'a> {
 
 impl Asked<'_> {
     /// None where the input is cut off.
-    fn read(mut input: &[u8]) -> Option<Asked<'_>> {
+    fn read(input: &[u8]) -> Option<Asked<'_>> {
+        let (ranks, mut input) = input.split_first_chunk::<RANKS>()?;
         let mut lengths = [0; 3];
         for length in &mut lengths {
             let (bytes, rest) = input.split_first_chunk()?;
@@ -83,36 +87,41 @@ impl Asked<'_> {
         let (now, tuples) = input.split_first_chunk()?;
         let (tuples, rest) = tuples.as_chunks();
         let lent = Lent { terms, schema, script, term_table, quad_table, saved };
-        rest.is_empty().then_some(Asked { lent, now: i64::from_le_bytes(*now), tuples })
+        rest.is_empty().then_some(Asked { ranks, lent, now: i64::from_le_bytes(*now), tuples })
     }
 }
 
-/// How types are worked out, the order of quads is tested, and tuples are evaluated.
+/// How types are worked out, the order of quads is tested, ranks are tested and followed, and tuples are evaluated.
 #[derive(Clone, Copy)]
 pub struct Ways {
     /// The types.
     pub typer: Typer,
     /// The order.
     pub order: Order,
+    /// The ranks.
+    pub alphabet: Alphabet,
     /// The tuples.
     pub evaluate: Evaluate,
 }
 
 /// Outcomes and counts as they are defined.
-pub const DEFINED: Ways = Ways { typer: arcs::solve, order: order::PLAIN, evaluate: count::evaluate };
+pub const DEFINED: Ways =
+    Ways { typer: arcs::solve, order: order::PLAIN, alphabet: rank::PLAIN, evaluate: count::evaluate };
 
 /// Sees a line for each tuple; gives the only line where there is no tuple to speak of.
 fn tuples(ways: Ways, input: &[u8], see: &mut dyn FnMut(Line)) -> Result<(), Line> {
     if input.len() > EVALUATOR {
         return Err(Line::TooLong);
     }
-    let Ways { typer, order, evaluate } = ways;
-    let Asked { lent, now, tuples } = Asked::read(input).ok_or(Line::CutOff)?;
+    let Ways { typer, order, alphabet, evaluate } = ways;
+    let Asked { ranks, lent, now, tuples } = Asked::read(input).ok_or(Line::CutOff)?;
+    demand((alphabet.stands)(ranks), 21, "not each rank once")?;
     let Held { loaded, quads, mut machine } = sound(typer, order, &lent)?;
     demand(is_second(now), 11, "now")?;
     let top = machine.stack.last().map(|item| &loaded.script.nodes[item.node].kind);
     let Some(Kind::Block(block)) = top else { return Err(Line::NoBlock) };
-    let store = Store { terms: &loaded.terms, quads: &quads, now };
+    let lent = rank::Lent { ranks, alphabet };
+    let store = Store { terms: &loaded.terms, quads: &quads, now, lent };
     for tuple in tuples {
         let (numbers, _) = tuple.as_chunks();
         let numbers: Vec<u16> = numbers.iter().map(|bytes| u16::from_le_bytes(*bytes)).collect();

@@ -10,10 +10,11 @@
 //! |---|---|---|
 //! | types of a script | [`assignments`]: every assignment, judged by [`rules`] | [`arcs`]: arc consistency on sets of types |
 //! | first answer of a block | [`search::Naive`]: every tuple, all parts evaluated | [`seek::Seek`]: driven by the patterns |
+//! | ranks, and the order of strings | [`rank::PLAIN`]: each rank counted, texts taken apart | [`rank::FAST`]: a set of bits, the first difference |
 //! | order of the quads | [`order::PLAIN`]: each before all after it | [`order::FAST`]: a quad as one number |
 //! | outcome and count of a tuple | [`count`]: all parts evaluated, then counted by their outcomes | [`early`]: one walk that leaves parts out |
 //!
-//! An [`Engine`] holds a typer, an order and a search; [`Engine::fast`] and [`Engine::plain`] are the two that the comparison uses. The
+//! An [`Engine`] holds a typer, an order, an alphabet and a search; [`Engine::fast`] and [`Engine::plain`] are the two that the comparison uses. The
 //! calls take and give the bytes of the C interface; each returns nothing, or its refusal.
 //!
 //! It shares no code with the rest of the workspace: limits, offsets and records stand here in its own words, so that a slip

@@ -4,6 +4,8 @@
 pub const TEXT: usize = 40;
 /// Bytes of a language tag and of a language range.
 pub const TAG: usize = 8;
+/// Bytes from 20 to 7E, each with a rank.
+pub const RANKS: usize = 95;
 /// Bytes of a pattern.
 pub const PATTERN: usize = 16;
 /// Bytes of a term slot: the longest term record.
@@ -46,8 +48,8 @@ pub const BUDGET: u64 = 60_000;
 pub const PAGE: usize = 65_536;
 /// Bytes of the type printer's input, at most.
 pub const PRINTER: usize = 32_512;
-/// Bytes of the input of the evaluator of tuples, at most: terms, schema and script that are full, and 64 tuples.
-pub const EVALUATOR: usize = 62_708;
+/// Bytes of the input of the evaluator of tuples, at most: ranks, terms, schema and script that are full, and 64 tuples.
+pub const EVALUATOR: usize = 62_803;
 /// Largest amount of an integer.
 pub const INTEGER: i64 = 1_000_000_000_000;
 /// Millionths in one.

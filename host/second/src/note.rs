@@ -25,6 +25,16 @@ pub enum Note {
     Twice,
     /// A page's quads went before those of another graph.
     BeforeAnother,
+    /// Less on strings was decided by their texts, otherwise than the built-in ranks decide.
+    OtherTexts,
+    /// Less on strings of one text was decided by their tags, otherwise than the built-in ranks decide.
+    OtherTags,
+    /// Less on strings was decided by their texts, otherwise than their bytes decide.
+    TextsNotByByte,
+    /// Less on strings of one text was decided by their tags, otherwise than their bytes decide.
+    TagsNotByByte,
+    /// Less on strings was decided by the end of a text or tag that begins the other.
+    Begins,
     /// The count leaves the second part of an or out.
     OrLeftOut,
     /// The count leaves the second part of an and out.
@@ -49,7 +59,7 @@ pub enum Note {
 
 impl Note {
     /// Those that a call takes.
-    pub const OF_CALLS: [Note; 10] = [
+    pub const OF_CALLS: [Note; 15] = [
         Note::Untagged,
         Note::Tagged,
         Note::HyphensOnly,
@@ -60,6 +70,11 @@ impl Note {
         Note::AnotherOrder,
         Note::Twice,
         Note::BeforeAnother,
+        Note::OtherTexts,
+        Note::OtherTags,
+        Note::TextsNotByByte,
+        Note::TagsNotByByte,
+        Note::Begins,
     ];
     /// Those that the count of a tuple takes.
     pub const OF_COUNTS: [Note; 10] = [
@@ -88,6 +103,11 @@ impl Note {
             Note::AnotherOrder => ("a page's quads", "in another order"),
             Note::Twice => ("a page's quads", "one twice"),
             Note::BeforeAnother => ("a page's quads", "before another graph's"),
+            Note::OtherTexts => ("less on strings", "texts otherwise than built in"),
+            Note::OtherTags => ("less on strings", "tags otherwise than built in"),
+            Note::TextsNotByByte => ("less on strings", "texts otherwise than by byte"),
+            Note::TagsNotByByte => ("less on strings", "tags otherwise than by byte"),
+            Note::Begins => ("less on strings", "one begins the other"),
             Note::OrLeftOut => ("second part", "of 52 left out"),
             Note::AndLeftOut => ("second part", "of 53 left out"),
             Note::BothLeftOut => ("second part", "of 62 left out"),

@@ -2,9 +2,8 @@
 
 use crate::calendar::date_time;
 use crate::limits::{DECIMAL, INTEGER, MILLION, TAG, TEXT};
-use crate::rank;
+use crate::rank::{Lent, Str};
 use crate::term::{fill, Term, Uri};
-use std::cmp::Ordering;
 
 /// A value. `None` inside is the "no value" of that kind.
 #[derive(Clone, Copy, PartialEq, Eq, Debug)]
@@ -12,7 +11,7 @@ pub enum Value {
     /// A URI.
     Uri(Uri),
     /// A string's tag and text.
-    Str(Option<([u8; TAG], [u8; TEXT])>),
+    Str(Option<Str>),
     /// An integer.
     Int(Option<i64>),
     /// A decimal in millionths.
@@ -92,19 +91,30 @@ impl Value {
         Value::Str(text.map(|text| ([0; TAG], text)))
     }
 
-    /// The order of two values: none if they have no datatype in common, and inside it none if one is no value.
-    /// Two values are equal exactly where this says so.
-    pub fn compare(&self, other: &Value) -> Option<Option<Ordering>> {
+    /// Whether two values are equal: none if they have no datatype in common, and inside it none if one is no value. Strings are by
+    /// tag and text, whatever their order.
+    pub fn equal(&self, other: &Value) -> Option<Option<bool>> {
         match (self, other) {
-            (Value::Uri(a), Value::Uri(b)) => Some(Some(a.cmp(b))),
-            (Value::Str(a), Value::Str(b)) => Some(
-                a.zip(*b).map(|((tag_a, a), (tag_b, b))| rank::order(&a, &b).then_with(|| rank::order(&tag_a, &tag_b))),
-            ),
-            (Value::Time(a), Value::Time(b)) => Some(Some(a.cmp(b))),
-            _ => {
-                let (a, b) = (self.amount()?, other.amount()?);
-                Some(a.zip(b).map(|(a, b)| a.cmp(&b)))
-            }
+            (Value::Uri(a), Value::Uri(b)) => Some(Some(a == b)),
+            (Value::Str(a), Value::Str(b)) => Some(a.zip(*b).map(|(a, b)| a == b)),
+            (Value::Time(a), Value::Time(b)) => Some(Some(a == b)),
+            _ => self.amounts(other, |a, b| a == b),
         }
+    }
+
+    /// Whether a value is less than another, none as in [`Value::equal`]. Strings go by the ranks that are lent, and nothing else does.
+    pub fn less(&self, other: &Value, lent: &Lent) -> Option<Option<bool>> {
+        match (self, other) {
+            (Value::Uri(a), Value::Uri(b)) => Some(Some(a < b)),
+            (Value::Str(a), Value::Str(b)) => Some(a.zip(*b).map(|(a, b)| lent.less(&a, &b))),
+            (Value::Time(a), Value::Time(b)) => Some(Some(a < b)),
+            _ => self.amounts(other, |a, b| a < b),
+        }
+    }
+
+    /// Two numbers by their amounts.
+    fn amounts(&self, other: &Value, test: fn(i64, i64) -> bool) -> Option<Option<bool>> {
+        let (a, b) = (self.amount()?, other.amount()?);
+        Some(a.zip(b).map(|(a, b)| test(a, b)))
     }
 }

@@ -2,6 +2,7 @@
 //! after a false first, 63 and 52 after a true one, and nothing else is left out; each record of kinds 50 to 65 that is evaluated counts one.
 
 use second::eval::{Evaluate, Store};
+use second::rank::{self, Lent, BUILT_IN};
 use second::reader::read_script;
 use second::schema::Schema;
 use second::script::Kind;
@@ -17,6 +18,8 @@ const LARGEST: usize = 1;
 const NAME: usize = 2;
 const SPEED: usize = 3;
 
+const LENT: Lent = Lent { ranks: &BUILT_IN, alphabet: rank::PLAIN };
+
 /// As defined, and fast.
 const WAYS: [Evaluate; 2] = [count::evaluate, early::evaluate];
 
@@ -27,7 +30,7 @@ fn evaluated(query: &Bytes) -> (bool, u32) {
     let script = read_script(&once(&[(0, 3)], query.clone(), success()), terms.len()).unwrap();
     let Kind::Block(block) = &script.nodes[0].kind else { panic!("a block is read") };
     let quads = [[G, G, SPEED, LARGEST].map(|number| number as u16)];
-    let store = Store { terms: &terms, quads: &quads, now: 0 };
+    let store = Store { terms: &terms, quads: &quads, now: 0, lent: LENT };
     let mut bindings = [None; 16];
     bindings[0] = Some(LARGEST as u16);
     let [defined, fast] = WAYS.map(|evaluate| evaluate(&store, &block.query, &bindings).unwrap());

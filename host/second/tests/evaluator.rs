@@ -3,7 +3,7 @@
 mod common;
 use common::{stock, Station};
 use second::evaluate;
-use second::limits::{DEPTH, EVALUATOR, FIRST_SECOND, LAST_SECOND, TUPLE};
+use second::limits::{DEPTH, EVALUATOR, FIRST_SECOND, LAST_SECOND, RANKS, TUPLE};
 use second::term::{fill, Term};
 use second::write::*;
 use std::io::Write;
@@ -30,10 +30,10 @@ fn at_block(is_each: bool) -> Station {
 }
 
 fn input(station: &Station, now: i64, tuples: &[[u16; 4]]) -> Vec<u8> {
-    let Station { terms, schema, script, term_table, quad_table, saved } = station;
+    let Station { ranks, terms, schema, script, term_table, quad_table, saved } = station;
     let lengths = [terms, schema, script].map(|part| (part.len() as u16).to_le_bytes()).concat();
     let tuples: Vec<u8> = tuples.iter().flatten().flat_map(|number| number.to_le_bytes()).collect();
-    let lent = [&lengths, terms, schema, script, term_table, quad_table, saved].map(|part| &part[..]).concat();
+    let lent = [ranks, &lengths, terms, schema, script, term_table, quad_table, saved].map(|part| &part[..]).concat();
     [lent, now.to_le_bytes().to_vec(), tuples].concat()
 }
 
@@ -111,6 +111,25 @@ fn refusals_in_the_order_of_a_run_call() {
     station.term_table[0] ^= 1;
     assert_eq!(evaluate(&input(&station, 0, &[[0; 4]])), "refused 10\n");
     assert_eq!(evaluate(&input(&station, bad_now, &[])), "refused 10\n");
+    station.ranks[94] = 95;
+    assert_eq!(evaluate(&input(&station, bad_now, &[[0; 4]])), "refused 21\n");
+    let whole = input(&station, 0, &[]);
+    assert_eq!(evaluate(&whole[..whole.len() - 1]), "cut off\n");
+}
+
+/// Less on strings goes by the ranks given, text and tag. Terms: 0 "a", 1 "B", 2 "a"@en, 3 "a"@fr.
+#[test]
+fn ranks_are_those_given() {
+    let script = once(&[(0, 2), (1, 2)], filter(less(var(0), var(1))), success());
+    let listed = [string("a"), string("B"), tagged("en", "a"), tagged("fr", "a")];
+    let mut station = Station::loaded(terms(&listed), Vec::new(), script);
+    let tuples = [[0, 1, 0, 0], [1, 0, 0, 0], [2, 3, 0, 0], [3, 2, 0, 0], [0, 2, 0, 0], [0, 0, 0, 0]];
+    let lines = |text: &str| text.split(' ').map(|holds| format!("{holds} 2\n")).collect::<String>();
+    assert_eq!(evaluate(&input(&station, 0, &tuples)), lines("true false true false true false"));
+    station.ranks = station.ranks.iter().map(|rank| 94 - rank).collect();
+    assert_eq!(evaluate(&input(&station, 0, &tuples)), lines("false true false true true false"));
+    station.ranks = (0..95).collect();
+    assert_eq!(evaluate(&input(&station, 0, &tuples)), lines("false true true false true false"));
 }
 
 #[test]
@@ -143,7 +162,7 @@ fn cut_off() {
     let unsound = input(&unsound, i64::MAX, &[[5, 6, 0, 0]]);
     assert_eq!(evaluate(&unsound[..unsound.len() - 1]), "cut off\n");
     // Lengths that go past the end.
-    assert_eq!(evaluate(&[&[0xff; 6], &whole[6..]].concat()), "cut off\n");
+    assert_eq!(evaluate(&[&whole[..RANKS], &[0xff; 6], &whole[RANKS + 6..]].concat()), "cut off\n");
 }
 
 /// At most as many bytes as terms, schema and script that are full, and 64 tuples; before anything else is looked at.

@@ -5,6 +5,7 @@ use second::calls::Engine;
 use second::check::check;
 use second::eval::{Fault, Store};
 use second::machine::{Machine, State, World};
+use second::rank::{self, Lent, BUILT_IN};
 use second::reader::read_script;
 use second::rules::Env;
 use second::schema::Schema;
@@ -25,6 +26,8 @@ const BIG: usize = 3;
 const SPEED: usize = 4;
 const NAME: usize = 6;
 
+const LENT: Lent = Lent { ranks: &BUILT_IN, alphabet: rank::PLAIN };
+
 fn listed() -> Vec<Term> {
     vec![Term::Int(3), uri("u:a"), string("s"), Term::Int(1_000_000_000_000)]
 }
@@ -38,7 +41,7 @@ fn run(script: Bytes) -> Result<(u64, State), Fault> {
     let script = read_script(&script, terms.len()).unwrap();
     assert!(scope::check(&script).is_ok());
     let types: Env = script.written().map(Option::flatten);
-    let store = Store { terms: &terms, quads: &[], now: 0 };
+    let store = Store { terms: &terms, quads: &[], now: 0, lent: LENT };
     let world = World { script: &script, types: &types, store, search: &Naive };
     let outcome = Machine::fresh().run(&world, 100);
     if outcome.is_err() {

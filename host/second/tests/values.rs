@@ -1,6 +1,7 @@
 //! Values: the rows of `str`, sums and limits, comparisons, calendar vectors.
 
 use second::limits::{DECIMAL, INTEGER};
+use second::rank::{self, Lent, BUILT_IN};
 use second::term::Term;
 use second::value::Value;
 use second::write::{string, tagged, uri};
@@ -95,9 +96,23 @@ fn overflow_at_both_limits() {
     }
 }
 
+/// The order of two values by the built-in ranks: exactly one of less, equal, and less the other way round.
+fn order(a: &Value, b: &Value) -> Option<Option<Ordering>> {
+    let lent = Lent { ranks: &BUILT_IN, alphabet: rank::PLAIN };
+    let tests = [a.less(b, &lent), a.equal(b), b.less(a, &lent)];
+    let three = [Ordering::Less, Ordering::Equal, Ordering::Greater];
+    assert!(tests.iter().all(|test| test.is_some() == tests[0].is_some()), "{a:?} {b:?}");
+    let [less, equal, greater] = tests.map(|test| test.flatten());
+    assert!(less.is_some() == equal.is_some() && less.is_some() == greater.is_some(), "{a:?} {b:?}");
+    let mut holds = three.into_iter().zip([less, equal, greater]).filter(|(_, test)| *test == Some(true));
+    let found = holds.next().map(|(order, _)| order);
+    assert!(holds.next().is_none() && found.is_some() == less.is_some(), "{a:?} {b:?}");
+    tests[0].map(|_| found)
+}
+
 #[test]
 fn comparisons() {
-    let compare = |a: Term, b: Term| Value::from(&a).compare(&Value::from(&b)).map(|o| o.unwrap());
+    let compare = |a: Term, b: Term| order(&Value::from(&a), &Value::from(&b)).map(|o| o.unwrap());
     assert_eq!(compare(Term::Int(3), Term::Dec(3_000_000)), Some(Ordering::Equal));
     assert_eq!(compare(Term::Int(-3), Term::Dec(-2_999_999)), Some(Ordering::Less));
     assert_eq!(compare(Term::Time(5), Term::Time(4)), Some(Ordering::Greater));
@@ -116,9 +131,9 @@ fn comparisons() {
         }
     }
     // No value has no order, also with itself; the fault comes first.
-    assert_eq!(Value::Int(None).compare(&Value::Dec(None)), Some(None));
-    assert_eq!(Value::Str(None).compare(&Value::Str(None)), Some(None));
-    assert_eq!(Value::Int(None).compare(&Value::Str(None)), None);
+    assert_eq!(order(&Value::Int(None), &Value::Dec(None)), Some(None));
+    assert_eq!(order(&Value::Str(None), &Value::Str(None)), Some(None));
+    assert_eq!(order(&Value::Int(None), &Value::Str(None)), None);
 }
 
 /// Computed by Python's `datetime`, a proleptic Gregorian calendar, and checked by GNU `date -u`, both outside this project.

@@ -45,7 +45,7 @@ impl Card {
 
     /// Loads the card: the tables get its terms and no quad, and the saved run has the reported types.
     ///
-    /// Refused with 2 to 9, and then the tables keep what they had.
+    /// Refused with 21, then 2 to 9, and then the tables keep what they had.
     ///
     /// ```
     /// use willetcoffer::script::{con, once, pattern, success, var};
@@ -68,7 +68,7 @@ impl Card {
 
     /// Takes up to `budget` steps at the time `now`, in seconds from 1970-01-01T00:00:00Z.
     ///
-    /// Refused with 10 and 11, and then the saved run keeps what it had.
+    /// Refused with 21, 10 and 11, and then the saved run keeps what it had.
     pub fn run(&self, tables: &Tables, saved: &mut SavedRun, budget: u64, now: i64) -> Result<RunReport, Refusal> {
         let mut report = [0; RUN_REPORT_WIDTH];
         Refusal::unless_zero(raw::run(self, tables.lent(), saved.as_bytes_mut(), budget, now, &mut report))?;
@@ -77,7 +77,7 @@ impl Card {
 
     /// Takes in the page of a graph, which is named by its term number.
     ///
-    /// Refused with 10, 12, 13 and 14, and then tables and saved run keep what they had.
+    /// Refused with 21, 10, 12, 13 and 14, and then tables and saved run keep what they had.
     pub fn page(
         &self,
         tables: &mut Tables,
@@ -90,6 +90,7 @@ impl Card {
         Refusal::unless_zero(raw::page(self, tables.lent_mut(), saved.as_bytes_mut(), graph, page, &mut report))?;
         Ok(PageReport { skipped: u32::from_le_bytes(report) })
     }
+
     /// How many steps the script takes in all, counted from its load: as many as it has records of kinds 71 to 74. The steps that
     /// runs report are never more, and the script has ended exactly when they are as many, whatever pages came between. None for a
     /// script with an each block, which has no such total.

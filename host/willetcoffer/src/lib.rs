@@ -34,6 +34,8 @@
 //! # Ok::<(), Box<dyn std::error::Error>>(())
 //! ```
 //!
+//! Strings are sorted by the [`ranks`] that are lent with the tables: the built-in ones, or a club's own.
+//!
 //! What is behind a call is proved, for every input: [`raw`] is the boundary to it, and the only place in this workspace with
 //! `unsafe`. [`limits`] names every width, limit and offset once, [`kinds`] every kind of record.
 #![deny(unsafe_code)]
@@ -42,6 +44,7 @@
 pub mod kinds;
 pub mod limits;
 pub mod page;
+pub mod ranks;
 #[allow(unsafe_code)]
 pub mod raw;
 pub mod saved;

@@ -66,6 +66,8 @@ pub const SECONDS_BEFORE: i64 = 62_135_596_800;
 /// The last dateTime, 9999-12-31T23:59:59Z, lies so many seconds after it.
 pub const SECONDS_AFTER: i64 = 253_402_300_799;
 
+/// Bytes of the ranks: one for each byte from 20 to 7E.
+pub const RANKS_WIDTH: usize = 95;
 /// Bytes of the term table.
 pub const TERM_TABLE_WIDTH: usize = TERM_LIMIT * SLOT_WIDTH;
 /// Bytes of the quad table.

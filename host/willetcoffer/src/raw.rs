@@ -9,6 +9,8 @@ use crate::card::Card;
 // header, with the exported functions.
 extern "C" {
     fn willetcoffer_load(
+        ranks: *const u8,
+        ranks_length: usize,
         terms: *const u8,
         terms_length: usize,
         schema: *const u8,
@@ -24,6 +26,8 @@ extern "C" {
     ) -> u32;
 
     fn willetcoffer_run(
+        ranks: *const u8,
+        ranks_length: usize,
         terms: *const u8,
         terms_length: usize,
         schema: *const u8,
@@ -43,6 +47,8 @@ extern "C" {
     ) -> u32;
 
     fn willetcoffer_page(
+        ranks: *const u8,
+        ranks_length: usize,
         terms: *const u8,
         terms_length: usize,
         schema: *const u8,
@@ -74,8 +80,10 @@ extern "C" {
     ) -> u32;
 }
 
-/// The tables of a call that writes them.
+/// The tables of a call that writes them; ranks are only read.
 pub struct TablesMut<'a> {
+    /// The ranks.
+    pub ranks: &'a [u8],
     /// The term table.
     pub terms: &'a mut [u8],
     /// The quad table.
@@ -85,6 +93,8 @@ pub struct TablesMut<'a> {
 /// The tables of a call that only reads them.
 #[derive(Clone, Copy)]
 pub struct TablesRef<'a> {
+    /// The ranks.
+    pub ranks: &'a [u8],
     /// The term table.
     pub terms: &'a [u8],
     /// The quad table.
@@ -98,6 +108,8 @@ pub fn load(card: &Card, tables: TablesMut<'_>, saved: &mut [u8]) -> u32 {
     // pointer (proved of the exported function).
     unsafe {
         willetcoffer_load(
+            tables.ranks.as_ptr(),
+            tables.ranks.len(),
             card.terms.as_ptr(),
             card.terms.len(),
             card.schema.as_ptr(),
@@ -119,6 +131,8 @@ pub fn run(card: &Card, tables: TablesRef<'_>, saved: &mut [u8], budget: u64, no
     // SAFETY: as in `load`.
     unsafe {
         willetcoffer_run(
+            tables.ranks.as_ptr(),
+            tables.ranks.len(),
             card.terms.as_ptr(),
             card.terms.len(),
             card.schema.as_ptr(),
@@ -144,6 +158,8 @@ pub fn page(card: &Card, tables: TablesMut<'_>, saved: &mut [u8], graph: u64, pa
     // SAFETY: as in `load`.
     unsafe {
         willetcoffer_page(
+            tables.ranks.as_ptr(),
+            tables.ranks.len(),
             card.terms.as_ptr(),
             card.terms.len(),
             card.schema.as_ptr(),

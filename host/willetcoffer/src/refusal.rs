@@ -42,12 +42,14 @@ pub enum Refusal {
     Page,
     /// 14: terms, quads or graphs would pass their limits.
     Room,
+    /// 21: lent ranks that are not each rank from 0 to 94 once.
+    Ranks,
     /// A number that this version of the library does not know.
     Other(u32),
 }
 
 /// Each refusal with its number and its condition.
-const TABLE: [(u32, Refusal, &str); 14] = [
+const TABLE: [(u32, Refusal, &str); 15] = [
     (1, Refusal::Length, "a lent buffer of another length"),
     (2, Refusal::TermRecord, "bad term record"),
     (3, Refusal::TermTwice, "a term listed twice"),
@@ -62,6 +64,7 @@ const TABLE: [(u32, Refusal, &str); 14] = [
     (12, Refusal::PageGraph, "page graph no URI of the table"),
     (13, Refusal::Page, "page over its limit, or a bad record in it"),
     (14, Refusal::Room, "terms, quads or graphs would pass their limits"),
+    (21, Refusal::Ranks, "ranks that are not each rank from 0 to 94 once"),
 ];
 
 impl Refusal {

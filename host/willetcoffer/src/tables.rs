@@ -1,16 +1,19 @@
-//! The tables that a host lends: terms by number, and the stored quads.
+//! The tables that a host lends: terms by number, the stored quads, and the ranks of texts.
 
-use crate::limits::{QUAD_TABLE_WIDTH, QUAD_WIDTH, SLOT_WIDTH, TERM_TABLE_WIDTH};
+use crate::limits::{QUAD_TABLE_WIDTH, QUAD_WIDTH, RANKS_WIDTH, SLOT_WIDTH, TERM_TABLE_WIDTH};
+use crate::ranks;
 use crate::raw::{TablesMut, TablesRef};
 use crate::saved::SavedRun;
 use crate::term::Term;
 
-/// A term table and a quad table. A load fills them anew, a page call writes them, a run call only reads them. Where terms by number and
-/// quads agree, so do the bytes.
+/// A term table and a quad table, and the ranks that all calls on them go by. A load fills the tables anew, a page call writes them, a run
+/// call only reads them. Where terms by number and quads agree, so do the bytes. The ranks are the built-in ones unless others are
+/// given, and no call writes them.
 #[derive(Clone, PartialEq, Eq, Debug)]
 pub struct Tables {
     terms: Box<[u8; TERM_TABLE_WIDTH]>,
     quads: Box<[u8; QUAD_TABLE_WIDTH]>,
+    ranks: [u8; RANKS_WIDTH],
 }
 
 /// A stored quad, by term numbers. Quads are in the order in which a store has them: by graph, then subject, property, object.
@@ -33,14 +36,41 @@ impl Default for Tables {
 }
 
 impl Tables {
-    /// Empty tables, for a load.
+    /// Empty tables, for a load, with the built-in ranks.
     pub fn new() -> Tables {
-        Tables { terms: Box::new([0; TERM_TABLE_WIDTH]), quads: Box::new([0; QUAD_TABLE_WIDTH]) }
+        Tables::from_bytes(Box::new([0; TERM_TABLE_WIDTH]), Box::new([0; QUAD_TABLE_WIDTH]))
     }
 
-    /// Tables of these bytes, as they were stored.
+    /// Tables of these bytes, as they were stored, with the built-in ranks.
     pub fn from_bytes(terms: Box<[u8; TERM_TABLE_WIDTH]>, quads: Box<[u8; QUAD_TABLE_WIDTH]>) -> Tables {
-        Tables { terms, quads }
+        Tables { terms, quads, ranks: ranks::BUILT_IN }
+    }
+
+    /// The same tables with a club's own ranks ([`ranks`]). Any bytes may stand here: load, run and page refuse with 21 unless each rank
+    /// from 0 to 94 stands once. Tables that were stored get the ranks that they had at their load.
+    ///
+    /// ```
+    /// use willetcoffer::script::{con, filter, less, once, success};
+    /// use willetcoffer::{ranks, Card, Refusal, State, Tables, Term};
+    /// // Is "B" less than "a"? By the built-in ranks it is not, by bytes it is.
+    /// let script = once(&[], filter(less(con(0), con(1))), success());
+    /// let card = Card::new(&[Term::string("B")?, Term::string("a")?], &[], script);
+    /// let by_byte = std::array::from_fn(|place| place as u8);
+    /// for (ranks, state) in [(ranks::BUILT_IN, State::Waiting), (by_byte, State::Ended)] {
+    ///     let mut tables = Tables::new().with_ranks(ranks);
+    ///     let mut saved = card.load(&mut tables)?;
+    ///     assert_eq!(card.run(&tables, &mut saved, 9, 0)?.state, state);
+    /// }
+    /// assert_eq!(card.load(&mut Tables::new().with_ranks([0; 95])), Err(Refusal::Ranks));
+    /// # Ok::<(), Box<dyn std::error::Error>>(())
+    /// ```
+    pub fn with_ranks(self, ranks: [u8; RANKS_WIDTH]) -> Tables {
+        Tables { ranks, ..self }
+    }
+
+    /// The ranks that calls go by.
+    pub fn ranks(&self) -> &[u8; RANKS_WIDTH] {
+        &self.ranks
     }
 
     /// The term table's bytes.
@@ -78,10 +108,10 @@ impl Tables {
     }
 
     pub(crate) fn lent(&self) -> TablesRef<'_> {
-        TablesRef { terms: &self.terms[..], quads: &self.quads[..] }
+        TablesRef { ranks: &self.ranks, terms: &self.terms[..], quads: &self.quads[..] }
     }
 
     pub(crate) fn lent_mut(&mut self) -> TablesMut<'_> {
-        TablesMut { terms: &mut self.terms[..], quads: &mut self.quads[..] }
+        TablesMut { ranks: &self.ranks, terms: &mut self.terms[..], quads: &mut self.quads[..] }
     }
 }

@@ -4,10 +4,11 @@ use willetcoffer::limits::{
     BUDGET_LIMIT, GRAPH_LIMIT, PAGE_LIMIT, SECONDS_AFTER, SECONDS_BEFORE, SLOT_WIDTH, TEXT_WIDTH,
 };
 use willetcoffer::limits::{
-    PAGE_REPORT_WIDTH, QUAD_TABLE_WIDTH, QUAD_WIDTH, RUN_REPORT_WIDTH, SAVED_WIDTH, TERM_TABLE_WIDTH,
+    PAGE_REPORT_WIDTH, QUAD_TABLE_WIDTH, QUAD_WIDTH, RANKS_WIDTH, RUN_REPORT_WIDTH, SAVED_WIDTH, TERM_TABLE_WIDTH,
     TOTAL_REPORT_WIDTH,
 };
 use willetcoffer::page::{record_width, records, triple};
+use willetcoffer::ranks::{in_order, BUILT_IN, BUILT_IN_ORDER};
 use willetcoffer::raw::{self, TablesMut, TablesRef};
 use willetcoffer::script::*;
 use willetcoffer::{Card, Datatype, PageReport, Quad, Refusal, RunReport, SavedRun, StackItem, State, Tables};
@@ -106,25 +107,27 @@ fn every_length_counts() {
         let mut report = vec![9; length];
         assert_eq!((raw::total(&card, &mut report), report), (1, vec![9; length]));
     }
-    let widths = [TERM_TABLE_WIDTH, QUAD_TABLE_WIDTH, SAVED_WIDTH, RUN_REPORT_WIDTH, PAGE_REPORT_WIDTH];
-    let buffers = || widths.map(|width| vec![0; width]);
-    let load = |[terms, quads, saved, ..]: &mut [Vec<u8>; 5]| raw::load(&card, TablesMut { terms, quads }, saved);
-    let mut good = buffers();
+    let widths = [RANKS_WIDTH, TERM_TABLE_WIDTH, QUAD_TABLE_WIDTH, SAVED_WIDTH, RUN_REPORT_WIDTH, PAGE_REPORT_WIDTH];
+    let load = |[ranks, terms, quads, saved, ..]: &mut [Vec<u8>; 6]| {
+        raw::load(&card, TablesMut { ranks, terms, quads }, saved)
+    };
+    let mut good = widths.map(|width| vec![0; width]);
+    good[0] = BUILT_IN.to_vec();
     assert_eq!(load(&mut good), 0);
-    for place in 0..5 {
+    for place in 0..6 {
         for length in [0, widths[place] - 1, widths[place] + 1] {
             let mut lent = good.clone();
             lent[place].resize(length, 0);
             let before = lent.clone();
-            if place < 3 {
+            if place < 4 {
                 assert_eq!(load(&mut lent), 1);
             }
-            let [terms, quads, saved, run_report, page_report] = &mut lent;
-            if place < 4 {
-                assert_eq!(raw::run(&card, TablesRef { terms, quads }, saved, 1, 0, run_report), 1);
+            let [ranks, terms, quads, saved, run_report, page_report] = &mut lent;
+            if place < 5 {
+                assert_eq!(raw::run(&card, TablesRef { ranks, terms, quads }, saved, 1, 0, run_report), 1);
             }
-            if place != 3 {
-                assert_eq!(raw::page(&card, TablesMut { terms, quads }, saved, 0, &[], page_report), 1);
+            if place != 4 {
+                assert_eq!(raw::page(&card, TablesMut { ranks, terms, quads }, saved, 0, &[], page_report), 1);
             }
             assert_eq!(lent, before);
         }
@@ -245,6 +248,137 @@ fn one_order_for_quads() {
     assert_eq!(card.run(&tables, &mut saved, 0, 0), Ok(RunReport { steps: 0, state: State::Spent }));
     assert_eq!(card.run(&turned, &mut saved, 0, 0), Err(Refusal::Unsound));
     assert_eq!(card.page(&mut turned, &mut saved, 0u16, &[]), Err(Refusal::Unsound));
+}
+
+/// Ranks of 95 bytes that are no list of ranks: one twice and another missing, one of 95, one of more, counted from 1, all alike.
+fn bad_ranks() -> Vec<[u8; RANKS_WIDTH]> {
+    let with = |place: usize, rank: u8| {
+        let mut ranks = BUILT_IN;
+        ranks[place] = rank;
+        ranks
+    };
+    let twice = [with(0, BUILT_IN[94]), with(94, BUILT_IN[0]), with(33, BUILT_IN[34])];
+    let more = [with(0, 95), with(94, 95), with(50, 127), with(50, BUILT_IN[50] + 128), with(94, 255)];
+    [&twice[..], &more, &[BUILT_IN.map(|rank| rank + 1), [0; RANKS_WIDTH]]].concat()
+}
+
+/// 21 straight after 1, and before all else.
+#[test]
+fn ranks_that_are_none() {
+    let card = yard();
+    let mut good = Tables::new();
+    let mut saved = card.load(&mut good).unwrap();
+    for ranks in bad_ranks() {
+        let mut tables = good.clone().with_ranks(ranks);
+        let before = (tables.clone(), saved.clone());
+        assert_eq!(card.load(&mut tables), Err(Refusal::Ranks));
+        assert_eq!(card.run(&tables, &mut saved, 1, 0), Err(Refusal::Ranks));
+        assert_eq!(card.page(&mut tables, &mut saved, 0u16, &[]), Err(Refusal::Ranks));
+        // Beside what would be refused otherwise: 2, 10, 11, 12 and 13.
+        assert_eq!(Card { terms: vec![0x16], ..card.clone() }.load(&mut tables), Err(Refusal::Ranks));
+        let other = Card::new(&[integer(3)], &[], success());
+        assert_eq!(other.run(&tables, &mut saved, 1, 0), Err(Refusal::Ranks));
+        assert_eq!(card.run(&tables, &mut saved, BUDGET_LIMIT + 1, 0), Err(Refusal::Ranks));
+        assert_eq!(card.page(&mut tables, &mut saved, 2u16, &[]), Err(Refusal::Ranks));
+        assert_eq!(card.page(&mut tables, &mut saved, 0u16, &[0x81]), Err(Refusal::Ranks));
+        assert_eq!((&tables, &saved), (&before.0, &before.1));
+        // Beside another length: 1.
+        let mut lent = [TERM_TABLE_WIDTH, QUAD_TABLE_WIDTH, SAVED_WIDTH].map(|width| vec![0; width]);
+        lent[1].pop();
+        let [terms, quads, saved] = &mut lent;
+        let (ranks, report) = (&ranks[..], &mut [0; RUN_REPORT_WIDTH]);
+        assert_eq!(raw::load(&card, TablesMut { ranks, terms, quads }, saved), 1);
+        assert_eq!(raw::run(&card, TablesRef { ranks, terms, quads }, saved, 1, 0, report), 1);
+        let (ranks, report) = (ranks, &mut [0; PAGE_REPORT_WIDTH]);
+        assert_eq!(raw::page(&card, TablesMut { ranks, terms, quads }, saved, 0, &[], report), 1);
+    }
+}
+
+/// The built-in ranks are each rank once, and their order is document 01's.
+#[test]
+fn the_built_in_ranks() {
+    let mut sorted = BUILT_IN;
+    sorted.sort_unstable();
+    assert_eq!(sorted, std::array::from_fn(|rank| rank as u8));
+    let letters: Vec<u8> = (b'A'..=b'Z').flat_map(|letter| [letter, letter.to_ascii_lowercase()]).collect();
+    let others = (0x21..=0x7e).filter(|byte: &u8| byte.is_ascii_punctuation());
+    let order: Vec<u8> = [b' '].into_iter().chain(b'0'..=b'9').chain(letters).chain(others).collect();
+    assert_eq!(order, BUILT_IN_ORDER);
+    for pair in order.windows(2) {
+        let [low, high] = [pair[0], pair[1]].map(|byte| BUILT_IN[usize::from(byte - 0x20)]);
+        assert_eq!(low + 1, high);
+    }
+    assert_eq!(in_order(BUILT_IN_ORDER), Some(BUILT_IN));
+    let mut twice = *BUILT_IN_ORDER;
+    twice[5] = b'~';
+    assert_eq!(in_order(&twice), None);
+    twice[5] = 0x7f;
+    assert_eq!(in_order(&twice), None);
+}
+
+/// Whether a term is less than another, by a block that waits unless it is.
+fn is_less(a: Term, b: Term, ranks: [u8; RANKS_WIDTH]) -> bool {
+    let card = Card::new(&[a, b], &[], once(&[], filter(less(con(0), con(1))), success()));
+    let mut tables = Tables::new().with_ranks(ranks);
+    let mut saved = card.load(&mut tables).unwrap();
+    assert_eq!(tables.ranks(), &ranks);
+    card.run(&tables, &mut saved, 9, 0).unwrap().state == State::Ended
+}
+
+/// The old order: what document 01 says of less on strings, by the ranks that are lent where a club has none.
+#[test]
+fn less_by_the_built_in_ranks() {
+    let name = |tag: &str, text: &str| Term::tagged(tag, text).unwrap();
+    let rising = [
+        name("", ""),
+        name("", " "),
+        name("", "0"),
+        name("", "9z"),
+        name("", "A"),
+        name("", "a"),
+        name("en", "a"),
+        name("eng", "a"),
+        name("en-gb", "a"),
+        name("", "aA"),
+        name("", "B"),
+        name("", "b"),
+        name("", "z"),
+        name("", "!"),
+        name("", "~"),
+    ];
+    for (i, a) in rising.iter().enumerate() {
+        for (j, b) in rising.iter().enumerate().filter(|(j, _)| *j != i) {
+            assert_eq!(is_less(*a, *b, BUILT_IN), i < j, "{a} {b}");
+        }
+    }
+}
+
+/// A club's own order: bytes as they are, and the built-in ranks turned round, where the end of a text still comes first.
+#[test]
+fn less_by_other_ranks() {
+    let name = |tag: &str, text: &str| Term::tagged(tag, text).unwrap();
+    let (by_byte, turned) = (std::array::from_fn(|place| place as u8), BUILT_IN.map(|rank| 94 - rank));
+    let rows = [
+        // By the built-in ranks, by bytes, turned round.
+        (name("", "a"), name("", "B"), [true, false, false]),
+        (name("", "A"), name("", "a"), [true, true, false]),
+        (name("", "z"), name("", "-"), [true, false, false]),
+        (name("", "a"), name("", "ab"), [true, true, true]),
+        (name("eng", "a"), name("en-gb", "a"), [true, false, false]),
+        (name("de", "a"), name("en", "a"), [true, true, false]),
+        (name("", "a"), name("z", "a"), [true, true, true]),
+        (name("z", "a"), name("a", "b"), [true, true, false]),
+    ];
+    for (a, b, expected) in rows {
+        for (ranks, expected) in [BUILT_IN, by_byte, turned].into_iter().zip(expected) {
+            assert_eq!((is_less(a, b, ranks), is_less(b, a, ranks)), (expected, !expected), "{a} {b}");
+        }
+    }
+    // URIs and numbers have no ranks.
+    for ranks in [BUILT_IN, by_byte, turned] {
+        assert!(is_less(uri("u:B"), uri("u:a"), ranks) && !is_less(uri("u:a"), uri("u:B"), ranks));
+        assert!(is_less(integer(1), integer(2), ranks) && !is_less(integer(2), integer(1), ranks));
+    }
 }
 
 #[test]

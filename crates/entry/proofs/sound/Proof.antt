@@ -1,6 +1,7 @@
 -- `entry::sound` meets its contract: a law of EntryLaws for each test.
 use native.Mathlib.Omega.{arith}
 use mathlib.Core.Path.{_≡_, sym, _∙_}
+use mathlib.Core.List.{[]}
 use lib.ListN.{length}
 use borrow.Author.Tests.{not-true, not-false}
 use Rattle.definitions.specs.Limits.{variableLimit}
@@ -29,7 +30,7 @@ same-length c = search needs
 returns : tie.Need-returns
 returns c =
     let c₁ = c .before in let c₂ = c₁ .before .before .before .before .before in let c₃ = c₂ .before .before .before .before .before .before .before .before .before .before in
-    not-checked _ _ _ (c₃ .args .table .now) (c₃ .args .store .now) (c₃ .args .saved) (c₂ .check-card .ensures .0) (c₁ .if1 .taken) _ _ _ (c .refused .ensures)
+    λ ranks. not-checked ranks _ _ _ (c₃ .args .table .now) (c₃ .args .store .now) (c₃ .args .saved) (c₂ .check-card .ensures .0) (c₁ .if1 .taken) _ _ _ (c .refused .ensures)
 
 slice-aggregate-counted : tie.Need-slice-aggregate-counted
 slice-aggregate-counted c = search needs
@@ -37,7 +38,7 @@ slice-aggregate-counted c = search needs
 counted-requires : tie.Need-counted-requires
 counted-requires c κs =
     let c₁ = c .before in let c₂ = c₁ .before .before .before .before .before in let c₃ = c₂ .before .before .before .before .before .before .before .before .before .before in
-    (loading-holds _ _ _ (c₃ .args .table .now) (c₃ .args .store .now) (c₃ .args .saved) (c₂ .check-card .ensures .0) (c₁ .if1 .left) (c₂ .check-card .ensures .1), c₃ .pre .0)
+    (loading-holds [] _ _ _ (c₃ .args .table .now) (c₃ .args .store .now) (c₃ .args .saved) (c₂ .check-card .ensures .0) (c₁ .if1 .left) (c₂ .check-card .ensures .1), c₃ .pre .0)
 
 enum-known-count : tie.Need-enum-known-count
 enum-known-count c = search needs
@@ -55,7 +56,7 @@ returns-2 : tie.Need-returns-2
 returns-2 c =
     let c₁ = c .before in let c₂ = c₁ .before .before in let c₃ = c₂ .before .before in let c₄ = c₃ .before .before .before .before .before in
     let c₅ = c₄ .before .before .before .before .before .before .before .before .before .before in
-    no-terms _ _ _ (c₅ .args .table .now) (c₅ .args .store .now) (c₅ .args .saved) (c₄ .check-card .ensures .0) (c₃ .if1 .left) (c₄ .check-card .ensures .1) (c₂ .counted .ensures)
+    λ ranks. no-terms ranks _ _ _ (c₅ .args .table .now) (c₅ .args .store .now) (c₅ .args .saved) (c₄ .check-card .ensures .0) (c₃ .if1 .left) (c₄ .check-card .ensures .1) (c₂ .counted .ensures)
     (c₁ .enum-told .given .1) _ _ _ (c .refused2 .ensures)
 
 slice-aggregate-same : tie.Need-slice-aggregate-same
@@ -80,7 +81,7 @@ returns-3 : tie.Need-returns-3
 returns-3 c =
     let c₁ = c .before in let c₂ = c₁ .before in let c₃ = c₂ .before .before .before .before .before .before .before .before .before .before .before in
     let c₄ = c₃ .before .before .before .before .before in let c₅ = c₄ .before .before .before .before .before .before .before .before .before .before in
-    other-types _ _ _ (c₅ .args .table .now) (c₅ .args .store .now) (c₅ .args .saved) (c₄ .check-card .ensures .0) (c₃ .if1 .left) (c₄ .check-card .ensures .1)
+    λ ranks. other-types ranks _ _ _ (c₅ .args .table .now) (c₅ .args .store .now) (c₅ .args .saved) (c₄ .check-card .ensures .0) (c₃ .if1 .left) (c₄ .check-card .ensures .1)
     (c₂ .same .ensures .1) (not-true _ (c₁ .if2 .taken)) _ _ _ (c .refused3 .ensures)
 
 slice-aggregate-terms-sound : tie.Need-slice-aggregate-terms-sound
@@ -91,11 +92,11 @@ terms-sound-requires c κs =
     let c₁ = c .before .before .before .before .before .before .before .before .before in let c₂ = c₁ .before .before in let c₃ = c₂ .before .before in
     let c₄ = c₃ .before .before .before .before .before in
     let c₅ = c₄ .before .before .before .before .before .before .before .before .before .before in (
-      loading-holds _ _ _ (c₅ .args .table .now) (c₅ .args .store .now) (c₅ .args .saved) (c₄ .check-card .ensures .0) (c₃ .if1 .left) (c₄ .check-card .ensures .1),
+      loading-holds [] _ _ _ (c₅ .args .table .now) (c₅ .args .store .now) (c₅ .args .saved) (c₄ .check-card .ensures .0) (c₃ .if1 .left) (c₄ .check-card .ensures .1),
       (
-        table-holds _ _ _ (c₅ .args .table .now) (c₅ .args .store .now) (c₅ .args .saved) (c₄ .check-card .ensures .0) (c₃ .if1 .left) (c₄ .check-card .ensures .1) (c₅ .pre .0)
+        table-holds [] _ _ _ (c₅ .args .table .now) (c₅ .args .store .now) (c₅ .args .saved) (c₄ .check-card .ensures .0) (c₃ .if1 .left) (c₄ .check-card .ensures .1) (c₅ .pre .0)
             (c₂ .counted .ensures) (c₁ .count .given .1),
-        loading-apart _ _ _ (c₅ .args .table .now) (c₅ .args .store .now) (c₅ .args .saved) (c₄ .check-card .ensures .0) (c₃ .if1 .left)
+        loading-apart [] _ _ _ (c₅ .args .table .now) (c₅ .args .store .now) (c₅ .args .saved) (c₄ .check-card .ensures .0) (c₃ .if1 .left)
             (c₄ .check-card .ensures .1),
       ),
     )
@@ -111,39 +112,39 @@ returns-4 c =
     let c₁ = c .before in let c₂ = c₁ .before in let c₃ = c₂ .before .before .before .before .before .before .before .before .before .before in let c₄ = c₃ .before .before in
     let c₅ = c₄ .before .before in let c₆ = c₅ .before .before .before .before .before in
     let c₇ = c₆ .before .before .before .before .before .before .before .before .before .before in
-    other-terms _ _ _ (c₇ .args .table .now) (c₇ .args .store .now) (c₇ .args .saved) (c₆ .check-card .ensures .0) (c₅ .if1 .left) (c₆ .check-card .ensures .1) (c₇ .pre .0)
+    λ ranks. other-terms ranks _ _ _ (c₇ .args .table .now) (c₇ .args .store .now) (c₇ .args .saved) (c₆ .check-card .ensures .0) (c₅ .if1 .left) (c₆ .check-card .ensures .1) (c₇ .pre .0)
     (c₄ .counted .ensures) (c₃ .count .given .1) (c₂ .terms-sound .ensures) (not-true _ (c₁ .if3 .taken)) _ _ _ (c .refused4 .ensures)
 
 slice-aggregate-least-codes : tie.Need-slice-aggregate-least-codes
 slice-aggregate-least-codes c =
     let c₁ = c .before .before .before .before .before .before .before .before .before .before .before .before .before .before .before .before .before in
     let c₂ = c₁ .before .before .before .before .before in let c₃ = c₂ .before .before .before .before .before .before .before .before .before .before in
-    sym (schema-hashed _ _ _ (c₃ .args .table .now) (c₃ .args .store .now) (c₃ .args .saved) (c₂ .check-card .ensures .0) (c₁ .if1 .left) (c₂ .check-card .ensures .1) .room)
+    sym (schema-hashed [] _ _ _ (c₃ .args .table .now) (c₃ .args .store .now) (c₃ .args .saved) (c₂ .check-card .ensures .0) (c₁ .if1 .left) (c₂ .check-card .ensures .1) .room)
 
 least-codes-requires : tie.Need-least-codes-requires
 least-codes-requires c κs =
     let c₁ = c .before .before .before in let c₂ = c₁ .before in let c₃ = c₂ .before .before .before .before .before .before .before .before .before .before in
     let c₄ = c₃ .before .before in let c₅ = c₄ .before .before in let c₆ = c₅ .before .before .before in let c₇ = c₆ .before .before in
     let c₈ = c₇ .before .before .before .before .before .before .before .before .before .before in (
-      schema-good _ _ _ (c₈ .args .table .now) (c₈ .args .store .now) (c₈ .args .saved) (c₇ .check-card .ensures .0) (c₅ .if1 .left) (c₇ .check-card .ensures .1),
+      schema-good [] _ _ _ (c₈ .args .table .now) (c₈ .args .store .now) (c₈ .args .saved) (c₇ .check-card .ensures .0) (c₅ .if1 .left) (c₇ .check-card .ensures .1),
       (
-        schema-hashed _ _ _ (c₈ .args .table .now) (c₈ .args .store .now) (c₈ .args .saved) (c₇ .check-card .ensures .0) (c₅ .if1 .left) (c₇ .check-card .ensures .1),
+        schema-hashed [] _ _ _ (c₈ .args .table .now) (c₈ .args .store .now) (c₈ .args .saved) (c₇ .check-card .ensures .0) (c₅ .if1 .left) (c₇ .check-card .ensures .1),
         (
-          table-holds _ _ _ (c₈ .args .table .now) (c₈ .args .store .now) (c₈ .args .saved) (c₇ .check-card .ensures .0) (c₅ .if1 .left) (c₇ .check-card .ensures .1) (c₈ .pre .0)
+          table-holds [] _ _ _ (c₈ .args .table .now) (c₈ .args .store .now) (c₈ .args .saved) (c₇ .check-card .ensures .0) (c₅ .if1 .left) (c₇ .check-card .ensures .1) (c₈ .pre .0)
               (c₄ .counted .ensures) (c₃ .count .given .1),
           (
             omega (
               arith,
               holds-few _ _
-                  (table-holds _ _ _ (c₈ .args .table .now) (c₈ .args .store .now) (c₈ .args .saved) (c₇ .check-card .ensures .0) (c₅ .if1 .left) (c₇ .check-card .ensures .1) (c₈ .pre .0)
+                  (table-holds [] _ _ _ (c₈ .args .table .now) (c₈ .args .store .now) (c₈ .args .saved) (c₇ .check-card .ensures .0) (c₅ .if1 .left) (c₇ .check-card .ensures .1) (c₈ .pre .0)
                   (c₄ .counted .ensures) (c₃ .count .given .1)),
               c₆ .leasts .given,
               c₈ .pre .1 .1 .1,
             ),
             (
-              loaded-in _ _ _ (c₈ .args .table .now) (c₈ .args .store .now) (c₈ .args .saved) (c₇ .check-card .ensures .0) (c₅ .if1 .left) (c₇ .check-card .ensures .1) (c₈ .pre .0)
+              loaded-in [] _ _ _ (c₈ .args .table .now) (c₈ .args .store .now) (c₈ .args .saved) (c₇ .check-card .ensures .0) (c₅ .if1 .left) (c₇ .check-card .ensures .1) (c₈ .pre .0)
                   (c₄ .counted .ensures) (c₃ .count .given .1) (c₂ .terms-sound .ensures) (not-false _ (c₁ .if3 .left)),
-              codes-stand _ _ _ (c₈ .args .table .now) (c₈ .args .store .now)
+              codes-stand [] _ _ _ (c₈ .args .table .now) (c₈ .args .store .now)
                   (c₈ .args .saved) (c₇ .check-card .ensures .0) (c₅ .if1 .left) (c₇ .check-card .ensures .1) (c₈ .pre .0) (c₄ .counted .ensures) (c₃ .count .given .1) (c₂ .terms-sound .ensures)
                   (not-false _ (c₁ .if3 .left)),
             ),
@@ -163,9 +164,9 @@ store-sound-requires c κs =
         omega (
           arith,
           holds-few _ _
-              (table-holds _ _ _ (c₉ .args .table .now) (c₉ .args .store .now) (c₉ .args .saved) (c₈ .check-card .ensures .0) (c₆ .if1 .left) (c₈ .check-card .ensures .1) (c₉ .pre .0)
+              (table-holds [] _ _ _ (c₉ .args .table .now) (c₉ .args .store .now) (c₉ .args .saved) (c₈ .check-card .ensures .0) (c₆ .if1 .left) (c₈ .check-card .ensures .1) (c₉ .pre .0)
               (c₅ .counted .ensures) (c₄ .count .given .1)),
-          leasts-length _ _ _ (c₉ .args .table .now) (c₉ .args .store .now) (c₉ .args .saved) (c₈ .check-card .ensures .0) (c₆ .if1 .left)
+          leasts-length [] _ _ _ (c₉ .args .table .now) (c₉ .args .store .now) (c₉ .args .saved) (c₈ .check-card .ensures .0) (c₆ .if1 .left)
               (c₈ .check-card .ensures .1) (c₉ .pre .0) (c₅ .counted .ensures) (c₄ .count .given .1) (c₃ .terms-sound .ensures) (not-false _ (c₂ .if3 .left))
               (omega (arith, c₇ .leasts .given, c₉ .pre .1 .1 .1)) (c₁ .least-codes .ensures),
         ),
@@ -184,7 +185,7 @@ same-length-6 c =
     let c₁ = c .before .before .before .before .before .before .before .before .before .before in let c₂ = c₁ .before .before .before .before in let c₃ = c₂ .before in
     let c₄ = c₃ .before .before .before .before .before .before .before .before .before .before in let c₅ = c₄ .before .before in let c₆ = c₅ .before .before in
     let c₇ = c₆ .before .before .before in let c₈ = c₇ .before .before in let c₉ = c₈ .before .before .before .before .before .before .before .before .before .before in
-    leasts-length _ _ _ (c₉ .args .table .now) (c₉ .args .store .now) (c₉ .args .saved) (c₈ .check-card .ensures .0) (c₆ .if1 .left) (c₈ .check-card .ensures .1) (c₉ .pre .0)
+    leasts-length [] _ _ _ (c₉ .args .table .now) (c₉ .args .store .now) (c₉ .args .saved) (c₈ .check-card .ensures .0) (c₆ .if1 .left) (c₈ .check-card .ensures .1) (c₉ .pre .0)
     (c₅ .counted .ensures) (c₄ .count .given .1) (c₃ .terms-sound .ensures) (not-false _ (c₂ .if3 .left)) (omega (arith, c₇ .leasts .given, c₉ .pre .1 .1 .1))
     (c₁ .least-codes .ensures) ∙ sym (c₉ .pre .1 .1 .1)
 
@@ -194,7 +195,7 @@ returns-5 c =
     let c₅ = c₄ .before in let c₆ = c₅ .before .before .before .before .before .before .before .before .before .before in let c₇ = c₆ .before .before in
     let c₈ = c₇ .before .before in let c₉ = c₈ .before .before .before in let c₁₀ = c₉ .before .before in
     let c₁₁ = c₁₀ .before .before .before .before .before .before .before .before .before .before in
-    other-store _ _ _ (c₁₁ .args .table .now) (c₁₁ .args .store .now) (c₁₁ .args .saved) (c₁₀ .check-card .ensures .0) (c₈ .if1 .left) (c₁₀ .check-card .ensures .1) (c₁₁ .pre .0)
+    λ ranks. other-store ranks _ _ _ (c₁₁ .args .table .now) (c₁₁ .args .store .now) (c₁₁ .args .saved) (c₁₀ .check-card .ensures .0) (c₈ .if1 .left) (c₁₀ .check-card .ensures .1) (c₁₁ .pre .0)
     (c₇ .counted .ensures) (c₆ .count .given .1) (c₅ .terms-sound .ensures) (not-false _ (c₄ .if3 .left)) (omega (arith, c₉ .leasts .given, c₁₁ .pre .1 .1 .1))
     (c₃ .least-codes .ensures) (c₂ .store-sound .ensures .0) (not-true _ (c₁ .if4 .taken)) _ _ _ (c .refused5 .ensures)
 
@@ -204,13 +205,13 @@ control-sound-requires c κs =
     let c₄ = c₃ .before .before .before .before .before .before .before .before .before .before in let c₅ = c₄ .before .before in let c₆ = c₅ .before .before in
     let c₇ = c₆ .before .before .before in let c₈ = c₇ .before .before in
     let c₉ = c₈ .before .before .before .before .before .before .before .before .before .before in (
-      script-good _ _ _ (c₉ .args .table .now) (c₉ .args .store .now) (c₉ .args .saved) (c₈ .check-card .ensures .0) (c₆ .if1 .left) (c₈ .check-card .ensures .1),
+      script-good [] _ _ _ (c₉ .args .table .now) (c₉ .args .store .now) (c₉ .args .saved) (c₈ .check-card .ensures .0) (c₆ .if1 .left) (c₈ .check-card .ensures .1),
       omega (
         arith,
         holds-few _ _
-            (table-holds _ _ _ (c₉ .args .table .now) (c₉ .args .store .now) (c₉ .args .saved) (c₈ .check-card .ensures .0) (c₆ .if1 .left) (c₈ .check-card .ensures .1) (c₉ .pre .0)
+            (table-holds [] _ _ _ (c₉ .args .table .now) (c₉ .args .store .now) (c₉ .args .saved) (c₈ .check-card .ensures .0) (c₆ .if1 .left) (c₈ .check-card .ensures .1) (c₉ .pre .0)
             (c₅ .counted .ensures) (c₄ .count .given .1)),
-        leasts-length _ _ _ (c₉ .args .table .now) (c₉ .args .store .now) (c₉ .args .saved) (c₈ .check-card .ensures .0) (c₆ .if1 .left)
+        leasts-length [] _ _ _ (c₉ .args .table .now) (c₉ .args .store .now) (c₉ .args .saved) (c₈ .check-card .ensures .0) (c₆ .if1 .left)
             (c₈ .check-card .ensures .1) (c₉ .pre .0) (c₅ .counted .ensures) (c₄ .count .given .1) (c₃ .terms-sound .ensures) (not-false _ (c₂ .if3 .left))
             (omega (arith, c₇ .leasts .given, c₉ .pre .1 .1 .1)) (c₁ .least-codes .ensures),
       ),
@@ -228,7 +229,7 @@ same-length-8 c =
     let c₃ = c₂ .before in let c₄ = c₃ .before .before .before .before .before .before .before .before .before .before in let c₅ = c₄ .before .before in
     let c₆ = c₅ .before .before in let c₇ = c₆ .before .before .before in let c₈ = c₇ .before .before in
     let c₉ = c₈ .before .before .before .before .before .before .before .before .before .before in
-    leasts-length _ _ _ (c₉ .args .table .now) (c₉ .args .store .now) (c₉ .args .saved) (c₈ .check-card .ensures .0) (c₆ .if1 .left) (c₈ .check-card .ensures .1) (c₉ .pre .0)
+    leasts-length [] _ _ _ (c₉ .args .table .now) (c₉ .args .store .now) (c₉ .args .saved) (c₈ .check-card .ensures .0) (c₆ .if1 .left) (c₈ .check-card .ensures .1) (c₉ .pre .0)
     (c₅ .counted .ensures) (c₄ .count .given .1) (c₃ .terms-sound .ensures) (not-false _ (c₂ .if3 .left)) (omega (arith, c₇ .leasts .given, c₉ .pre .1 .1 .1))
     (c₁ .least-codes .ensures) ∙ sym (c₉ .pre .1 .1 .1)
 
@@ -238,7 +239,7 @@ returns-6 c =
     let c₅ = c₄ .before .before .before .before .before .before in let c₆ = c₅ .before .before .before .before in let c₇ = c₆ .before in let c₈ = c₇ .before .before in
     let c₉ = c₈ .before in let c₁₀ = c₉ .before .before .before .before .before .before .before in let c₁₁ = c₁₀ .before .before in let c₁₂ = c₁₁ .before .before in
     let c₁₃ = c₁₂ .before .before .before in let c₁₄ = c₁₃ .before .before in let c₁₅ = c₁₄ .before .before .before .before .before .before .before .before .before .before in
-    other-control _ _ _ (c₁₅ .args .table .now) (c₁₅ .args .store .now) (c₁₅ .args .saved) (c₁₄ .check-card .ensures .0) (c₁₂ .if1 .left) (c₁₄ .check-card .ensures .1)
+    λ ranks. other-control ranks _ _ _ (c₁₅ .args .table .now) (c₁₅ .args .store .now) (c₁₅ .args .saved) (c₁₄ .check-card .ensures .0) (c₁₂ .if1 .left) (c₁₄ .check-card .ensures .1)
     (c₁₅ .pre .0) (c₁₁ .counted .ensures) (c₁₀ .count .given .1) (c₇ .terms-sound .ensures) (not-false _ (c₆ .if3 .left)) (omega (arith, c₁₃ .leasts .given, c₁₅ .pre .1 .1 .1))
     (c₅ .least-codes .ensures) (c₄ .store-sound .ensures .0) (not-false _ (c₃ .if4 .left)) (c₉ .same .ensures .0) (not-false _ (c₈ .if2 .left)) (c₂ .control-sound .ensures)
     (not-true _ (c₁ .if5 .taken)) _ _ _ (c .refused6 .ensures)
@@ -252,7 +253,7 @@ same-length-10 c =
     let c₃ = c₂ .before in let c₄ = c₃ .before .before .before .before .before .before .before .before .before .before in let c₅ = c₄ .before .before in
     let c₆ = c₅ .before .before in let c₇ = c₆ .before .before .before in let c₈ = c₇ .before .before in
     let c₉ = c₈ .before .before .before .before .before .before .before .before .before .before in
-    leasts-length _ _ _ (c₉ .args .table .now) (c₉ .args .store .now) (c₉ .args .saved) (c₈ .check-card .ensures .0) (c₆ .if1 .left) (c₈ .check-card .ensures .1) (c₉ .pre .0)
+    leasts-length [] _ _ _ (c₉ .args .table .now) (c₉ .args .store .now) (c₉ .args .saved) (c₈ .check-card .ensures .0) (c₆ .if1 .left) (c₈ .check-card .ensures .1) (c₉ .pre .0)
     (c₅ .counted .ensures) (c₄ .count .given .1) (c₃ .terms-sound .ensures) (not-false _ (c₂ .if3 .left)) (omega (arith, c₇ .leasts .given, c₉ .pre .1 .1 .1))
     (c₁ .least-codes .ensures) ∙ sym (c₉ .pre .1 .1 .1)
 
@@ -262,7 +263,7 @@ returns-7 c =
     let c₆ = c₅ .before .before .before .before in let c₇ = c₆ .before in let c₈ = c₇ .before .before in let c₉ = c₈ .before in
     let c₁₀ = c₉ .before .before .before .before .before .before .before in let c₁₁ = c₁₀ .before .before in let c₁₂ = c₁₁ .before .before in
     let c₁₃ = c₁₂ .before .before .before in let c₁₄ = c₁₃ .before .before in let c₁₅ = c₁₄ .before .before .before .before .before .before .before .before .before .before in
-    all-found _ _ _ (c₁₅ .args .table .now) (c₁₅ .args .store .now) (c₁₅ .args .saved) (c₁₄ .check-card .ensures .0) (c₁₂ .if1 .left) (c₁₄ .check-card .ensures .1) (c₁₅ .pre .0)
+    λ ranks. all-found ranks _ _ _ (c₁₅ .args .table .now) (c₁₅ .args .store .now) (c₁₅ .args .saved) (c₁₄ .check-card .ensures .0) (c₁₂ .if1 .left) (c₁₄ .check-card .ensures .1) (c₁₅ .pre .0)
     (c₁₁ .counted .ensures) (c₁₀ .count .given .1) (c₇ .terms-sound .ensures) (not-false _ (c₆ .if3 .left)) (omega (arith, c₁₃ .leasts .given, c₁₅ .pre .1 .1 .1))
     (c₅ .least-codes .ensures) (c₄ .store-sound .ensures .0) (not-false _ (c₂ .if4 .left)) (c₉ .same .ensures .0) (not-false _ (c₈ .if2 .left)) (c₁ .control-sound .ensures)
     (not-false _ (c .if5 .left)) _ (omega (arith, c₃ .keys .given, c₁₅ .pre .1 .1 .0)) (c₄ .store-sound .ensures .1)

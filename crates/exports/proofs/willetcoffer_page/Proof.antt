@@ -1,6 +1,7 @@
 -- By the lengths, by whether the bytes are a saved run, and else as the engine answers.
-use Rattle.exports.proofs.BufferLaws.{saved-fits, report-fits}
-use Rattle.exports.proofs.ExportLaws.{read-none, read-some, page-length, page-unsound, page-done}
+use Rattle.exports.proofs.BufferLaws.{ranks-fit, saved-fits, report-fits}
+use Rattle.layout.proofs.ReadLaws.{read-none, read-some}
+use Rattle.exports.proofs.ExportLaws.{page-length, page-unread, page-done}
 use borrow.Author.Needs.{needs}
 use Rattle.exports.proofs.willetcoffer_page.Statement.{statement}
 use Rattle.exports.proofs.willetcoffer_page.Tie as tie
@@ -14,15 +15,23 @@ returns c = page-length _ _ _ _ _ (c .before .buffers-fit .ensures) (c .if1 .tak
 read-saved-requires : tie.Need-read-saved-requires
 read-saved-requires c κs =
     let c₁ = c .before in
-    saved-fits _ _ _ _ _ (c₁ .before .buffers-fit .ensures) (c₁ .if1 .left)
+    saved-fits _ _ _ _ (c₁ .before .buffers-fit .ensures) (c₁ .if1 .left)
+
+unread-number-requires : tie.Need-unread-number-requires
+unread-number-requires c κs =
+    let c₁ = c .before .before .before .before in
+    ranks-fit _ _ _ _ (c₁ .before .buffers-fit .ensures) (c₁ .if1 .left)
+
+cast-result : tie.Need-cast-result
+cast-result c = search needs
 
 same-length : tie.Need-same-length
 same-length c = search needs
 
 returns-2 : tie.Need-returns-2
 returns-2 c =
-    let c₁ = c .before .before in let c₂ = c₁ .before .before in
-    page-unsound _ _ _ _ _ (c₂ .before .buffers-fit .ensures) (c₂ .if1 .left) (read-none _ _ (c₁ .read-saved .ensures) (c .if2 .taken))
+    let c₁ = c .before in let c₂ = c₁ .before .before in let c₃ = c₂ .before .before in
+    page-unread _ _ _ _ _ (c₃ .before .buffers-fit .ensures) (c₃ .if1 .left) (read-none _ _ (c₂ .read-saved .ensures) (c₁ .if2 .taken)) (c .unread-number .ensures)
 
 page-requires : tie.Need-page-requires
 page-requires c κs = search needs
@@ -33,12 +42,12 @@ page-number-requires c κs = search needs
 hand-back-requires : tie.Need-hand-back-requires
 hand-back-requires c κs =
     let c₁ = c .before .before .before .before .before .before .before .before .before .before .before .before .before .before .before in
-    saved-fits _ _ _ _ _ (c₁ .before .buffers-fit .ensures) (c₁ .if1 .left)
+    saved-fits _ _ _ _ (c₁ .before .buffers-fit .ensures) (c₁ .if1 .left)
 
 write-page-report-requires : tie.Need-write-page-report-requires
 write-page-report-requires c κs =
     let c₁ = c .before .before .before .before .before .before .before .before .before .before .before .before .before .before .before .before .before .before .before in
-    report-fits _ _ _ _ _ (c₁ .before .buffers-fit .ensures) (c₁ .if1 .left)
+    report-fits _ _ _ _ (c₁ .before .buffers-fit .ensures) (c₁ .if1 .left)
 
 same-length-2 : tie.Need-same-length-2
 same-length-2 c = search needs
@@ -66,6 +75,8 @@ willetcoffer-page-spec =
     buffers-fit-requires
     returns
     read-saved-requires
+    unread-number-requires
+    cast-result
     same-length
     returns-2
     page-requires

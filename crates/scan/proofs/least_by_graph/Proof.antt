@@ -68,5 +68,4 @@ returns c = ends _ _ _ _ _ _ _ (c .before .loop .inv .2) (c .loop-test .left)
 pub least-by-graph-spec : {M : Type 1} → statement M
 least-by-graph-spec =
     tie.close
-    (tie.spec Inv-loop μ-loop loop-holds mul-graph-of shared-slice-read-graph-of graph-of-requires least-by-stretch-requires mul-low (λ c. search needs)
-    add-top upper-requires loop-less loop-again returns)
+    (tie.spec Inv-loop μ-loop loop-holds mul-graph-of shared-slice-read-graph-of graph-of-requires least-by-stretch-requires mul-low add-top upper-requires loop-less loop-again returns)

@@ -23,12 +23,12 @@ same-length c = search needs
 returns : tie.Need-returns
 unfolding ascii line
 returns c =
-    let c₁ = c .before .before in let c₂ = c₁ .before .before .before in let c₃ = c₂ .before .before .before .before .before .before .before .before in
+    let c₁ = c .before .before in let c₂ = c₁ .before .before .before in let c₃ = c₂ .before .before .before .before .before .before .before .before .before in
     (λ w. written-as (c₁ .put-text .ensures) (none-here w (c₂ .if1 .taken) (c₃ .args .tuples .now)), omega (arith, c₁ .put-text .ensures .end, c₃ .pre .1 .1 .1))
 
 top-requires : tie.Need-top-requires
 top-requires c κs =
-    let c₁ = c .before .before .before .before .before .before .before .before in
+    let c₁ = c .before .before .before .before .before .before .before .before .before in
     height-low (c₁ .pre .0 .here) (c .if1 .left)
 
 cast-at : tie.Need-cast-at
@@ -36,7 +36,7 @@ cast-at c = search needs
 
 shared-slice-read-if2 : tie.Need-shared-slice-read-if2
 shared-slice-read-if2 c =
-    let c₁ = c .before in let c₂ = c₁ .before in let c₃ = c₂ .before .before .before .before .before .before .before .before in
+    let c₁ = c .before in let c₂ = c₁ .before in let c₃ = c₂ .before .before .before .before .before .before .before .before .before in
     let h = c₃ .pre .0 .here in
     item-inside h _ (first-item h (c₂ .if1 .left) _ (ap (λ (y : SavedItem). y .«at») (c₁ .top .ensures)))
 
@@ -45,7 +45,7 @@ slice-aggregate-put-text-2 c = search needs
 
 put-text-requires-2 : tie.Need-put-text-requires-2
 put-text-requires-2 c κs =
-    let c₁ = c .before .before .before .before .before .before .before .before .before .before .before .before .before in
+    let c₁ = c .before .before .before .before .before .before .before .before .before .before .before .before .before .before in
     omega (arith, c₁ .pre .1 .1 .1)
 
 same-length-2 : tie.Need-same-length-2
@@ -55,7 +55,7 @@ returns-2 : tie.Need-returns-2
 unfolding ascii line
 returns-2 c =
     let c₁ = c .before .before in let c₂ = c₁ .before .before .before in let c₃ = c₂ .before .before in let c₄ = c₃ .before in
-    let c₅ = c₄ .before .before .before .before .before .before .before .before in (
+    let c₅ = c₄ .before .before .before .before .before .before .before .before .before in (
       λ w. written-as (c₁ .put-text2 .ensures) (other-here w (first-item (w .here) (c₄ .if1 .left) _ (ap (λ (y : SavedItem). y .«at») (c₃ .top .ensures))) (c₂ .if2 .taken)
           (c₅ .args .tuples .now)),
       omega (arith, c₁ .put-text2 .ensures .end, c₅ .pre .1 .1 .1),
@@ -66,7 +66,7 @@ slice-aggregate-fill-ends c = search needs
 
 fill-ends-requires : tie.Need-fill-ends-requires
 fill-ends-requires c κs =
-    let c₁ = c .before .before .before .before .before .before .before .before .before .before .before .before in
+    let c₁ = c .before .before .before .before .before .before .before .before .before .before .before .before .before in
     (c₁ .pre .1 .0, omega arith)
 
 slice-aggregate-put-tuples : tie.Need-slice-aggregate-put-tuples
@@ -75,7 +75,7 @@ slice-aggregate-put-tuples c = search needs
 put-tuples-requires : tie.Need-put-tuples-requires
 put-tuples-requires c κs =
     let c₁ = c .before .before .before in let c₂ = c₁ .before .before in let c₃ = c₂ .before .before in let c₄ = c₃ .before in
-    let c₅ = c₄ .before .before .before .before .before .before .before .before in
+    let c₅ = c₄ .before .before .before .before .before .before .before .before .before in
     ((c₅ .pre .0, first-item (c₅ .pre .0 .here) (c₄ .if1 .left) _ (ap (λ (y : SavedItem). y .«at») (c₃ .top .ensures))), (c₂ .if2 .left, (c₁ .fill-ends .ensures, c₅ .pre .1 .1 .0)))
 
 same-length-3 : tie.Need-same-length-3
@@ -84,7 +84,7 @@ same-length-3 c = search needs
 returns-3 : tie.Need-returns-3
 returns-3 c =
     let c₁ = c .before .before in let c₂ = c₁ .before .before .before .before .before .before in let c₃ = c₂ .before .before in let c₄ = c₃ .before in
-    let c₅ = c₄ .before .before .before .before .before .before .before .before in (
+    let c₅ = c₄ .before .before .before .before .before .before .before .before .before in (
       λ w. let t = first-item (w .here) (c₄ .if1 .left) _ (ap (λ (y : SavedItem). y .«at») (c₃ .top .ensures)) in
           block-here w t (c₂ .if2 .left) (c₅ .args .tuples .now) (c₁ .put-tuples .ensures .0 w t),
       c₁ .put-tuples .ensures .1,

@@ -12,12 +12,12 @@ use Rattle.tuples.proofs.put_tuples.Statement.{statement}
 use Rattle.tuples.proofs.put_tuples.Tie as tie
 
 abbrev Inv-loop : tie.InvT-loop
-Inv-loop run script ends x at table quads leasts tuples out₀ count end₀ k₀ out end k =
+Inv-loop run script ends x at ranks table quads leasts tuples out₀ count end₀ k₀ out end k =
     (k ≤ length tuples / tupleWidth) × (end ≤ lineRoom * k) × (length out ≡ length out₀)
-    × ((w : Lends script table quads leasts x run) (t : Top (w .here) at) → TuplesWritten w t k tuples out₀ out end)
+    × ((w : Lends script ranks table quads leasts x run) (t : Top (w .here) at) → TuplesWritten w t k tuples out₀ out end)
 
 abbrev μ-loop : tie.MeasureT-loop
-μ-loop run script ends x at table quads leasts tuples out₀ count end₀ k₀ out end k = length tuples / tupleWidth - k
+μ-loop run script ends x at ranks table quads leasts tuples out₀ count end₀ k₀ out end k = length tuples / tupleWidth - k
 
 small : (c : tie.In-loop Inv-loop μ-loop) → c .before .loop .k + 1 < 18446744073709551616
 small c = search needs
@@ -33,12 +33,12 @@ tuple-at-requires c κs = omega arith
 
 try-top-requires : tie.Need-try-top-requires Inv-loop μ-loop
 try-top-requires c κs =
-    let c₁ = c .before .before .before .before .before .before .before .before .before .before in
+    let c₁ = c .before .before .before .before .before .before .before .before .before .before .before in
     (c₁ .pre .0, (c₁ .pre .1 .0, c₁ .pre .1 .1 .0))
 
 put-tried-requires : tie.Need-put-tried-requires Inv-loop μ-loop
 put-tried-requires c κs =
-    let c₁ = c .before .before .before in let c₂ = c₁ .before in let c₃ = c₂ .before .before .before .before .before .before .before .before in
+    let c₁ = c .before .before .before in let c₂ = c₁ .before in let c₃ = c₂ .before .before .before .before .before .before .before .before .before in
     omega (arith, c₂ .loop .inv .0, c₂ .loop .inv .1, c₂ .loop .inv .2, c₃ .pre .1 .1 .1, c₁ .loop-test .taken)
 
 add-k : tie.Need-add-k Inv-loop μ-loop
@@ -63,7 +63,7 @@ same-length c = search needs
 
 returns : tie.Need-returns Inv-loop μ-loop
 returns c =
-    let c₁ = c .before in let c₂ = c₁ .before .before .before .before .before .before .before .before in
+    let c₁ = c .before in let c₂ = c₁ .before .before .before .before .before .before .before .before .before in
     (λ w t. tuples-all w t _ _ _ (omega (arith, c₁ .loop .inv .0, c .loop-test .left)) (c₁ .loop .inv .3 w t), omega (arith, c₁ .loop .inv .1, c₁ .loop .inv .0, c₂ .pre .1 .1 .1))
 
 pub put-tuples-spec : {M : Type 1} → statement M

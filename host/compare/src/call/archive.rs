@@ -12,11 +12,15 @@ impl Engine for Archive {
     }
 
     fn call(&self, station: &mut Station, call: &Call, report: &mut [u8]) -> u32 {
-        let Station { card, term_table: terms, quad_table: quads, saved } = station;
+        let Station { card, ranks, term_table: terms, quad_table: quads, saved } = station;
         match call {
-            Call::Load => raw::load(card, TablesMut { terms, quads }, saved),
-            Call::Run { budget, now, .. } => raw::run(card, TablesRef { terms, quads }, saved, *budget, *now, report),
-            Call::Page { graph, page, .. } => raw::page(card, TablesMut { terms, quads }, saved, *graph, page, report),
+            Call::Load => raw::load(card, TablesMut { ranks, terms, quads }, saved),
+            Call::Run { budget, now, .. } => {
+                raw::run(card, TablesRef { ranks, terms, quads }, saved, *budget, *now, report)
+            }
+            Call::Page { graph, page, .. } => {
+                raw::page(card, TablesMut { ranks, terms, quads }, saved, *graph, page, report)
+            }
             Call::Total { .. } => raw::total(card, report),
         }
     }

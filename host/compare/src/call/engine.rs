@@ -10,6 +10,7 @@ use second::evaluator::{evaluate_with, Ways};
 use second::note::{take_notes, Note};
 use second::order::{self, Order};
 use second::printer::print_with;
+use second::rank::{self, Alphabet};
 use second::rules::Env;
 use second::script::Script;
 use second::search::{Naive, Search, Task, Tuple};
@@ -62,16 +63,18 @@ pub struct Second<S> {
     typers: [second::check::Typer; 2],
     search: S,
     order: Order,
+    alphabet: Alphabet,
     evaluate: Evaluate,
     why: Cell<&'static str>,
     notes: RefCell<Vec<Note>>,
 }
 
 /// An engine with these parts: how types are worked out in loads and by the printer, and in the other calls; and how
-/// answers are found. It keeps quads in order as the fast engine does, and evaluates tuples by giving up early.
+/// answers are found. It keeps quads in order and takes ranks as the fast engine does, and evaluates tuples by giving up early.
 pub fn with<S>(name: &'static str, typers: [second::check::Typer; 2], search: S) -> Second<S> {
     let (why, notes) = (Cell::new(""), RefCell::default());
-    Second { name, typers, search, order: order::FAST, evaluate: early::evaluate, why, notes }
+    let (order, alphabet, evaluate) = (order::FAST, rank::FAST, early::evaluate);
+    Second { name, typers, search, order, alphabet, evaluate, why, notes }
 }
 
 /// The fast engine.
@@ -105,13 +108,18 @@ fn counted(script: &Script, terms: &Terms) -> Result<Env, Refusal> {
 /// The engine by the definitions, its search bounded by [`Bounded`].
 pub fn plain() -> Second<Bounded> {
     let plain = with("plain", [counted, assignments::solve_again], Bounded::default());
-    plain.ordering(order::PLAIN).evaluating(count::evaluate)
+    plain.ordering(order::PLAIN).ranking(rank::PLAIN).evaluating(count::evaluate)
 }
 
 impl<S> Second<S> {
     /// The same, quads kept in this order.
     pub fn ordering(self, order: Order) -> Second<S> {
         Second { order, ..self }
+    }
+
+    /// The same, ranks tested and followed in this way.
+    pub fn ranking(self, alphabet: Alphabet) -> Second<S> {
+        Second { alphabet, ..self }
     }
 
     /// The same, tuples evaluated in this way.
@@ -122,7 +130,8 @@ impl<S> Second<S> {
 
 impl<S: Search + Counts> Second<S> {
     fn engine(&self, again: bool) -> second::Engine<'_> {
-        second::Engine { typer: self.typers[usize::from(again)], order: self.order, search: &self.search }
+        let typer = self.typers[usize::from(again)];
+        second::Engine { typer, order: self.order, alphabet: self.alphabet, search: &self.search }
     }
 
     fn code(&self, outcome: Result<(), Refusal>) -> u32 {
@@ -141,8 +150,8 @@ impl<S: Search + Counts> Engine for Second<S> {
     }
 
     fn call(&self, station: &mut Station, call: &Call, report: &mut [u8]) -> u32 {
-        let Station { card, term_table: terms, quad_table: quads, saved } = station;
-        let inputs = [&card.terms[..], &card.schema, &card.script];
+        let Station { card, ranks, term_table: terms, quad_table: quads, saved } = station;
+        let inputs = [&ranks[..], &card.terms, &card.schema, &card.script];
         take_notes();
         let code = self.code(match call {
             Call::Load => self.engine(false).load(inputs, [terms, quads, saved]),
@@ -152,7 +161,7 @@ impl<S: Search + Counts> Engine for Second<S> {
             Call::Page { graph, page, .. } => {
                 self.engine(true).page(inputs, [terms, quads, saved], *graph, page, report)
             }
-            Call::Total { .. } => self.engine(false).total(inputs, report),
+            Call::Total { .. } => self.engine(false).total([inputs[1], inputs[2], inputs[3]], report),
         });
         self.notes.replace(take_notes());
         code
@@ -163,7 +172,8 @@ impl<S: Search + Counts> Engine for Second<S> {
     }
 
     fn evaluate(&self, input: &[u8]) -> Option<String> {
-        let ways = Ways { typer: self.typers[1], order: self.order, evaluate: self.evaluate };
+        let (order, alphabet, evaluate) = (self.order, self.alphabet, self.evaluate);
+        let ways = Ways { typer: self.typers[1], order, alphabet, evaluate };
         Some(evaluate_with(ways, input))
     }
 

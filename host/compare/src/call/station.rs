@@ -6,14 +6,17 @@ use willetcoffer::limits::{
     FETCHED_OFFSET, GRAPH_LIMIT, PAGE_REPORT_WIDTH, QUAD_TABLE_WIDTH, QUAD_WIDTH, RUN_REPORT_WIDTH, SAVED_WIDTH,
     SLOT_WIDTH, TERM_TABLE_WIDTH, TOTAL_REPORT_WIDTH,
 };
+use willetcoffer::ranks::BUILT_IN;
 use willetcoffer::saved::{GRAPHS, QUADS};
 use willetcoffer::{Card, PageReport, RunReport};
 
-/// A card and lent buffers of any lengths.
+/// A card, ranks and lent buffers of any lengths.
 #[derive(Clone, PartialEq, Eq)]
 pub struct Station {
     /// Listed terms, schema and script.
     pub card: Card,
+    /// The ranks that calls are lent.
+    pub ranks: Vec<u8>,
     /// The term table.
     pub term_table: Vec<u8>,
     /// The quad table.
@@ -78,8 +81,13 @@ impl Call {
         }
     }
 
+    /// Whether it is lent tables and ranks; a total is not.
+    pub fn is_lent(&self) -> bool {
+        !matches!(self, Call::Total { .. })
+    }
+
     /// The length of its report; a load has none.
-    fn report(&self) -> usize {
+    pub fn report(&self) -> usize {
         match self {
             Call::Load => 0,
             Call::Run { report, .. } | Call::Page { report, .. } | Call::Total { report } => *report,
@@ -115,11 +123,11 @@ impl Answer {
 }
 
 impl Station {
-    /// Buffers of the right lengths, each byte the same.
+    /// Buffers of the right lengths, each byte the same, and the built-in ranks.
     pub fn new(card: Card, byte: u8) -> Station {
         let [term_table, quad_table, saved] =
             [TERM_TABLE_WIDTH, QUAD_TABLE_WIDTH, SAVED_WIDTH].map(|width| vec![byte; width]);
-        Station { card, term_table, quad_table, saved }
+        Station { card, ranks: BUILT_IN.to_vec(), term_table, quad_table, saved }
     }
 
     /// The buffers with their names.

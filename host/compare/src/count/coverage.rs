@@ -16,19 +16,35 @@ const ENOUGH: u64 = 100;
 /// 1,000 times in the gate's 50,000.
 const CASES_FOR_ONE: u64 = 50;
 
+/// Two refusals that a call would meet together are to be met by one call for so many cases: each pair 50 times in 50,000.
+const CASES_FOR_TWO: u64 = 1_000;
+
+/// The sorts of ranks in which each stands once.
+const GOOD_RANKS: [&str; 4] = ["built in", "built in, turned round", "by byte", "others"];
+/// The sorts of those that are none.
+const BAD_RANKS: [&str; 6] = [
+    "of 94 bytes",
+    "of 96 bytes",
+    "of another length",
+    "with a rank twice, one missing",
+    "with a rank of 95",
+    "with a rank over 95",
+];
+
 /// The lines of an evaluator that are a tuple's.
 const OF_TUPLES: [&str; 3] = ["bad", "true", "false"];
 /// From so many tuples on, what an evaluator may write is required.
 const TUPLES: u64 = 50_000;
 
 /// What a long enough run of so many cases has to meet, and how often: each refusal of each call, each script kind, each state, also
-/// where the total is known, each place of each blocks, each type, each note, each change of a store's order, each way to a store again.
+/// where the total is known, each place of each blocks, each type, each sort of ranks, each note, each change of a store's order, each way
+/// to a store again, and refusals together.
 fn required(cases: u64) -> Vec<(&'static str, String, u64)> {
     let mut all = Vec::new();
     let mut add = |section, keys: &[u32]| all.extend(keys.iter().map(|k| (section, format!("{k:02}"))));
-    add("load", &[0, 1, 2, 3, 4, 5, 6, 7, 8, 9]);
-    add("run", &[0, 1, 10, 11]);
-    add("page", &[0, 1, 10, 12, 13, 14]);
+    add("load", &[0, 1, 2, 3, 4, 5, 6, 7, 8, 9, 21]);
+    add("run", &[0, 1, 10, 11, 21]);
+    add("page", &[0, 1, 10, 12, 13, 14, 21]);
     add("total", &[0, 1, 2, 3, 4, 5, 6, 7]);
     add("printer", &[0, 2, 3, 4, 5, 6, 7, 8, 9]);
     let kinds = [0x31..=0x32, 0x41..=0x45, 0x50..=0x58, 0x61..=0x65, 0x71..=0x74].into_iter().flatten();
@@ -41,11 +57,24 @@ fn required(cases: u64) -> Vec<(&'static str, String, u64)> {
     all.extend(each.map(|place| ("total of", place.to_string())));
     all.extend(willetcoffer::Type::all().map(|t| ("type", t.to_string())));
     all.extend((0x81..=0x85).map(|kind: u32| ("page record", format!("{kind:x}"))));
+    for section in ["ranks of a load", "ranks of a run", "ranks of a page"] {
+        all.extend(GOOD_RANKS.into_iter().chain(BAD_RANKS).map(|sort| (section, sort.to_string())));
+    }
+    all.extend(["as at the load", "others than at the load"].map(|which| ("ranks lent", which.to_string())));
     let in_order = ["order: one taken out sound", "order: another, in its place sound"];
     all.extend(in_order.map(|key| ("tampered", key.to_string())));
     let mut all: Vec<_> = all.into_iter().map(|(section, key)| (section, key, ENOUGH)).collect();
     all.extend(often().map(|(section, key)| (section, key.to_string(), cases / CASES_FOR_ONE)));
+    all.extend(together().map(|(section, key)| (section, key.to_string(), cases / CASES_FOR_TWO)));
     all
+}
+
+/// Two refusals that a call would meet: 1 and 21, of which it gives 1, and 21 and another, of which it gives 21.
+fn together() -> impl Iterator<Item = (&'static str, &'static str)> {
+    let first = ["load", "run", "page"].map(|call| ("1 before 21", call));
+    let loads = ["load 02", "load 03", "load 04", "load 05", "load 06", "load 07", "load 08", "load 09"];
+    let others = ["run 10", "run 11", "page 10", "page 12", "page 13", "page 14", "load 00", "run 00", "page 00"];
+    first.into_iter().chain(loads.into_iter().chain(others).map(|key| ("21 before", key)))
 }
 
 /// What grows with the number of cases.
@@ -58,7 +87,7 @@ fn often() -> impl Iterator<Item = (&'static str, &'static str)> {
 
 /// What a long enough list of tuples has to meet: each line of an evaluator, and each second part left out and taken in.
 fn required_of_tuples() -> Vec<(&'static str, String, u64)> {
-    let single = ["too long", "cut off", "refused 10", "refused 11", "no block"];
+    let single = ["too long", "cut off", "refused 21", "refused 10", "refused 11", "no block"];
     let lines = single.into_iter().chain(OF_TUPLES).map(|line| ("evaluator", line));
     let all = lines.chain(Note::OF_COUNTS.map(Note::name));
     all.map(|(section, key)| (section, key.to_string(), ENOUGH)).collect()

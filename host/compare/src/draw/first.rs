@@ -37,7 +37,7 @@ pub fn station(rng: &mut Rng, pool: &Pool) -> (Station, &'static str) {
 
 /// A script of the case, and what sort it is.
 fn script(rng: &mut Rng, pool: &Pool) -> (Vec<u8>, &'static str) {
-    match rng.weighted(&[46, 18, 10, 5, 5, 12, 12, 4]) {
+    match rng.weighted(&[44, 18, 10, 5, 5, 15, 19, 30, 4]) {
         0 => {
             let room = rng.within(20, 400);
             (Writer::new(rng, pool, room).script(0), "typed")
@@ -51,6 +51,7 @@ fn script(rng: &mut Rng, pool: &Pool) -> (Vec<u8>, &'static str) {
         4 => (deep(rng, pool), "deep"),
         5 => (Writer::new(rng, pool, 200).starred(), "starred"),
         6 => (Writer::new(rng, pool, 200).overflowing(), "overflowing"),
+        7 => (Writer::new(rng, pool, 200).sorted(), "sorted"),
         _ => (as_long_as_it_may_be(rng, pool), "longest"),
     }
 }

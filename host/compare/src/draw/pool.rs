@@ -40,10 +40,20 @@ fn uri_text(rng: &mut Rng, n: usize) -> Vec<u8> {
     }
 }
 
+const TAGS: [&str; 13] = ["", "", "", "en", "en-gb", "en-", "fr", "e", "eng", "-", "--", "--------", "abcdefgh"];
+
+/// One of these strings with another tag.
+fn same_text(rng: &mut Rng, listed: &[Term]) -> Option<Term> {
+    let texts = listed.iter().filter_map(|term| if let Term::Str(_, text) = term { Some(*text) } else { None });
+    let texts: Vec<_> = texts.collect();
+    let text = *rng.pick(&texts[..texts.len().min(2)])?;
+    let tag = rng.one(&["", "en-gb", "eng", "fr", "e-", "-", "-e", "abcdefgh"]);
+    Some(Term::Str(fill(tag.as_bytes()), text))
+}
+
 /// A string.
 fn string(rng: &mut Rng, n: usize) -> Term {
-    let tags = ["", "", "", "en", "en-gb", "en-", "fr", "e", "eng", "-", "--", "--------", "abcdefgh"];
-    let tag = rng.one(&tags);
+    let tag = rng.one(&TAGS);
     let mut text = match rng.below(8) {
         0 => String::new(),
         1 => (0..rng.within(1, TEXT_WIDTH)).map(|_| rng.within(0x20, 0x7e) as u8 as char).collect(),
@@ -116,6 +126,10 @@ impl Pool {
             if seen.insert(word) {
                 listed.push(word);
             }
+        }
+        let twins = if size == Size::Full || rng.one_in(3) { 0 } else { rng.within(1, 4) };
+        for _ in 0..twins {
+            listed.extend(same_text(rng, &listed).filter(|word| seen.insert(*word)));
         }
         let mut schema: Vec<(Uri, Datatype)> = Vec::new();
         for n in 0..entries {

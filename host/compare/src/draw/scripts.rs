@@ -1,6 +1,7 @@
 //! Scripts that are accepted often: each variable has a type in mind, and the parts are drawn to agree with it.
 
 mod overflowing;
+mod sorted;
 mod starred;
 mod tangle;
 

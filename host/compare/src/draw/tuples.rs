@@ -3,6 +3,7 @@
 
 use super::next::now;
 use super::pages::patterns;
+use super::ranks;
 use super::rng::Rng;
 use super::tamper::{number, tamper};
 use super::Draw;
@@ -32,7 +33,13 @@ impl Draw {
             None => std::array::from_fn(|_| number(rng, station) as u16),
         });
         let tuples = tuples.collect();
-        let mut asked = Asked { tampering: None, now: now(rng), tuples, left: None };
+        let mut lent = station.ranks.clone();
+        match rng.below(25) {
+            0 => ranks::spoil_in_place(rng, &mut lent),
+            1..=3 => lent = ranks::good(rng),
+            _ => {}
+        }
+        let mut asked = Asked { tampering: None, ranks: lent, now: now(rng), tuples, left: None };
         if rng.one_in(10) {
             let mut changed = station.clone();
             let label = tamper(rng, &self.pool, &mut changed);
@@ -59,7 +66,7 @@ fn cut(rng: &mut Rng, whole: usize) -> usize {
 
 /// What a sound station stands for.
 fn held(station: &Station) -> Option<Held> {
-    let Station { card, term_table, quad_table, saved } = station;
+    let Station { card, term_table, quad_table, saved, .. } = station;
     let saved = saved[..].try_into().ok()?;
     let (terms, schema, script) = (&card.terms, &card.schema, &card.script);
     sound(arcs::solve, order::FAST, &Lent { terms, schema, script, term_table, quad_table, saved }).ok()

@@ -12,6 +12,8 @@ pub type Numbers = [u16; PAIR_LIMIT];
 pub struct Asked {
     /// What was changed before, for this question alone.
     pub tampering: Option<Tampering>,
+    /// The ranks.
+    pub ranks: Vec<u8>,
     /// The value of now.
     pub now: i64,
     /// The tuples.
@@ -21,16 +23,17 @@ pub struct Asked {
 }
 
 impl Asked {
-    /// The input: lengths of the card's parts, the card, both tables, the saved run, now, the tuples. Parts of more than 65,535
+    /// The input: ranks, lengths of the card's parts, the card, both tables, the saved run, now, the tuples. Parts of more than 65,535
     /// bytes have a length that is not theirs.
     pub fn input(&self, station: &Station) -> Vec<u8> {
         let mut station = station.clone();
         if let Some(tampering) = &self.tampering {
             tampering.apply(&mut station);
         }
-        let Station { card, term_table, quad_table, saved } = &station;
+        let Station { card, term_table, quad_table, saved, .. } = &station;
         let parts = [&card.terms, &card.schema, &card.script];
-        let mut input = parts.map(|part| (part.len() as u16).to_le_bytes()).concat();
+        let mut input = self.ranks.clone();
+        input.extend(parts.map(|part| (part.len() as u16).to_le_bytes()).concat());
         for part in parts.into_iter().chain([term_table, quad_table, saved]) {
             input.extend(part);
         }

@@ -2,6 +2,8 @@
 
 use super::Asked;
 use crate::call::{Call, Engine, Made, Station};
+use crate::count::sort_of;
+use crate::judge::ranks::each_once;
 use crate::shrink::tree::Node;
 use std::fmt::Write;
 
@@ -29,6 +31,9 @@ pub fn describe(made: &Made, tamper: &str, engines: [&dyn Engine; 2]) -> String 
     if !tamper.is_empty() {
         let _ = writeln!(text, "  before it, tampered with: {tamper}");
     }
+    if made.call.is_lent() {
+        text += &ranks(&made.before.ranks);
+    }
     for ((engine, answer), time) in engines.iter().zip(&made.answers).zip(made.times) {
         let (name, why) = (engine.name(), engine.why());
         let _ = writeln!(text, "  {name}: {} report {} {why} in {time:?}", answer.code, hex(&answer.report));
@@ -43,6 +48,7 @@ pub fn describe_asked(asked: &Asked, station: &Station) -> String {
     if let Some(tampering) = &asked.tampering {
         let _ = writeln!(text, "  before it, tampered with: {}", tampering.label);
     }
+    text += &ranks(&asked.ranks);
     if let Some(left) = asked.left {
         let _ = writeln!(text, "  made {left} bytes long");
     }
@@ -55,6 +61,19 @@ pub fn describe_asked(asked: &Asked, station: &Station) -> String {
         let _ = writeln!(text, "  {} tuples: {}", asked.tuples.len(), lines.trim_end());
     }
     text
+}
+
+/// Ranks, where they are not the built-in ones: of what sort, and the bytes from 20 to 7E as they rise, or else the ranks themselves.
+fn ranks(ranks: &[u8]) -> String {
+    let mut bytes: Vec<(u8, char)> = ranks.iter().copied().zip(' '..='~').collect();
+    bytes.sort_unstable();
+    match sort_of(ranks) {
+        "built in" => String::new(),
+        sort if each_once(ranks) => {
+            format!("  ranks {sort}: {}\n", bytes.iter().map(|(_, byte)| byte).collect::<String>())
+        }
+        sort => format!("  ranks {sort}: {ranks:?}\n"),
+    }
 }
 
 /// A line for each record, deeper ones further in.

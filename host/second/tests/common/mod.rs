@@ -2,11 +2,13 @@
 #![allow(dead_code)]
 
 use second::limits::*;
+use second::rank::BUILT_IN;
 use second::term::Term;
 use second::types::{Datatype, Type};
 use second::Engine;
 
 pub struct Station {
+    pub ranks: Vec<u8>,
     pub terms: Vec<u8>,
     pub schema: Vec<u8>,
     pub script: Vec<u8>,
@@ -21,6 +23,7 @@ impl Station {
     /// Buffers that are not zero, so that a byte left unwritten shows.
     pub fn new(terms: Vec<u8>, schema: Vec<u8>, script: Vec<u8>) -> Station {
         Station {
+            ranks: BUILT_IN.to_vec(),
             terms,
             schema,
             script,
@@ -46,7 +49,7 @@ impl Station {
         let mut results = Vec::new();
         for engine in ENGINES {
             let [mut terms, mut quads, mut saved] = before.clone();
-            let inputs = [&self.terms[..], &self.schema, &self.script];
+            let inputs = [&self.ranks[..], &self.terms, &self.schema, &self.script];
             let outcome = engine.load(inputs, [&mut terms, &mut quads, &mut saved]);
             results.push((outcome.err().map_or(0, |r| r.number), [terms, quads, saved]));
         }
@@ -64,7 +67,7 @@ impl Station {
         for engine in ENGINES {
             let mut report = vec![0xaa; RUN_REPORT];
             let mut saved = before.clone();
-            let inputs = [&self.terms[..], &self.schema, &self.script];
+            let inputs = [&self.ranks[..], &self.terms, &self.schema, &self.script];
             let tables = [&self.term_table[..], &self.quad_table];
             let outcome = engine.run(inputs, tables, &mut saved, (budget, now), &mut report);
             if outcome.is_err() {
@@ -88,7 +91,7 @@ impl Station {
         for engine in ENGINES {
             let mut report = vec![0xaa; PAGE_REPORT];
             let [mut terms, mut quads, mut saved] = before.clone();
-            let inputs = [&self.terms[..], &self.schema, &self.script];
+            let inputs = [&self.ranks[..], &self.terms, &self.schema, &self.script];
             let outcome = engine.page(inputs, [&mut terms, &mut quads, &mut saved], graph, page, &mut report);
             let after = [terms, quads, saved];
             if outcome.is_err() {

@@ -44,22 +44,23 @@ fn widths_limits_and_offsets_of_the_library() {
     assert_eq!(rust(&read("host/willetcoffer/src/limits.rs")), definitions());
 }
 
-/// The refusals' names in the shared data, in the order of their numbers.
-const REFUSALS: [&str; 14] = [
-    "WRONG_LENGTH",
-    "BAD_TERM",
-    "TERM_TWICE",
-    "BAD_ENTRY",
-    "PROPERTY_TWICE",
-    "BAD_SCRIPT",
-    "OUT_OF_SCOPE",
-    "NO_TYPING",
-    "NO_GREATEST",
-    "UNSOUND",
-    "BAD_RUN",
-    "NO_GRAPH",
-    "BAD_PAGE",
-    "NO_ROOM",
+/// The refusals' names in the shared data, with their numbers.
+const REFUSALS: [(&str, i128); 15] = [
+    ("WRONG_LENGTH", 1),
+    ("BAD_TERM", 2),
+    ("TERM_TWICE", 3),
+    ("BAD_ENTRY", 4),
+    ("PROPERTY_TWICE", 5),
+    ("BAD_SCRIPT", 6),
+    ("OUT_OF_SCOPE", 7),
+    ("NO_TYPING", 8),
+    ("NO_GREATEST", 9),
+    ("UNSOUND", 10),
+    ("BAD_RUN", 11),
+    ("NO_GRAPH", 12),
+    ("BAD_PAGE", 13),
+    ("NO_ROOM", 14),
+    ("BAD_RANKS", 21),
 ];
 
 #[test]
@@ -67,8 +68,8 @@ fn the_definitions_agree_with_the_shared_data() {
     let defined = definitions();
     let mut shared = rust(&read("crates/definitions/src/lib.rt"));
     assert!(shared.len() >= 50, "the shared data was read: {shared:?}");
-    for (name, number) in REFUSALS.iter().zip(1..) {
-        assert_eq!(shared.remove(*name), Some(number), "{name}");
+    for (name, number) in REFUSALS {
+        assert_eq!(shared.remove(name), Some(number), "{name}");
     }
     // what the code alone has: the places of the stack
     assert_eq!(shared.remove("ITEM_LIMIT"), defined.get("DEPTH_LIMIT").copied());
@@ -214,6 +215,18 @@ fn the_layout_in_the_header() {
     for name in ["TYPES", "BOUND", "BINDINGS", "FETCHED", "ITEMS"] {
         assert!(starts.contains(&defined[&format!("{name}_OFFSET")]), "{name}");
     }
+}
+
+/// The header's built-in ranks are the library's.
+#[test]
+fn built_in_ranks() {
+    let text = read(HEADER);
+    let (_, list) = text.split_once("willetcoffer_built_in_ranks[WILLETCOFFER_RANKS_WIDTH] = {").expect("the ranks");
+    let list = list.split('}').next().unwrap_or_default();
+    // Without its comments.
+    let numbers = list.split("/*").map(|part| part.split_once("*/").map_or(part, |(_, after)| after));
+    let ranks: Vec<u8> = numbers.flat_map(|part| part.split(',')).filter_map(|word| word.trim().parse().ok()).collect();
+    assert_eq!(ranks, willetcoffer::ranks::BUILT_IN);
 }
 
 #[test]

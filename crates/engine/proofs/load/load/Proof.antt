@@ -4,121 +4,70 @@ use native.Mathlib.Omega.{arith}
 use lib.ListN.{length-replicate}
 use borrow.Author.Tests.{not-true, not-false}
 use Rattle.definitions.specs.Limits.{quadTableWidth}
+use Rattle.definitions.specs.Calls.{Lent}
 use Rattle.entry.specs.Entry.{lentOf}
-use Rattle.entry.proofs.EntryLaws.{fit-both}
-use Rattle.engine.proofs.LoadLaws.{load-refused, other-length, check-refused, table-width, load-accepted}
+use Rattle.entry.proofs.EntryLaws.{fit-ranks, fit-both}
+use Rattle.engine.proofs.LoadLaws.{other-ranks, load-refused, other-length, check-refused, table-width, load-accepted}
 use Rattle.pages.proofs.DoneLaws.{empty-table}
 use borrow.Author.Needs.{needs}
 use Rattle.engine.proofs.load.load.Statement.{statement}
 use Rattle.engine.proofs.load.load.Tie as tie
 
-tables-fit-requires : tie.Need-tables-fit-requires
-tables-fit-requires c κs = search needs
-
-refused-requires : tie.Need-refused-requires
-refused-requires c κs = search needs
-
-same-length : tie.Need-same-length
-same-length c = search needs
-
-same-length-2 : tie.Need-same-length-2
-same-length-2 c = search needs
+-- what is lent, seen from after the test of its lengths
+abbrev lent : tie.After-tables-fit → Lent
+lent t =
+    let s = t .before .before .before .before .before .before .before .before .before in
+    lentOf (s .args .ranks .now) (s .args .terms .now) (s .args .schema .now) (s .args .script .now) (s .args .table .now) (s .args .store .now)
 
 returns : tie.Need-returns
 returns c =
-    let c₁ = c .before in let c₂ = c₁ .before in let c₃ = c₂ .before .before .before .before .before .before .before .before in
-    let l = lentOf (c₃ .args .terms .now) (c₃ .args .schema .now) (c₃ .args .script .now) (c₃ .args .table .now) (c₃ .args .store .now) in
-    load-refused l (other-length l (c₂ .tables-fit .ensures) (not-true _ (c₁ .if1 .taken))) (c .refused .ensures)
+    let t = c .before .before in
+    let l = lent t in
+    load-refused l (other-length l (t .tables-fit .ensures) (not-true _ (c .before .if1 .taken))) (c .refused .ensures)
 
-slice-aggregate-check-card : tie.Need-slice-aggregate-check-card
-slice-aggregate-check-card c = search needs
-
-slice-aggregate-check-card-2 : tie.Need-slice-aggregate-check-card-2
-slice-aggregate-check-card-2 c = search needs
-
-check-card-requires : tie.Need-check-card-requires
-check-card-requires c κs = search needs
-
-refused-requires-2 : tie.Need-refused-requires-2
-refused-requires-2 c κs = search needs
-
-same-length-3 : tie.Need-same-length-3
-same-length-3 c = search needs
-
-same-length-4 : tie.Need-same-length-4
-same-length-4 c = search needs
+is-alphabet-requires : tie.Need-is-alphabet-requires
+is-alphabet-requires c κs = fit-ranks _ (c .before .tables-fit .ensures) (not-false _ (c .if1 .left))
 
 returns-2 : tie.Need-returns-2
 returns-2 c =
-    let c₁ = c .before in let c₂ = c₁ .before .before .before .before in let c₃ = c₂ .before .before .before in let c₄ = c₃ .before in
-    let c₅ = c₄ .before .before .before .before .before .before .before .before in
-    let l = lentOf (c₅ .args .terms .now) (c₅ .args .schema .now) (c₅ .args .script .now) (c₅ .args .table .now) (c₅ .args .store .now) in
-    load-refused l (check-refused l (c₄ .tables-fit .ensures) (not-false _ (c₃ .if1 .left)) (c₂ .check-card .ensures .0) (c₁ .if2 .taken)) (c .refused2 .ensures)
-
-slice-aggregate-copy : tie.Need-slice-aggregate-copy
-slice-aggregate-copy c = search needs
-
-copy-requires : tie.Need-copy-requires
-copy-requires c κs =
-    let c₁ = c .before .before in let c₂ = c₁ .before .before .before .before in let c₃ = c₂ .before .before .before in let c₄ = c₃ .before in
-    let c₅ = c₄ .before .before .before .before .before .before .before .before in
-    let l = lentOf (c₅ .args .terms .now) (c₅ .args .schema .now) (c₅ .args .script .now) (c₅ .args .table .now) (c₅ .args .store .now) in
-    omega (
-      arith,
-      table-width l (c₄ .tables-fit .ensures) (not-false _ (c₃ .if1 .left)) (c₂ .check-card .ensures .0) (c₁ .if2 .left) (c₂ .check-card .ensures .1),
-      fit-both l
-          (c₄ .tables-fit .ensures) (not-false _ (c₃ .if1 .left)),
-    )
-
-slice-aggregate-copy-2 : tie.Need-slice-aggregate-copy-2
-slice-aggregate-copy-2 c = search needs
-
-copy-requires-2 : tie.Need-copy-requires-2
-copy-requires-2 c κs =
-    let c₁ = c .before .before .before .before .before .before .before .before .before .before .before .before .before .before in let c₂ = c₁ .before in
-    let c₃ = c₂ .before .before .before .before .before .before .before .before in
-    let l = lentOf (c₃ .args .terms .now) (c₃ .args .schema .now) (c₃ .args .script .now) (c₃ .args .table .now) (c₃ .args .store .now) in
-    omega (arith, length-replicate {A = ℕ} quadTableWidth 0, fit-both l (c₂ .tables-fit .ensures) (not-false _ (c₁ .if1 .left)))
-
-accepted-requires : tie.Need-accepted-requires
-accepted-requires c κs = search needs
-
-same-length-5 : tie.Need-same-length-5
-same-length-5 c = search needs
-
-same-length-6 : tie.Need-same-length-6
-same-length-6 c = search needs
+    let a = c .before .before in let e = a .before in let t = e .before in
+    let l = lent t in
+    load-refused l (other-ranks l (t .tables-fit .ensures) (not-false _ (e .if1 .left)) (a .is-alphabet .ensures) (not-true _ (c .before .if2 .taken))) (c .refused2 .ensures)
 
 returns-3 : tie.Need-returns-3
 returns-3 c =
-    let c₁ = c .before .before .before .before in let c₂ = c₁ .before .before .before .before .before in let c₃ = c₂ .before .before .before in
-    let c₄ = c₃ .before .before .before .before in let c₅ = c₄ .before .before .before in let c₆ = c₅ .before in
-    let c₇ = c₆ .before .before .before .before .before .before .before .before in
-    let l = lentOf (c₇ .args .terms .now) (c₇ .args .schema .now) (c₇ .args .script .now) (c₇ .args .table .now) (c₇ .args .store .now) in
-    load-accepted l (c₆ .tables-fit .ensures) (not-false _ (c₅ .if1 .left)) (c₄ .check-card .ensures .0) (c₃ .if2 .left) (c₄ .check-card .ensures .1) _ (c .accepted .ensures)
-    empty-table (c₂ .copy .ensures .1) (c₁ .copy2 .ensures .1)
+    let k = c .before .before .before .before .before in let f = k .before .before .before in let a = f .before in let e = a .before in let t = e .before in
+    let l = lent t in
+    load-refused l
+    (check-refused l (t .tables-fit .ensures) (not-false _ (e .if1 .left)) (a .is-alphabet .ensures) (not-false _ (f .if2 .left)) (k .check-card .ensures .0) (c .before .if3 .taken))
+    (c .refused3 .ensures)
+
+copy-requires : tie.Need-copy-requires
+copy-requires c κs =
+    let x = c .before .before in let k = x .before .before .before .before in let f = k .before .before .before in let a = f .before in let e = a .before in let t = e .before in
+    let l = lent t in
+    omega (
+      arith,
+      table-width l (t .tables-fit .ensures) (not-false _ (e .if1 .left)) (a .is-alphabet .ensures) (not-false _ (f .if2 .left)) (k .check-card .ensures .0) (x .if3 .left)
+          (k .check-card .ensures .1),
+      fit-both _ (t .tables-fit .ensures) (not-false _ (e .if1 .left)),
+    )
+
+copy-requires-2 : tie.Need-copy-requires-2
+copy-requires-2 c κs =
+    let e = c .before .before .before .before .before .before .before .before .before .before .before .before .before .before .before .before in let t = e .before in
+    omega (arith, length-replicate {A = ℕ} quadTableWidth 0, fit-both _ (t .tables-fit .ensures) (not-false _ (e .if1 .left)))
+
+returns-4 : tie.Need-returns-4
+returns-4 c =
+    let d = c .before .before .before .before in let b = d .before .before .before .before .before in let x = b .before .before .before in
+    let k = x .before .before .before .before in let f = k .before .before .before in let a = f .before in let e = a .before in let t = e .before in
+    load-accepted (lent t) (t .tables-fit .ensures) (not-false _ (e .if1 .left)) (a .is-alphabet .ensures) (not-false _ (f .if2 .left))
+    (k .check-card .ensures .0) (x .if3 .left) (k .check-card .ensures .1) _ (c .accepted .ensures) empty-table (b .copy .ensures .1) (d .copy2 .ensures .1)
 
 pub load-spec : {M : Type 1} → statement M
 load-spec =
     tie.close
-    (tie.spec
-    tables-fit-requires
-    refused-requires
-    same-length
-    same-length-2
-    returns
-    slice-aggregate-check-card
-    slice-aggregate-check-card-2
-    check-card-requires
-    refused-requires-2
-    same-length-3
-    same-length-4
-    returns-2
-    slice-aggregate-copy
-    copy-requires
-    slice-aggregate-copy-2
-    copy-requires-2
-    accepted-requires
-    same-length-5
-    same-length-6
-    returns-3)
+    (tie.spec (λ c κs. search needs) (λ c κs. search needs) (λ c. search needs) (λ c. search needs) returns is-alphabet-requires (λ c κs. search needs) (λ c. search needs)
+    (λ c. search needs) returns-2 (λ c. search needs) (λ c. search needs) (λ c κs. search needs) (λ c κs. search needs) (λ c. search needs) (λ c. search needs) returns-3
+    (λ c. search needs) copy-requires (λ c. search needs) copy-requires-2 (λ c κs. search needs) (λ c. search needs) (λ c. search needs) returns-4)

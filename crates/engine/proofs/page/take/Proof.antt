@@ -21,21 +21,21 @@ levels : (c : tie.Start) → length (c .args .saved .control .items) ≡ depthLi
 levels c = search (length-mapped, needs)
 
 canonical-control-requires : tie.Need-canonical-control-requires
-canonical-control-requires c κs = run-low _ _ _ _ _ _ _ _ _ _ (c .before .before .before .before .before .before .before .before .pre) .0
+canonical-control-requires c κs = run-low _ _ _ _ _ _ _ _ _ _ _ (c .before .before .before .before .before .before .before .before .pre .1) .0
 
 canonical-store-requires : tie.Need-canonical-store-requires
-canonical-store-requires c κs = run-low _ _ _ _ _ _ _ _ _ _ (c .before .before .before .before .before .before .before .before .before .before .pre) .1
+canonical-store-requires c κs = run-low _ _ _ _ _ _ _ _ _ _ _ (c .before .before .before .before .before .before .before .before .before .before .pre .1) .1
 
 cast-take-in : tie.Need-cast-take-in
-cast-take-in c = omega (arith, graph-small _ _ _ _ _ _ _ _ _ _ (c .before .before .before .before .before .before .before .before .before .before .before .pre))
+cast-take-in c = omega (arith, graph-small _ _ _ _ _ _ _ _ _ _ _ (c .before .before .before .before .before .before .before .before .before .before .before .pre .1))
 
 take-in-requires : tie.Need-take-in-requires
 take-in-requires c κs =
     let c₁ = c .before .before in let c₂ = c₁ .before .before .before .before .before .before in let c₃ = c₂ .before in let c₄ = c₃ .before .before .before .before in
-    let p = c₄ .pre in let bt : AreBytes (c₄ .args .table .now) = λ k. omega (arith, c₃ .slice-known .given k) in
+    let p = c₄ .pre .1 in let bt : AreBytes (c₄ .args .table .now) = λ k. omega (arith, c₃ .slice-known .given k) in
     let bq : AreBytes (c₄ .args .store .now) = λ k. omega (arith, c₂ .slice-known2 .given k) in (
-      page-read _ _ _ _ _ _ _ _ _ _ p,
-      (page-fits _ _ _ _ _ _ _ _ _ _ p, (schema-read _ _ _ _ _ _ _ _ _ _ p, held-tables _ _ _ _ _ _ _ _ _ _ p bt bq (graphs c₄) _ (c₁ .canonical-store .ensures))),
+      page-read _ _ _ _ _ _ _ _ _ _ _ p,
+      (page-fits _ _ _ _ _ _ _ _ _ _ _ p, (schema-read _ _ _ _ _ _ _ _ _ _ _ p, held-tables _ _ _ _ _ _ _ _ _ _ _ p bt bq (graphs c₄) _ (c₁ .canonical-store .ensures))),
     )
 
 enum-told : tie.Need-enum-told
@@ -57,11 +57,11 @@ returns : tie.Need-returns
 returns c =
     let c₁ = c .before in let c₂ = c₁ .before .before .before .before .before .before in let c₃ = c₂ .before .before .before in
     let c₄ = c₃ .before .before .before .before .before .before in let c₅ = c₄ .before in let c₆ = c₅ .before .before .before .before in
-    let p = c₆ .pre in let bt : AreBytes (c₆ .args .table .now) = λ k. omega (arith, c₅ .slice-known .given k) in
+    let bt : AreBytes (c₆ .args .table .now) = λ k. omega (arith, c₅ .slice-known .given k) in
     let bq : AreBytes (c₆ .args .store .now) = λ k. omega (arith, c₄ .slice-known2 .given k) in
-    not-taken _ _ _ _ _ _ _ _ _ _ p bt bq (graphs c₆) _ (c₃ .canonical-store .ensures) _ _ _
-    (c₂ .take-in .ensures _ _ _ (schema-is _ _ _ _ _ _ _ _ _ _ p) (page-is _ _ _ _ _ _ _ _ _ _ p)
-    (held-store _ _ _ _ _ _ _ _ _ _ p bt bq (graphs c₆) _ (c₃ .canonical-store .ensures))) _ (c₁ .enum-told2 .given .1) (c .refused .ensures)
+    λ ranks p. not-taken _ _ _ _ _ _ _ _ _ _ _ p bt bq (graphs c₆) _ (c₃ .canonical-store .ensures) _ _ _
+    (c₂ .take-in .ensures _ _ _ (schema-is _ _ _ _ _ _ _ _ _ _ _ p) (page-is _ _ _ _ _ _ _ _ _ _ _ p)
+    (held-store _ _ _ _ _ _ _ _ _ _ _ p bt bq (graphs c₆) _ (c₃ .canonical-store .ensures))) _ (c₁ .enum-told2 .given .1) (c .refused .ensures)
 
 same-length-3 : tie.Need-same-length-3
 same-length-3 c = search needs
@@ -73,11 +73,11 @@ returns-2 : tie.Need-returns-2
 returns-2 c =
     let c₁ = c .before in let c₂ = c₁ .before .before .before .before .before .before in let c₃ = c₂ .before .before .before in let c₄ = c₃ .before .before in
     let c₅ = c₄ .before .before .before .before in let c₆ = c₅ .before in let c₇ = c₆ .before .before .before .before in
-    let p = c₇ .pre in let bt : AreBytes (c₇ .args .table .now) = λ k. omega (arith, c₆ .slice-known .given k) in
+    let bt : AreBytes (c₇ .args .table .now) = λ k. omega (arith, c₆ .slice-known .given k) in
     let bq : AreBytes (c₇ .args .store .now) = λ k. omega (arith, c₅ .slice-known2 .given k) in
-    now-taken _ _ _ _ _ _ _ _ _ _ p bt bq (graphs c₇) _ (c₃ .canonical-store .ensures) _ _ _
-    (c₂ .take-in .ensures _ _ _ (schema-is _ _ _ _ _ _ _ _ _ _ p) (page-is _ _ _ _ _ _ _ _ _ _ p)
-    (held-store _ _ _ _ _ _ _ _ _ _ p bt bq (graphs c₇) _ (c₃ .canonical-store .ensures))) (marks c₇) (levels c₇) _ (c₄ .canonical-control .ensures) _ (c₁ .enum-told .given .1)
+    λ ranks p. now-taken _ _ _ _ _ _ _ _ _ _ _ p bt bq (graphs c₇) _ (c₃ .canonical-store .ensures) _ _ _
+    (c₂ .take-in .ensures _ _ _ (schema-is _ _ _ _ _ _ _ _ _ _ _ p) (page-is _ _ _ _ _ _ _ _ _ _ _ p)
+    (held-store _ _ _ _ _ _ _ _ _ _ _ p bt bq (graphs c₇) _ (c₃ .canonical-store .ensures))) (marks c₇) (levels c₇) _ (c₄ .canonical-control .ensures) _ (c₁ .enum-told .given .1)
 
 pub take-spec : {M : Type 1} → statement M
 take-spec =

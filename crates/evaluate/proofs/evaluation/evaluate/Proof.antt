@@ -3,7 +3,7 @@ use native.Mathlib.Omega.{arith}
 use Rattle.definitions.specs.Ascii.{ascii}
 use Rattle.definitions.specs.Printer.{line}
 use Rattle.output.proofs.WritingLaws.{written-as}
-use Rattle.evaluate.proofs.EvaluationLaws.{too-long, cut-before, cut-within, saved-long, lines-fit, parts-are}
+use Rattle.evaluate.proofs.EvaluationLaws.{too-long, cut-before, cut-within, lent-fits, saved-long, lines-fit, parts-are}
 use borrow.Author.Needs.{needs}
 use Rattle.evaluate.proofs.evaluation.evaluate.Statement.{statement}
 use Rattle.evaluate.proofs.evaluation.evaluate.Tie as tie
@@ -44,11 +44,17 @@ word-at-requires c κs = search needs
 add-schema : tie.Need-add-schema
 add-schema c = search needs
 
+add-word-at : tie.Need-add-word-at
+add-word-at c = search needs
+
 word-at-requires-2 : tie.Need-word-at-requires-2
 word-at-requires-2 c κs = search needs
 
 add-script : tie.Need-add-script
 add-script c = search needs
+
+add-word-at-2 : tie.Need-add-word-at-2
+add-word-at-2 c = search needs
 
 word-at-requires-3 : tie.Need-word-at-requires-3
 word-at-requires-3 c κs = search needs
@@ -158,8 +164,8 @@ part-put-entered-start-6 c = search needs
 part-put-entered-end-6 : tie.Need-part-put-entered-end-6
 part-put-entered-end-6 c = search needs
 
-long-at-requires : tie.Need-long-at-requires
-long-at-requires c κs = search needs
+sub-put-entered-7 : tie.Need-sub-put-entered-7
+sub-put-entered-7 c = search needs
 
 part-put-entered-start-7 : tie.Need-part-put-entered-start-7
 part-put-entered-start-7 c = search needs
@@ -167,15 +173,24 @@ part-put-entered-start-7 c = search needs
 part-put-entered-end-7 : tie.Need-part-put-entered-end-7
 part-put-entered-end-7 c = search needs
 
+long-at-requires : tie.Need-long-at-requires
+long-at-requires c κs = search needs
+
+part-put-entered-start-8 : tie.Need-part-put-entered-start-8
+part-put-entered-start-8 c = search needs
+
+part-put-entered-end-8 : tie.Need-part-put-entered-end-8
+part-put-entered-end-8 c = search needs
+
 put-entered-requires : tie.Need-put-entered-requires
 put-entered-requires c κs =
     let c₁ = c .before .before .before .before .before .before .before .before .before .before in let c₂ = c₁ .before in let c₃ = c₂ .before in let c₄ = c₃ .before in
-    let c₅ = c₄ .before .before in let c₆ = c₅ .before .before .before in (
-      saved-long (c₆ .args .input .now) _ _ _ 0 (c₄ .word-at .ensures .0) (c₃ .word-at2 .ensures .0) (c₂ .word-at3 .ensures .0) (c₁ .if3 .left),
+    let c₅ = c₄ .before in let c₆ = c₅ .before .before in let c₇ = c₆ .before .before .before in
+    let a = c₅ .word-at .ensures .0 in let b = c₄ .word-at2 .ensures .0 in let d = c₃ .word-at3 .ensures .0 in (
+      lent-fits (c₇ .args .input .now) _ _ _ 0 a b d (c₂ .if3 .left) (c₁ .if4 .left),
       (
-        omega
-            (arith, lines-fit (c₆ .args .input .now) _ _ _ 0 (c₄ .word-at .ensures .0) (c₃ .word-at2 .ensures .0) (c₂ .word-at3 .ensures .0) (c₅ .if1 .left) (c₁ .if3 .left), c₆ .pre),
-        omega (arith, c₆ .pre),
+        saved-long (c₇ .args .input .now) _ _ _ 0 a b d (c₂ .if3 .left),
+        (omega (arith, lines-fit (c₇ .args .input .now) _ _ _ 0 a b d (c₆ .if1 .left) (c₂ .if3 .left), c₇ .pre), omega (arith, c₇ .pre)),
       ),
     )
 
@@ -184,7 +199,7 @@ same-length-5 c = search needs
 
 returns-5 : tie.Need-returns-5
 returns-5 c =
-    let c₁ = c .before .before in let c₂ = c₁ .before .before .before in let c₃ = c₂ .before .before .before .before .before .before .before in let c₄ = c₃ .before in
+    let c₁ = c .before .before in let c₂ = c₁ .before .before .before in let c₃ = c₂ .before .before .before .before .before .before .before .before in let c₄ = c₃ .before in
     let c₅ = c₄ .before in let c₆ = c₅ .before in let c₇ = c₆ .before in let c₈ = c₇ .before .before in let c₉ = c₈ .before .before .before in (
       written-as (c₁ .put-entered .ensures .0)
           (parts-are _ _ _ _ _ (c₇ .word-at .ensures .0) (c₆ .word-at2 .ensures .0) (c₅ .word-at3 .ensures .0) (c₈ .if1 .left) (c₄ .if3 .left) (c₃ .if4 .left) (c₂ .long-at .ensures)),
@@ -205,8 +220,10 @@ evaluate-spec =
     returns-2
     word-at-requires
     add-schema
+    add-word-at
     word-at-requires-2
     add-script
+    add-word-at-2
     word-at-requires-3
     add-table
     add-store
@@ -239,9 +256,12 @@ evaluate-spec =
     sub-put-entered-6
     part-put-entered-start-6
     part-put-entered-end-6
-    long-at-requires
+    sub-put-entered-7
     part-put-entered-start-7
     part-put-entered-end-7
+    long-at-requires
+    part-put-entered-start-8
+    part-put-entered-end-8
     put-entered-requires
     same-length-5
     returns-5)

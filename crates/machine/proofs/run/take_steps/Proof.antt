@@ -9,17 +9,17 @@ use Rattle.machine.proofs.run.take_steps.Statement.{statement}
 use Rattle.machine.proofs.run.take_steps.Tie as tie
 
 abbrev Inv-loop : tie.InvT-loop
-Inv-loop store script ends context table quads leasts budget control₀ steps₀ control steps =
-    (w : LendsStore script table quads leasts context control₀ store) → Going (w .lends) budget steps control
+Inv-loop store script ends context ranks table quads leasts budget control₀ steps₀ control steps =
+    (w : LendsStore script ranks table quads leasts context control₀ store) → Going (w .lends) budget steps control
 
 abbrev μ-loop : tie.MeasureT-loop
-μ-loop store script ends context table quads leasts budget control₀ steps₀ control steps = budget - steps
+μ-loop store script ends context ranks table quads leasts budget control₀ steps₀ control steps = budget - steps
 
 loop-holds : tie.Need-loop-holds Inv-loop μ-loop
 loop-holds c = λ w. sets-out (w .lends) _
 
 step-requires : tie.Need-step-requires Inv-loop μ-loop
-step-requires c κs = let p = c .before .before .before .before .before .before .before .pre in (stored-now (p .0 .lends) _ _ _ (c .before .loop .inv (p .0)) (p .0 .stored), p .1)
+step-requires c κs = let p = c .before .before .before .before .before .before .before .before .pre in (stored-now (p .0 .lends) _ _ _ (c .before .loop .inv (p .0)) (p .0 .stored), p .1)
 
 returns : tie.Need-returns Inv-loop μ-loop
 returns c =
@@ -39,7 +39,7 @@ loop-again c =
     λ w. steps-on (w .lends) _ _ _ (c₃ .loop .inv w) (omega arith) _ (c₂ .step .ensures (stored-now (w .lends) _ _ _ (c₃ .loop .inv w) (w .stored))) (not-false _ (c₁ .if1 .left))
 
 look-requires : tie.Need-look-requires Inv-loop μ-loop
-look-requires c κs = let p = c .before .before .before .before .before .before .before .pre in (stored-now (p .0 .lends) _ _ _ (c .before .loop .inv (p .0)) (p .0 .stored), p .1)
+look-requires c κs = let p = c .before .before .before .before .before .before .before .before .pre in (stored-now (p .0 .lends) _ _ _ (c .before .loop .inv (p .0)) (p .0 .stored), p .1)
 
 returns-2 : tie.Need-returns-2 Inv-loop μ-loop
 returns-2 c = λ w. spent-here (w .lends) _ _ _ (c .before .before .loop .inv w) (omega arith) _ (c .look .ensures (stored-now (w .lends) _ _ _ (c .before .before .loop .inv w) (w .stored))) _ refl

@@ -32,14 +32,14 @@ use Rattle.values.proofs.comparison.less.Reads as less
 use Rattle.query.proofs.eval.+eval_cond.{statement}
 use Rattle.query.proofs.eval.+eval_cond.Tie.{close}
 
-abbrev μ-eval-cond : Measures 4 eval-cond-kinds.ps ℕ
+abbrev μ-eval-cond : Measures 5 eval-cond-kinds.ps ℕ
 μ-eval-cond κs a = a .1 .1 .1 .1 .0
 
-abbrev eval-cond-at : ℕ → In 4 eval-cond-kinds.ps
-eval-cond-at t = and 4 eval-cond-kinds.ps (is 4 eval-cond-kinds.ps μ-eval-cond t) eval-cond.Pre
+abbrev eval-cond-at : ℕ → In 5 eval-cond-kinds.ps
+eval-cond-at t = and 5 eval-cond-kinds.ps (is 5 eval-cond-kinds.ps μ-eval-cond t) eval-cond.Pre
 
-abbrev eval-cond-below : ℕ → In 4 eval-cond-kinds.ps
-eval-cond-below t = and 4 eval-cond-kinds.ps (falls 4 eval-cond-kinds.ps _<_ μ-eval-cond t) eval-cond.Pre
+abbrev eval-cond-below : ℕ → In 5 eval-cond-kinds.ps
+eval-cond-below t = and 5 eval-cond-kinds.ps (falls 5 eval-cond-kinds.ps _<_ μ-eval-cond t) eval-cond.Pre
 
 abbrev calls : ℕ → lts.Claims
 calls t = (
@@ -69,10 +69,10 @@ calls t = (
 
 module _ (t : ℕ) where
   abbrev Begun : Type 0
-  Begun = lts.After-shared-slice-known5 (calls t) (eval-cond-at t) eval-cond.Post
+  Begun = lts.After-shared-slice-known6 (calls t) (eval-cond-at t) eval-cond.Post
 
   abbrev start : Begun → lts.Start (calls t) (eval-cond-at t) eval-cond.Post
-  start c = c .before .before .before .before .before
+  start c = c .before .before .before .before .before .before
 
   abbrev reading : Begun → (left at : ℕ) → Got Cond
   reading c left at = readCond (start c .args .script .now) (start c .args .context .loaded) left at
@@ -157,38 +157,40 @@ module _ (t : ℕ) where
   add-text c = omega (arith, here (c .before) .regex (c .match .keys6) .room)
 
   eval-expr-requires : lts.Need-eval-expr-requires (calls t) (eval-cond-at t) eval-cond.Post
-  eval-expr-requires c κs = (here (c .before) .regex (c .match .keys6) .rest .child, start (c .before) .pre .1 .1 .0)
+  eval-expr-requires c κs = (here (c .before) .regex (c .match .keys6) .rest .child, start (c .before) .pre .1 .1 .0 .terms)
 
   regex-requires : lts.Need-regex-requires (calls t) (eval-cond-at t) eval-cond.Post
-  regex-requires c κs = (good-value _ _ _ (start (c .before .before) .pre .1 .1 .0) (c .eval-expr .ensures .0), omega (arith, here (c .before .before) .regex (c .before .match .keys6) .room))
+  regex-requires c κs = (good-value _ _ _ (start (c .before .before) .pre .1 .1 .0 .terms) (c .eval-expr .ensures .0), omega (arith, here (c .before .before) .regex (c .before .match .keys6) .room))
 
   add-text-2 : lts.Need-add-text-2 (calls t) (eval-cond-at t) eval-cond.Post
   add-text-2 c = omega (arith, here (c .before) .langMatches (c .match .keys7) .room)
 
   eval-expr-requires-2 : lts.Need-eval-expr-requires-2 (calls t) (eval-cond-at t) eval-cond.Post
-  eval-expr-requires-2 c κs = (here (c .before) .langMatches (c .match .keys7) .rest .child, start (c .before) .pre .1 .1 .0)
+  eval-expr-requires-2 c κs = (here (c .before) .langMatches (c .match .keys7) .rest .child, start (c .before) .pre .1 .1 .0 .terms)
 
   lang-matches-requires : lts.Need-lang-matches-requires (calls t) (eval-cond-at t) eval-cond.Post
   lang-matches-requires c κs =
-      (good-value _ _ _ (start (c .before .before) .pre .1 .1 .0) (c .eval-expr2 .ensures .0), omega (arith, here (c .before .before) .langMatches (c .before .match .keys7) .room))
+      (good-value _ _ _ (start (c .before .before) .pre .1 .1 .0 .terms) (c .eval-expr2 .ensures .0), omega (arith, here (c .before .before) .langMatches (c .before .match .keys7) .room))
 
   eval-expr-requires-3 : lts.Need-eval-expr-requires-3 (calls t) (eval-cond-at t) eval-cond.Post
-  eval-expr-requires-3 c κs = (here (c .before) .equal (c .match .keys8) .first, start (c .before) .pre .1 .1 .0)
+  eval-expr-requires-3 c κs = (here (c .before) .equal (c .match .keys8) .first, start (c .before) .pre .1 .1 .0 .terms)
 
   eval-expr-requires-4 : lts.Need-eval-expr-requires-4 (calls t) (eval-cond-at t) eval-cond.Post
-  eval-expr-requires-4 c κs = (here (c .before .before) .equal (c .before .match .keys8) .second (c .eval-expr3 .ensures .0), start (c .before .before) .pre .1 .1 .0)
+  eval-expr-requires-4 c κs = (here (c .before .before) .equal (c .before .match .keys8) .second (c .eval-expr3 .ensures .0), start (c .before .before) .pre .1 .1 .0 .terms)
 
   equal-requires : lts.Need-equal-requires (calls t) (eval-cond-at t) eval-cond.Post
-  equal-requires c κs = let l = start (c .before .before .before) .pre .1 .1 .0 in (good-value _ _ _ l (c .before .eval-expr3 .ensures .0), good-value _ _ _ l (c .eval-expr4 .ensures .0))
+  equal-requires c κs = let l = start (c .before .before .before) .pre .1 .1 .0 .terms in (good-value _ _ _ l (c .before .eval-expr3 .ensures .0), good-value _ _ _ l (c .eval-expr4 .ensures .0))
 
   eval-expr-requires-5 : lts.Need-eval-expr-requires-5 (calls t) (eval-cond-at t) eval-cond.Post
-  eval-expr-requires-5 c κs = (here (c .before) .less (c .match .rest) .first, start (c .before) .pre .1 .1 .0)
+  eval-expr-requires-5 c κs = (here (c .before) .less (c .match .rest) .first, start (c .before) .pre .1 .1 .0 .terms)
 
   eval-expr-requires-6 : lts.Need-eval-expr-requires-6 (calls t) (eval-cond-at t) eval-cond.Post
-  eval-expr-requires-6 c κs = (here (c .before .before) .less (c .before .match .rest) .second (c .eval-expr5 .ensures .0), start (c .before .before) .pre .1 .1 .0)
+  eval-expr-requires-6 c κs = (here (c .before .before) .less (c .before .match .rest) .second (c .eval-expr5 .ensures .0), start (c .before .before) .pre .1 .1 .0 .terms)
 
   less-requires : lts.Need-less-requires (calls t) (eval-cond-at t) eval-cond.Post
-  less-requires c κs = let l = start (c .before .before .before) .pre .1 .1 .0 in (good-value _ _ _ l (c .before .eval-expr5 .ensures .0), good-value _ _ _ l (c .eval-expr6 .ensures .0))
+  less-requires c κs =
+      let l = start (c .before .before .before) .pre .1 .1 .0 in
+      (l .ranked, (good-value _ _ _ (l .terms) (c .before .eval-expr5 .ensures .0), good-value _ _ _ (l .terms) (c .eval-expr6 .ensures .0)))
 
   returns : lts.Need-returns (calls t) (eval-cond-at t) eval-cond.Post
   returns c =
@@ -198,7 +200,7 @@ module _ (t : ℕ) where
       let n = here b .or (e .before .match .keys3) in
       let w = e .eval-cond .ensures .0 in
       let ended = end b _ (c .after .ensures) in
-      (left-out n w (λ x y h. or-first _ _ _ x h y (sym (i .is-true .ensures) ∙ c .before .if1 .taken)) ended, omega (arith, e .eval-cond .ensures .1, left-within n w (beyond b _) ended))
+      (left-out n w (λ x y h. or-first _ _ _ _ x h y (sym (i .is-true .ensures) ∙ c .before .if1 .taken)) ended, omega (arith, e .eval-cond .ensures .1, left-within n w (beyond b _) ended))
 
   returns-2 : lts.Need-returns-2 (calls t) (eval-cond-at t) eval-cond.Post
   returns-2 c =
@@ -209,13 +211,13 @@ module _ (t : ℕ) where
       let w = e .eval-cond3 .ensures .0 in
       let ended = end b _ (c .after2 .ensures) in
       let against = sym (ap isTrue (i .before .not-of .ensures)) ∙ (sym (i .is-true2 .ensures) ∙ c .before .if2 .taken) in
-      (left-out n w (λ x y h. and-first _ _ _ x h y against) ended, omega (arith, e .eval-cond3 .ensures .1, left-within n w (beyond b _) ended))
+      (left-out n w (λ x y h. and-first _ _ _ _ x h y against) ended, omega (arith, e .eval-cond3 .ensures .1, left-within n w (beyond b _) ended))
 
   returns-3 : lts.Need-returns-3 (calls t) (eval-cond-at t) eval-cond.Post
-  returns-3 c = let w = leaf-walked (here (c .before) .no (c .match .keys1)) (no-truth _ _ _) in (w, omega arith)
+  returns-3 c = let w = leaf-walked (here (c .before) .no (c .match .keys1)) (no-truth _ _ _ _) in (w, omega arith)
 
   returns-4 : lts.Need-returns-4 (calls t) (eval-cond-at t) eval-cond.Post
-  returns-4 c = let w = leaf-walked (here (c .before) .yes (c .match .keys2)) (yes-truth _ _ _) in (w, omega arith)
+  returns-4 c = let w = leaf-walked (here (c .before) .yes (c .match .keys2)) (yes-truth _ _ _ _) in (w, omega arith)
 
   returns-5 : lts.Need-returns-5 (calls t) (eval-cond-at t) eval-cond.Post
   returns-5 c =
@@ -223,7 +225,7 @@ module _ (t : ℕ) where
       let i = e₂ .before .before in
       let e₁ = i .before .before in (
         here (e₁ .before .before) .or (e₁ .before .match .keys3) .node (e₁ .eval-cond .ensures .0) (e₂ .eval-cond2 .ensures .0)
-            (λ x y h k. or-truth _ _ _ x h y k (sym (i .is-true .ensures) ∙ e₂ .before .if1 .left) (c .before .or-of .ensures)),
+            (λ x y h k. or-truth _ _ _ _ x h y k (sym (i .is-true .ensures) ∙ e₂ .before .if1 .left) (c .before .or-of .ensures)),
         omega (arith, e₁ .eval-cond .ensures .1, e₂ .eval-cond2 .ensures .1),
       )
 
@@ -234,39 +236,39 @@ module _ (t : ℕ) where
       let e₁ = i .before .before .before in
       let against = sym (ap isTrue (i .before .not-of .ensures)) ∙ (sym (i .is-true2 .ensures) ∙ e₂ .before .if2 .left) in (
         here (e₁ .before .before) .and (e₁ .before .match .keys4) .node (e₁ .eval-cond3 .ensures .0) (e₂ .eval-cond4 .ensures .0)
-            (λ x y h k. and-truth _ _ _ x h y k against (c .before .and-of .ensures)),
+            (λ x y h k. and-truth _ _ _ _ x h y k against (c .before .and-of .ensures)),
         omega (arith, e₁ .eval-cond3 .ensures .1, e₂ .eval-cond4 .ensures .1),
       )
 
   returns-7 : lts.Need-returns-7 (calls t) (eval-cond-at t) eval-cond.Post
   returns-7 c =
       let e = c .before .before in (
-        here (e .before .before) .not (e .before .match .keys5) .node (e .eval-cond5 .ensures .0) (λ x h. not-truth _ _ _ x h (c .before .not-of2 .ensures)),
+        here (e .before .before) .not (e .before .match .keys5) .node (e .eval-cond5 .ensures .0) (λ x h. not-truth _ _ _ _ x h (c .before .not-of2 .ensures)),
         omega (arith, e .eval-cond5 .ensures .1),
       )
 
   returns-8 : lts.Need-returns-8 (calls t) (eval-cond-at t) eval-cond.Post
   returns-8 c =
       let n = here (c .before .before .before) .regex (c .before .before .match .keys6) in
-      let w = n .rest .node (c .before .eval-expr .ensures .0) (λ e h. regex-truth _ _ _ e h _ (c .regex .ensures (n .value) (n .isGood))) in
+      let w = n .rest .node (c .before .eval-expr .ensures .0) (λ e h. regex-truth _ _ _ _ e h _ (c .regex .ensures (n .value) (n .isGood))) in
       (w, omega (arith, cond-within _ _ _ _ _ _ (w .read)))
 
   returns-9 : lts.Need-returns-9 (calls t) (eval-cond-at t) eval-cond.Post
   returns-9 c =
       let n = here (c .before .before .before) .langMatches (c .before .before .match .keys7) in
-      let w = n .rest .node (c .before .eval-expr2 .ensures .0) (λ e h. language-truth _ _ _ e h _ (c .lang-matches .ensures (n .value) (n .isGood))) in
+      let w = n .rest .node (c .before .eval-expr2 .ensures .0) (λ e h. language-truth _ _ _ _ e h _ (c .lang-matches .ensures (n .value) (n .isGood))) in
       (w, omega (arith, cond-within _ _ _ _ _ _ (w .read)))
 
   returns-10 : lts.Need-returns-10 (calls t) (eval-cond-at t) eval-cond.Post
   returns-10 c =
       let w = here (c .before .before .before .before) .equal (c .before .before .before .match .keys8) .node (c .before .before .eval-expr3 .ensures .0) (c .before .eval-expr4 .ensures .0)
-      (λ e f h k. equal-truth _ _ _ e h f k (c .equal .ensures)) in
+      (λ e f h k. equal-truth _ _ _ _ e h f k (c .equal .ensures)) in
       (w, omega (arith, cond-within _ _ _ _ _ _ (w .read)))
 
   returns-11 : lts.Need-returns-11 (calls t) (eval-cond-at t) eval-cond.Post
   returns-11 c =
       let w = here (c .before .before .before .before) .less (c .before .before .before .match .rest) .node (c .before .before .eval-expr5 .ensures .0) (c .before .eval-expr6 .ensures .0)
-      (λ e f h k. less-truth _ _ _ e h f k (c .less .ensures)) in
+      (λ e f h k. less-truth _ _ _ _ e h f k (c .less .ensures)) in
       (w, omega (arith, cond-within _ _ _ _ _ _ (w .read)))
 
   closed : {M : Type 1} → lts.Closed (calls t) (eval-cond-at t) eval-cond.Post M

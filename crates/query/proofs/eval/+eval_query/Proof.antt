@@ -26,14 +26,14 @@ use Rattle.truth.proofs.is_true.Reads as is-true
 use Rattle.query.proofs.eval.+eval_query.{statement}
 use Rattle.query.proofs.eval.+eval_query.Tie.{close}
 
-abbrev μ-eval-query : Measures 5 eval-query-kinds.ps ℕ
+abbrev μ-eval-query : Measures 6 eval-query-kinds.ps ℕ
 μ-eval-query κs a = a .1 .1 .1 .1 .0
 
-abbrev eval-query-at : ℕ → In 5 eval-query-kinds.ps
-eval-query-at t = and 5 eval-query-kinds.ps (is 5 eval-query-kinds.ps μ-eval-query t) eval-query.Pre
+abbrev eval-query-at : ℕ → In 6 eval-query-kinds.ps
+eval-query-at t = and 6 eval-query-kinds.ps (is 6 eval-query-kinds.ps μ-eval-query t) eval-query.Pre
 
-abbrev eval-query-below : ℕ → In 5 eval-query-kinds.ps
-eval-query-below t = and 5 eval-query-kinds.ps (falls 5 eval-query-kinds.ps _<_ μ-eval-query t) eval-query.Pre
+abbrev eval-query-below : ℕ → In 6 eval-query-kinds.ps
+eval-query-below t = and 6 eval-query-kinds.ps (falls 6 eval-query-kinds.ps _<_ μ-eval-query t) eval-query.Pre
 
 abbrev calls : ℕ → lts.Claims
 calls t = (
@@ -53,10 +53,10 @@ calls t = (
 
 module _ (t : ℕ) where
   abbrev Begun : Type 0
-  Begun = lts.After-shared-slice-known6 (calls t) (eval-query-at t) eval-query.Post
+  Begun = lts.After-shared-slice-known7 (calls t) (eval-query-at t) eval-query.Post
 
   abbrev start : Begun → lts.Start (calls t) (eval-query-at t) eval-query.Post
-  start c = c .before .before .before .before .before .before
+  start c = c .before .before .before .before .before .before .before
 
   abbrev reading : Begun → (left at : ℕ) → Got Query
   reading c left at = readQuery (start c .args .script .now) (start c .args .context .loaded) left at
@@ -74,7 +74,7 @@ module _ (t : ℕ) where
   end c e h d n r = h ∙ query-ends _ _ (start c .pre .1 .1 .1 .0 .ended) _ _ _ d n r
 
   names-at-requires : lts.Need-names-at-requires (calls t) (eval-query-at t) eval-query.Post
-  names-at-requires c κs = (here (c .before) .pattern (c .match .keys1) .all, start (c .before) .pre .1 .1 .0 .variables)
+  names-at-requires c κs = (here (c .before) .pattern (c .match .keys1) .all, start (c .before) .pre .1 .1 .0 .terms .variables)
 
   least-requires : lts.Need-least-requires (calls t) (eval-query-at t) eval-query.Post
   least-requires c κs = let s = start (c .before .before) .pre .1 .1 .1 .1 in (s .room, (s .rises, omega arith))
@@ -137,7 +137,7 @@ module _ (t : ℕ) where
       let n = here b .both (e .before .match .keys2) in
       let w = e .eval-query .ensures .0 in
       let ended = end b _ (c .after .ensures) in
-      (left-out n w (λ q r h. both-first _ _ _ _ q r h (c .before .if1 .taken)) ended, omega (arith, e .eval-query .ensures .1, left-within n w (beyond b _) ended))
+      (left-out n w (λ q r h. both-first _ _ _ _ _ q r h (c .before .if1 .taken)) ended, omega (arith, e .eval-query .ensures .1, left-within n w (beyond b _) ended))
 
   returns-2 : lts.Need-returns-2 (calls t) (eval-query-at t) eval-query.Post
   returns-2 c =
@@ -146,12 +146,12 @@ module _ (t : ℕ) where
       let n = here b .union (e .before .match .keys3) in
       let w = e .eval-query3 .ensures .0 in
       let ended = end b _ (c .after2 .ensures) in
-      (left-out n w (λ q r h. union-first _ _ _ _ q r h (c .before .if2 .taken)) ended, omega (arith, e .eval-query3 .ensures .1, left-within n w (beyond b _) ended))
+      (left-out n w (λ q r h. union-first _ _ _ _ _ q r h (c .before .if2 .taken)) ended, omega (arith, e .eval-query3 .ensures .1, left-within n w (beyond b _) ended))
 
   returns-3 : lts.Need-returns-3 (calls t) (eval-query-at t) eval-query.Post
   returns-3 c =
       let w = walked-as (here (c .before .before .before) .pattern (c .before .before .match .keys1) .read)
-      (walked-more (c .before .names-at .ensures) (λ q h. pattern-holds _ _ _ _ q _ _ h (c .least .ensures))) in
+      (walked-more (c .before .names-at .ensures) (λ q h. pattern-holds _ _ _ _ _ q _ _ h (c .least .ensures))) in
       (w, omega (arith, query-within _ _ _ _ _ _ (w .read)))
 
   returns-4 : lts.Need-returns-4 (calls t) (eval-query-at t) eval-query.Post
@@ -159,7 +159,7 @@ module _ (t : ℕ) where
       let e₂ = c .before in
       let e₁ = e₂ .before .before .before .before in (
         here (e₁ .before .before) .both (e₁ .before .match .keys2) .node (e₁ .eval-query .ensures .0) (e₂ .eval-query2 .ensures .0)
-            (λ q r h k. both-holds _ _ _ _ q r h k (e₂ .before .if1 .left)),
+            (λ q r h k. both-holds _ _ _ _ _ q r h k (e₂ .before .if1 .left)),
         omega (arith, e₁ .eval-query .ensures .1, e₂ .eval-query2 .ensures .1),
       )
 
@@ -168,19 +168,19 @@ module _ (t : ℕ) where
       let e₂ = c .before in
       let e₁ = e₂ .before .before .before in (
         here (e₁ .before .before) .union (e₁ .before .match .keys3) .node (e₁ .eval-query3 .ensures .0) (e₂ .eval-query4 .ensures .0)
-            (λ q r h k. union-holds _ _ _ _ q r h k (e₂ .before .if2 .left)),
+            (λ q r h k. union-holds _ _ _ _ _ q r h k (e₂ .before .if2 .left)),
         omega (arith, e₁ .eval-query3 .ensures .1, e₂ .eval-query4 .ensures .1),
       )
 
   returns-6 : lts.Need-returns-6 (calls t) (eval-query-at t) eval-query.Post
   returns-6 c =
       let e = c .before .before in (
-        here (e .before .before) .filter (e .before .match .keys4) .node (e .eval-cond .ensures .0) (λ d h. filter-holds _ _ _ _ d h (c .before .is-true .ensures)),
+        here (e .before .before) .filter (e .before .match .keys4) .node (e .eval-cond .ensures .0) (λ d h. filter-holds _ _ _ _ _ d h (c .before .is-true .ensures)),
         omega (arith, e .eval-cond .ensures .1),
       )
 
   returns-7 : lts.Need-returns-7 (calls t) (eval-query-at t) eval-query.Post
-  returns-7 c = (leaf-walked (here (c .before) .empty (c .match .rest)) (empty-holds _ _ _ _), omega arith)
+  returns-7 c = (leaf-walked (here (c .before) .empty (c .match .rest)) (empty-holds _ _ _ _ _), omega arith)
 
   closed : {M : Type 1} → lts.Closed (calls t) (eval-query-at t) eval-query.Post M
   closed = lts.spec (calls t) (eval-query-at t) eval-query.Post (λ c. here c .inside) (λ c. omega (arith, here c .inside)) (λ c. here c .pos) names-at-requires least-requires

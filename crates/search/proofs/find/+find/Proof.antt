@@ -16,28 +16,28 @@ use borrow.Fn.PlainCycle.{Measures, is, falls, and}
 use Rattle.search.proofs.find.find.Reads as find
 use Rattle.search.proofs.find.find.Kinds as find-kinds
 use Rattle.search.proofs.find.+find.Lts-find as lts
+use Rattle.keys.proofs.either.Reads as either
 use Rattle.query.proofs.eval.eval_query.Reads as eval-query
-use Rattle.search.proofs.find.either.Reads as either
 use Rattle.search.proofs.find.hopeful.Reads as hopeful
 use Rattle.search.proofs.find.next_after.Reads as next-after
 use Rattle.search.proofs.find.+find.{statement}
 use Rattle.search.proofs.find.+find.Tie.{close}
 
-abbrev μ-find : Measures 5 find-kinds.ps ℕ
-μ-find κs a = a .1 .1 .1 .0 .size - a .1 .1 .1 .1 .1 .1 .1 .1 .0
+abbrev μ-find : Measures 6 find-kinds.ps ℕ
+μ-find κs a = a .1 .1 .1 .0 .size - a .1 .1 .1 .1 .1 .1 .1 .1 .1 .0
 
-abbrev find-at : ℕ → In 5 find-kinds.ps
-find-at t = and 5 find-kinds.ps (is 5 find-kinds.ps μ-find t) find.Pre
+abbrev find-at : ℕ → In 6 find-kinds.ps
+find-at t = and 6 find-kinds.ps (is 6 find-kinds.ps μ-find t) find.Pre
 
-abbrev find-below : ℕ → In 5 find-kinds.ps
-find-below t = and 5 find-kinds.ps (falls 5 find-kinds.ps _<_ μ-find t) find.Pre
+abbrev find-below : ℕ → In 6 find-kinds.ps
+find-below t = and 6 find-kinds.ps (falls 6 find-kinds.ps _<_ μ-find t) find.Pre
 
 abbrev find-Inv-loop : lts.InvT-loop
-find-Inv-loop script ends context block table quads leasts k tight known at left size count v l lo₀ lo =
-    (w : World script table quads leasts context block) → SoFar w known k tight lo
+find-Inv-loop script ends context block ranks table quads leasts k tight known at left size count v l lo₀ lo =
+    (w : World script ranks table quads leasts context block) → SoFar w known k tight lo
 
 abbrev find-μ-loop : lts.MeasureT-loop
-find-μ-loop script ends context block table quads leasts k tight known at left size count v l lo₀ lo = count - lo
+find-μ-loop script ends context block ranks table quads leasts k tight known at left size count v l lo₀ lo = count - lo
 
 abbrev calls : ℕ → lts.Claims
 calls t = (eval-query.Asked, eval-query.Learnt, either.Asked, either.Learnt, next-after.Asked, next-after.Learnt, hopeful.Asked, hopeful.Learnt, find-below t, find.Post)
@@ -45,28 +45,27 @@ calls t = (eval-query.Asked, eval-query.Learnt, either.Asked, either.Learnt, nex
 module _ (t : ℕ) where
   -- where the search begins, of a level, and that level, of a choice in it
   abbrev start : lts.Else1 (calls t) (find-at t) find.Post find-Inv-loop find-μ-loop → lts.Start (calls t) (find-at t) find.Post find-Inv-loop find-μ-loop
-  start c = c .before .before .before .before .before .before
+  start c = c .before .before .before .before .before .before .before
 
   abbrev level : lts.Else3 (calls t) (find-at t) find.Post find-Inv-loop find-μ-loop → lts.Else1 (calls t) (find-at t) find.Post find-Inv-loop find-μ-loop
   level c = c .before .before .before .before .before .before .before .before
 
-  sixteen : (c : lts.Start (calls t) (find-at t) find.Post find-Inv-loop find-μ-loop) → length (c .args .t8) ≡ 16
+  sixteen : (c : lts.Start (calls t) (find-at t) find.Post find-Inv-loop find-μ-loop) → length (c .args .t9) ≡ 16
   sixteen c = search needs
 
   returns : lts.Need-returns (calls t) (find-at t) find.Post find-Inv-loop find-μ-loop
   returns c =
-      let s = c .before .before .before .before .before .before .before in
+      let s = c .before .before .before .before .before .before .before .before in
       (λ w. find-tight w _ (s .args .k) (s .args .tight) (c .before .if1 .taken) [] (c .if2 .taken), refl)
 
   eval-query-requires : lts.Need-eval-query-requires (calls t) (find-at t) find.Post find-Inv-loop find-μ-loop
   eval-query-requires c κs =
-      let c₁ = c .before .before .before .before .before .before .before .before in
-      let s = c₁ in
+      let s = c .before .before .before .before .before .before .before .before .before in
       (loads-here (s .pre .1 .0), (lent-here (s .pre .1 .0) _ (sixteen s), (s .pre .1 .1, s .pre .1 .0 .lent .stored)))
 
   returns-2 : lts.Need-returns-2 (calls t) (find-at t) find.Post find-Inv-loop find-μ-loop
   returns-2 c =
-      let s = c .before .before .before .before .before .before .before .before .before in
+      let s = c .before .before .before .before .before .before .before .before .before .before in
       (λ w. find-test w _ (s .args .k) (s .args .tight) (c .before .before .before .if1 .taken) _ (c .before .before .if2 .left) (c .eval-query .ensures .0), refl)
 
   loop-holds : lts.Need-loop-holds (calls t) (find-at t) find.Post find-Inv-loop find-μ-loop

@@ -16,27 +16,27 @@ use Rattle.search.proofs.find.next.Reads as next
 use Rattle.search.proofs.seek.seek.Reads as seek
 
 abbrev Inv-loop : tie.InvT-loop
-Inv-loop script ends context block table quads leasts j known at left count v lo₀ lo =
-    (w : World script table quads leasts context block) → HopeFrom w known j lo
+Inv-loop script ends context block ranks table quads leasts j known at left count v lo₀ lo =
+    (w : World script ranks table quads leasts context block) → HopeFrom w known j lo
 
 abbrev μ-loop : tie.MeasureT-loop
-μ-loop script ends context block table quads leasts j known at left count v lo₀ lo = count - lo
+μ-loop script ends context block ranks table quads leasts j known at left count v lo₀ lo = count - lo
 
 abbrev calls : lts.Claims
 calls = (next.Asked, next.Learnt, seek.Asked, seek.Learnt)
 
 -- where the search begins, of a number tried
 abbrev start : lts.Else1 calls hope.Pre hope.Post Inv-loop μ-loop → lts.Start calls hope.Pre hope.Post Inv-loop μ-loop
-start c = c .before .before .before .before .before .before .before .before .before .before .before
+start c = c .before .before .before .before .before .before .before .before .before .before .before .before
 
-sixteen : (c : lts.Start calls hope.Pre hope.Post Inv-loop μ-loop) → length (c .args .t8) ≡ variableLimit
+sixteen : (c : lts.Start calls hope.Pre hope.Post Inv-loop μ-loop) → length (c .args .t9) ≡ variableLimit
 sixteen c = search needs
 
 mul-v : tie.Need-mul-v Inv-loop μ-loop
-mul-v c = omega (arith, c .before .before .before .before .before .before .pre .0 .size)
+mul-v c = omega (arith, c .before .before .before .before .before .before .before .pre .0 .size)
 
 array-read-v : tie.Need-array-read-v Inv-loop μ-loop
-array-read-v c = omega (arith, c .before .before .before .before .before .before .pre .0 .size)
+array-read-v c = omega (arith, c .before .before .before .before .before .before .before .pre .0 .size)
 
 loop-holds : tie.Need-loop-holds Inv-loop μ-loop
 loop-holds c = λ w. hope-starts w _ _
@@ -45,7 +45,7 @@ slice-aggregate-next : tie.Need-slice-aggregate-next Inv-loop μ-loop
 slice-aggregate-next c = search needs
 
 next-requires : tie.Need-next-requires Inv-loop μ-loop
-next-requires c κs = let p = c .before .before .before .before .before .before .before .before .before .pre in (p .0, (p .1 .0, (search needs, p .1 .1)))
+next-requires c κs = let p = c .before .before .before .before .before .before .before .before .before .before .pre in (p .0, (p .1 .0, (search needs, p .1 .1)))
 
 returns : tie.Need-returns Inv-loop μ-loop
 returns c = λ w. hope-none w _ _ _ (c .before .before .before .before .loop .inv w) _ (c .before .next .ensures w) (c .if1 .taken)
@@ -62,7 +62,7 @@ slice-aggregate-seek c = search (needs, sixteen (start (c .before)))
 seek-requires : tie.Need-seek-requires Inv-loop μ-loop
 seek-requires c κs =
     let s = start (c .before) in
-    (loads-here (s .pre .0), (lent-here (s .pre .0) _ (length-set (s .args .t8) _ _ ∙ sixteen s), (s .pre .1 .0, s .pre .0 .lent .stored)))
+    (loads-here (s .pre .0), (lent-here (s .pre .0) _ (length-set (s .args .t9) _ _ ∙ sixteen s), (s .pre .1 .0, s .pre .0 .lent .stored)))
 
 returns-2 : tie.Need-returns-2 Inv-loop μ-loop
 returns-2 c =

@@ -10,17 +10,17 @@ use Rattle.search.proofs.find.hopeful.Statement.{statement}
 use Rattle.search.proofs.find.hopeful.Tie as tie
 
 abbrev Inv-loop : tie.InvT-loop
-Inv-loop script ends context block table quads leasts known from size j₀ j =
-    (w : World script table quads leasts context block) (vs : List ℕ) → ReadyFor w known vs → hopeFrom w known from ≡ hopeFrom w known j
+Inv-loop script ends context block ranks table quads leasts known from size j₀ j =
+    (w : World script ranks table quads leasts context block) (vs : List ℕ) → ReadyFor w known vs → hopeFrom w known from ≡ hopeFrom w known j
 
 abbrev μ-loop : tie.MeasureT-loop
-μ-loop script ends context block table quads leasts known from size j₀ j = size - j
+μ-loop script ends context block ranks table quads leasts known from size j₀ j = size - j
 
 loop-holds : tie.Need-loop-holds Inv-loop μ-loop
 loop-holds c = λ w vs r. refl
 
 hope-requires : tie.Need-hope-requires Inv-loop μ-loop
-hope-requires c κs = let p = c .before .before .before .before .before .before .before .pre in (p .0, (p .1, c .loop-test .taken))
+hope-requires c κs = let p = c .before .before .before .before .before .before .before .before .pre in (p .0, (p .1, c .loop-test .taken))
 
 returns : tie.Need-returns Inv-loop μ-loop
 returns c = λ w vs r. sym (c .before .before .before .loop .inv w vs r ∙ hopeful-lost w _ _ (c .before .before .loop-test .taken) (c .before .hope .ensures w) vs r (not-true _ (c .if1 .taken)))

@@ -24,14 +24,14 @@ use Rattle.search.proofs.seek.smaller.Reads as smaller
 use Rattle.search.proofs.seek.+seek.{statement}
 use Rattle.search.proofs.seek.+seek.Tie.{close}
 
-abbrev μ-seek : Measures 5 seek-kinds.ps ℕ
+abbrev μ-seek : Measures 6 seek-kinds.ps ℕ
 μ-seek κs a = a .1 .1 .1 .1 .0
 
-abbrev seek-at : ℕ → In 5 seek-kinds.ps
-seek-at t = and 5 seek-kinds.ps (is 5 seek-kinds.ps μ-seek t) seek.Pre
+abbrev seek-at : ℕ → In 6 seek-kinds.ps
+seek-at t = and 6 seek-kinds.ps (is 6 seek-kinds.ps μ-seek t) seek.Pre
 
-abbrev seek-below : ℕ → In 5 seek-kinds.ps
-seek-below t = and 5 seek-kinds.ps (falls 5 seek-kinds.ps _<_ μ-seek t) seek.Pre
+abbrev seek-below : ℕ → In 6 seek-kinds.ps
+seek-below t = and 6 seek-kinds.ps (falls 6 seek-kinds.ps _<_ μ-seek t) seek.Pre
 
 abbrev calls : ℕ → lts.Claims
 calls t = (
@@ -51,10 +51,10 @@ calls t = (
 
 module _ (t : ℕ) where
   abbrev Begun : Type 0
-  Begun = lts.After-shared-slice-known6 (calls t) (seek-at t) seek.Post
+  Begun = lts.After-shared-slice-known7 (calls t) (seek-at t) seek.Post
 
   abbrev start : Begun → lts.Start (calls t) (seek-at t) seek.Post
-  start c = c .before .before .before .before .before .before
+  start c = c .before .before .before .before .before .before .before
 
   here : (c : Begun) → QueryAt t (start c .args .script .now) (start c .args .context .loaded) (start c .args .left) (start c .args .at)
   here c = query-at _ _ _ _ _ (start c .pre .0) (start c .pre .1 .0)
@@ -65,12 +65,12 @@ module _ (t : ℕ) where
   end c e h d n r = h ∙ query-ends _ _ (start c .pre .1 .1 .1 .0 .ended) _ _ _ d n r
 
   names-at-requires : lts.Need-names-at-requires (calls t) (seek-at t) seek.Post
-  names-at-requires c κs = (here (c .before) .pattern (c .match .keys1) .all, start (c .before) .pre .1 .1 .0 .variables)
+  names-at-requires c κs = (here (c .before) .pattern (c .match .keys1) .all, start (c .before) .pre .1 .1 .0 .terms .variables)
 
   least-requires : lts.Need-least-requires (calls t) (seek-at t) seek.Post
   least-requires c κs =
       let p = start (c .before .before) .pre .1 .1 in
-      (p .1 .1 .room, (p .1 .1 .rises, omega (arith, few _ _ _ (p .0 .tabled))))
+      (p .1 .1 .room, (p .1 .1 .rises, omega (arith, few _ _ _ (p .0 .terms .tabled))))
 
   seek-requires : lts.Need-seek-requires (calls t) (seek-at t) seek.Post
   seek-requires c κs = let n = here (c .before) .both (c .match .keys2) in (n .falls, (n .first, start (c .before) .pre .1 .1))
@@ -81,7 +81,7 @@ module _ (t : ℕ) where
   returns : lts.Need-returns (calls t) (seek-at t) seek.Post
   returns c =
       let c₁ = c .before .before .before .before in let c₂ = c₁ .before in let c₃ = c₂ .before in
-      left-out (here c₃ .both (c₂ .match .keys2)) (c₁ .seek .ensures) (λ q r h. both-ended _ _ _ (start c₃ .pre .1 .1 .0) _ _ q r _ _ (c .before .if1 .taken) h)
+      left-out (here c₃ .both (c₂ .match .keys2)) (c₁ .seek .ensures) (λ q r h. both-ended _ _ _ _ (start c₃ .pre .1 .1 .0 .terms) _ _ q r _ _ (c .before .if1 .taken) h)
       (end c₃ _ (c .after .ensures))
 
   seek-requires-2 : lts.Need-seek-requires-2 (calls t) (seek-at t) seek.Post
@@ -99,7 +99,7 @@ module _ (t : ℕ) where
   returns-2 : lts.Need-returns-2 (calls t) (seek-at t) seek.Post
   returns-2 c =
       let c₁ = c .before .before .before .before in let c₂ = c₁ .before in let c₃ = c₂ .before in
-      left-out (here c₃ .union (c₂ .match .keys3)) (c₁ .seek3 .ensures) (λ q r h. union-first _ _ _ (start c₃ .pre .1 .1 .0) _ _ q r _ _ (c .before .if2 .taken) h)
+      left-out (here c₃ .union (c₂ .match .keys3)) (c₁ .seek3 .ensures) (λ q r h. union-first _ _ _ _ (start c₃ .pre .1 .1 .0 .terms) _ _ q r _ _ (c .before .if2 .taken) h)
       (end c₃ _ (c .after2 .ensures))
 
   seek-requires-4 : lts.Need-seek-requires-4 (calls t) (seek-at t) seek.Post
@@ -117,24 +117,24 @@ module _ (t : ℕ) where
   returns-3 : lts.Need-returns-3 (calls t) (seek-at t) seek.Post
   returns-3 c =
       walked-as (here (c .before .before .before) .pattern (c .before .before .match .keys1) .read)
-      (walked-more (c .before .names-at .ensures) (λ q h. pattern-seeks _ _ _ (start (c .before .before .before) .pre .1 .1 .0) _ _ q _ _ _ h (c .least .ensures)))
+      (walked-more (c .before .names-at .ensures) (λ q h. pattern-seeks _ _ _ _ (start (c .before .before .before) .pre .1 .1 .0 .terms) _ _ q _ _ _ h (c .least .ensures)))
 
   returns-4 : lts.Need-returns-4 (calls t) (seek-at t) seek.Post
   returns-4 c =
       let c₁ = c .before .before .before .before in let c₂ = c₁ .before in let c₃ = c₂ .before in
-      here c₃ .both (c₂ .match .keys2) .node (c₁ .seek .ensures) (c .seek2 .ensures) (λ q r h k. both-seeks _ _ _ (start c₃ .pre .1 .1 .0) _ _ q r _ _ _ h k)
+      here c₃ .both (c₂ .match .keys2) .node (c₁ .seek .ensures) (c .seek2 .ensures) (λ q r h k. both-seeks _ _ _ _ (start c₃ .pre .1 .1 .0 .terms) _ _ q r _ _ _ h k)
 
   returns-5 : lts.Need-returns-5 (calls t) (seek-at t) seek.Post
   returns-5 c =
       let c₁ = c .before .before .before .before .before in let c₂ = c₁ .before in let c₃ = c₂ .before in
       here c₃ .union (c₂ .match .keys3) .node (c₁ .seek3 .ensures) (c .before .seek4 .ensures)
-      (λ q r h k. union-seeks _ _ _ (start c₃ .pre .1 .1 .0) _ _ q r _ _ _ _ (c .smaller .ensures) h k)
+      (λ q r h k. union-seeks _ _ _ _ (start c₃ .pre .1 .1 .0 .terms) _ _ q r _ _ _ _ (c .smaller .ensures) h k)
 
   returns-6 : lts.Need-returns-6 (calls t) (seek-at t) seek.Post
   returns-6 c = here (c .before .before) .filter (c .before .match .keys4) .node (c .seek-filter .ensures) (λ d h. h _ _)
 
   returns-7 : lts.Need-returns-7 (calls t) (seek-at t) seek.Post
-  returns-7 c = leaf-walked (here (c .before) .empty (c .match .rest)) (empty-seeks _ _ _ (start (c .before) .pre .1 .1 .0) _ _ _)
+  returns-7 c = leaf-walked (here (c .before) .empty (c .match .rest)) (empty-seeks _ _ _ _ (start (c .before) .pre .1 .1 .0 .terms) _ _ _)
 
   closed : {M : Type 1} → lts.Closed (calls t) (seek-at t) seek.Post M
   closed = lts.spec (calls t) (seek-at t) seek.Post (λ c. here c .inside) (λ c. omega (arith, here c .inside)) (λ c. here c .pos) names-at-requires least-requires seek-requires

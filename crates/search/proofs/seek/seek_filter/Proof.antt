@@ -8,25 +8,25 @@ use Rattle.search.proofs.seek.seek_filter.Statement.{statement}
 use Rattle.search.proofs.seek.seek_filter.Tie as tie
 
 after-requires : tie.Need-after-requires
-after-requires c κs = c .before .before .before .before .before .pre .1 .1 .room
+after-requires c κs = c .before .before .before .before .before .before .pre .1 .1 .room
 
 returns : tie.Need-returns
 returns c =
-    let p = c .before .before .before .before .before .before .pre in
-    stepped-over (p .0) (λ d n r. c .after .ensures ∙ cond-ends _ _ (p .1 .1 .ended) _ _ _ d n r) (λ d rows v. ended-seeks _ _ _ (p .1 .0) rows v d _ (c .before .if1 .taken))
+    let p = c .before .before .before .before .before .before .before .pre in
+    stepped-over (p .0) (λ d n r. c .after .ensures ∙ cond-ends _ _ (p .1 .1 .ended) _ _ _ d n r) (λ d rows v. ended-seeks _ _ _ _ (p .1 .0 .terms) rows v d _ (c .before .if1 .taken))
 
 may-cond-requires : tie.Need-may-cond-requires
 may-cond-requires c κs = search needs
 
 returns-2 : tie.Need-returns-2
 returns-2 c =
-    let p = c .before .before .before .before .before .before .before .pre in
-    walked-more (c .before .may-cond .ensures) (λ d h rows v. may-seeks _ _ _ (p .1 .0) rows v d _ h (c .if2 .taken))
+    let p = c .before .before .before .before .before .before .before .before .pre in
+    walked-more (c .before .may-cond .ensures) (λ d h rows v. may-seeks _ _ _ _ (p .1 .0 .terms) rows v d _ h (c .if2 .taken))
 
 returns-3 : tie.Need-returns-3
 returns-3 c =
-    let p = c .before .before .before .before .before .before .before .pre in
-    walked-more (c .before .may-cond .ensures) (λ d h rows v. cannot-seeks _ _ _ (p .1 .0) rows v d _ h (c .if2 .left))
+    let p = c .before .before .before .before .before .before .before .before .pre in
+    walked-more (c .before .may-cond .ensures) (λ d h rows v. cannot-seeks _ _ _ _ (p .1 .0 .terms) rows v d _ h (c .if2 .left))
 
 pub seek-filter-spec : {M : Type 1} → statement M
 seek-filter-spec = tie.close (tie.spec after-requires returns may-cond-requires returns-2 returns-3)

@@ -1,15 +1,26 @@
 -- A law of EnteringLaws for each refusal, and the lines of what was entered.
 use native.Mathlib.Omega.{arith}
-use mathlib.Core.Path.{_≡_, sym, _∙_}
+use mathlib.Core.Path.{_≡_, refl, sym, _∙_}
 use lib.ListN.{length}
 use borrow.Author.Tests.{not-true, not-false}
 use Rattle.definitions.specs.Limits.{variableLimit, graphLimit, depthLimit}
-use Rattle.entry.proofs.EntryLaws.{not-entered, entered}
+use Rattle.definitions.specs.Calls.{Lent, lengthsOf, lengthsFit}
+use Rattle.laws.proofs.Tests.{isTrue}
+use Rattle.layout.proofs.ReadLaws.{read-none, read-some}
+use Rattle.entry.specs.Entry.{lentOf}
+use Rattle.entry.proofs.EntryLaws.{fit-ranks, not-entered, entered}
 use Rattle.output.proofs.WritingLaws.{written-as}
-use Rattle.tuples.proofs.EnteringLaws.{read-none, read-some, no-saved, not-in, bad-now, stack-low, script-short, lends-now, lines-now, length-mapped}
+use Rattle.tuples.proofs.EnteringLaws.{no-saved, not-in, bad-now, stack-low, script-short, lends-now, lines-now, length-mapped}
 use borrow.Author.Needs.{needs}
 use Rattle.tuples.proofs.entering.put_entered.Statement.{statement}
 use Rattle.tuples.proofs.entering.put_entered.Tie as tie
+
+abbrev lentAt : tie.Start → Lent
+lentAt c = lentOf (c .args .ranks .now) (c .args .terms .now) (c .args .schema .now) (c .args .script .now) (c .args .table .now) (c .args .store .now)
+
+-- the call's beginning, seen from after the saved run was read
+abbrev start : tie.After-read-saved → tie.Start
+start c = c .before .before .before .before .before .before .before .before .before .before
 
 -- the places of the saved run
 marks : (c : tie.After-read-saved) → length (c .read-saved .result .saved .control .bound) ≡ variableLimit
@@ -23,23 +34,27 @@ levels c = search (length-mapped, needs)
 
 read-saved-requires : tie.Need-read-saved-requires
 read-saved-requires c κs =
-    let c₁ = c .before .before .before .before .before .before .before .before in
-    c₁ .pre .0
+    let c₁ = c .before .before .before .before .before .before .before .before .before in
+    c₁ .pre .1 .0
+
+unread-number-requires : tie.Need-unread-number-requires
+unread-number-requires c κs =
+    let c₁ = start (c .before .before) in
+    fit-ranks (lengthsOf (lentAt c₁)) refl (isTrue (lengthsFit (lentAt c₁)) (c₁ .pre .0))
 
 put-refused-requires : tie.Need-put-refused-requires
 put-refused-requires c κs =
-    let c₁ = c .before .before .before .before .before .before .before .before .before .before .before .before in
-    c₁ .pre .1 .1
+    start (c .before .before .before .before) .pre .1 .1 .1
 
 same-length : tie.Need-same-length
 same-length c = search needs
 
 returns : tie.Need-returns
 returns c =
-    let c₁ = c .before .before in let c₂ = c₁ .before .before in let c₃ = c₂ .before .before in
-    let c₄ = c₃ .before .before .before .before .before .before .before .before .before in (
-      written-as (c₁ .put-refused .ensures .0) (no-saved _ _ _ (c₄ .args .tuples .now) (read-none _ _ (c₃ .read-saved .ensures) (c₂ .if1 .taken))),
-      omega (arith, c₁ .put-refused .ensures .1, c₄ .pre .1 .1),
+    let c₁ = c .before .before in let c₂ = c₁ .before .before in let c₃ = c₂ .before in let c₄ = c₃ .before .before in
+    let c₅ = start c₄ in (
+      written-as (c₁ .put-refused .ensures .0) (no-saved _ _ _ (c₅ .args .tuples .now) (read-none _ _ (c₄ .read-saved .ensures) (c₃ .if1 .taken)) (c₂ .unread-number .ensures)),
+      omega (arith, c₁ .put-refused .ensures .1, c₅ .pre .1 .1 .1),
     )
 
 slice-aggregate-enter : tie.Need-slice-aggregate-enter
@@ -53,8 +68,7 @@ enter-requires c κs = search needs
 
 put-refused-requires-2 : tie.Need-put-refused-requires-2
 put-refused-requires-2 c κs =
-    let c₁ = c .before .before .before .before .before .before .before .before .before .before .before .before .before .before .before .before .before .before .before .before in
-    c₁ .pre .1 .1
+    start (c .before .before .before .before .before .before .before .before .before .before .before) .pre .1 .1 .1
 
 same-length-2 : tie.Need-same-length-2
 same-length-2 c = search needs
@@ -62,9 +76,10 @@ same-length-2 c = search needs
 returns-2 : tie.Need-returns-2
 returns-2 c =
     let c₁ = c .before .before in let c₂ = c₁ .before .before in let c₃ = c₂ .before .before .before .before in let c₄ = c₃ .before .before .before .before in
-    let c₅ = c₄ .before .before in let c₆ = c₅ .before .before .before .before .before .before .before .before .before in (
-      written-as (c₁ .put-refused2 .ensures .0) (not-in _ _ _ (c₆ .args .tuples .now) _ (read-some _ _ (c₅ .read-saved .ensures) (c₄ .if1 .left)) (not-entered (c₃ .enter .ensures) (c₂ .if2 .taken))),
-      omega (arith, c₁ .put-refused2 .ensures .1, c₆ .pre .1 .1),
+    let c₅ = c₄ .before .before in let c₆ = start c₅ in (
+      written-as (c₁ .put-refused2 .ensures .0)
+          (not-in _ _ _ (c₆ .args .tuples .now) (c₆ .pre .0) _ (read-some _ _ (c₅ .read-saved .ensures) (c₄ .if1 .left)) (not-entered (c₃ .enter .ensures) (c₂ .if2 .taken))),
+      omega (arith, c₁ .put-refused2 .ensures .1, c₆ .pre .1 .1 .1),
     )
 
 within-requires : tie.Need-within-requires
@@ -72,8 +87,7 @@ within-requires c κs = search needs
 
 put-refused-requires-3 : tie.Need-put-refused-requires-3
 put-refused-requires-3 c κs =
-    let c₁ = c .before .before .before .before .before .before .before .before .before .before .before .before .before .before .before .before .before .before .before .before .before .before in
-    c₁ .pre .1 .1
+    start (c .before .before .before .before .before .before .before .before .before .before .before .before .before) .pre .1 .1 .1
 
 same-length-3 : tie.Need-same-length-3
 same-length-3 c = search needs
@@ -81,17 +95,17 @@ same-length-3 c = search needs
 returns-3 : tie.Need-returns-3
 returns-3 c =
     let c₁ = c .before .before in let c₂ = c₁ .before .before in let c₃ = c₂ .before in let c₄ = c₃ .before in let c₅ = c₄ .before .before .before .before in
-    let c₆ = c₅ .before .before .before .before in let c₇ = c₆ .before .before in let c₈ = c₇ .before .before .before .before .before .before .before .before .before in
+    let c₆ = c₅ .before .before .before .before in let c₇ = c₆ .before .before in let c₈ = start c₇ in
     let x = entered (c₅ .enter .ensures) (c₄ .if2 .left) in (
       written-as (c₁ .put-refused3 .ensures .0)
-          (bad-now _ _ _ (c₈ .args .tuples .now) _ (read-some _ _ (c₇ .read-saved .ensures) (c₆ .if1 .left)) (x .0) (x .1) (sym (c₃ .within .ensures) ∙ not-true _ (c₂ .if3 .taken))),
-      omega (arith, c₁ .put-refused3 .ensures .1, c₈ .pre .1 .1),
+          (bad-now _ _ _ (c₈ .args .tuples .now) (c₈ .pre .0) _ (read-some _ _ (c₇ .read-saved .ensures) (c₆ .if1 .left)) (x .0) (x .1) (sym (c₃ .within .ensures) ∙ not-true _ (c₂ .if3 .taken))),
+      omega (arith, c₁ .put-refused3 .ensures .1, c₈ .pre .1 .1 .1),
     )
 
 canonical-control-requires : tie.Need-canonical-control-requires
 canonical-control-requires c κs =
     let c₁ = c .before .before .before .before in let c₂ = c₁ .before .before .before .before in
-    let x = entered (c₂ .enter .ensures) (c₁ .if2 .left) in stack-low _ _ _ _ _ _ (x .0) (x .1)
+    let x = entered (c₂ .enter .ensures) (c₁ .if2 .left) in stack-low _ _ _ _ _ _ _ (x .0) (x .1)
 
 cast-quads : tie.Need-cast-quads
 cast-quads c = search needs
@@ -106,11 +120,11 @@ put-lines-requires : tie.Need-put-lines-requires
 put-lines-requires c κs =
     let c₁ = c .before .before .before .before in let c₂ = c₁ .before .before .before in let c₃ = c₂ .before in let c₄ = c₃ .before in
     let c₅ = c₄ .before .before .before .before in let c₆ = c₅ .before .before .before .before .before .before in
-    let c₇ = c₆ .before .before .before .before .before .before .before .before .before in
+    let c₇ = start c₆ in
     let x = entered (c₅ .enter .ensures) (c₄ .if2 .left) in (
-      lends-now _ _ _ _ _ _ (x .0) (x .1) _ _ _ (x .2) (marks c₆) (graphs c₆) (levels c₆) _ (c₁ .canonical-control .ensures) (c₇ .args .clock)
+      lends-now _ _ _ _ _ _ _ (x .0) (x .1) _ _ _ (x .2) (marks c₆) (graphs c₆) (levels c₆) _ (c₁ .canonical-control .ensures) (c₇ .args .clock)
           (sym (c₃ .within .ensures) ∙ not-false _ (c₂ .if3 .left)),
-      (script-short _ _ _ _ _ _ (x .0) (x .1), c₇ .pre .1),
+      (script-short _ _ _ _ _ _ _ (x .0) (x .1), c₇ .pre .1 .1),
     )
 
 same-length-4 : tie.Need-same-length-4
@@ -120,9 +134,9 @@ returns-4 : tie.Need-returns-4
 returns-4 c =
     let c₁ = c .before .before in let c₂ = c₁ .before .before .before .before .before in let c₃ = c₂ .before .before .before in let c₄ = c₃ .before in
     let c₅ = c₄ .before in let c₆ = c₅ .before .before .before .before in let c₇ = c₆ .before .before .before .before in let c₈ = c₇ .before .before in
-    let c₉ = c₈ .before .before .before .before .before .before .before .before .before in
+    let c₉ = start c₈ in
     let x = entered (c₆ .enter .ensures) (c₅ .if2 .left) in (
-      lines-now _ _ _ _ _ _ (x .0) (x .1) _ _ _ (x .2) (marks c₈) (graphs c₈) (levels c₈) _ (c₂ .canonical-control .ensures) (c₉ .args .clock)
+      lines-now _ _ _ _ _ _ _ (x .0) (x .1) _ _ _ (x .2) (marks c₈) (graphs c₈) (levels c₈) _ (c₂ .canonical-control .ensures) (c₉ .args .clock)
           (sym (c₄ .within .ensures) ∙ not-false _ (c₃ .if3 .left)) _ (read-some _ _ (c₈ .read-saved .ensures) (c₇ .if1 .left)) (c₉ .args .tuples .now) (c₁ .put-lines .ensures .0),
       c₁ .put-lines .ensures .1,
     )
@@ -132,6 +146,7 @@ put-entered-spec =
     tie.close
     (tie.spec
     read-saved-requires
+    unread-number-requires
     put-refused-requires
     same-length
     returns

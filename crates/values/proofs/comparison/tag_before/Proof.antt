@@ -13,8 +13,10 @@ slice-aggregate-before-2 c = search needs
 
 before-requires : tie.Need-before-requires
 before-requires c κs =
-    let c₁ = c .before .before .before .before .before in
-    (c₁ .pre .0 .tag .size ∙ sym (c₁ .pre .1 .tag .size), (tag-texts (c₁ .pre .0 .tag), tag-texts (c₁ .pre .1 .tag)))
+    let p = c .before .before .before .before .before .pre in
+    let a = p .1 .0 .tag in
+    let b = p .1 .1 .tag in
+    (p .0, (a .size ∙ sym (b .size), (tag-texts a, tag-texts b)))
 
 returns : tie.Need-returns
 returns c = search needs

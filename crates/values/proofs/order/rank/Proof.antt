@@ -2,22 +2,23 @@
 use mathlib.Core.Path.{refl}
 use Rattle.definitions.specs.Values.{rankIn}
 use Rattle.values.proofs.OrderLaws.{place}
+use native.Mathlib.Omega.{arith}
 use borrow.Author.Needs.{needs}
 use Rattle.values.proofs.order.rank.Statement.{statement}
 use Rattle.values.proofs.order.rank.Tie as tie
 
 sub-place : tie.Need-sub-place
-sub-place c = place (c .args .b) (c .pre) .0
+sub-place c = place (c .args .b) (c .pre .1) .0
 
 cast-place : tie.Need-cast-place
 cast-place c = search needs
 
-element-copy-out-result : tie.Need-element-copy-out-result
-element-copy-out-result c = place (c .args .b) (c .pre) .1
+shared-slice-read-result : tie.Need-shared-slice-read-result
+shared-slice-read-result c = let s = c .before in omega (arith, place (s .args .b) (s .pre .1) .1, s .pre .0)
 
 returns : tie.Need-returns
 unfolding rankIn
 returns c = refl
 
 pub rank-spec : {M : Type 1} → statement M
-rank-spec = tie.close (tie.spec sub-place cast-place element-copy-out-result returns)
+rank-spec = tie.close (tie.spec sub-place cast-place shared-slice-read-result returns)

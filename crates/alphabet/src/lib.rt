@@ -1,0 +1,28 @@
+// A club's own alphabet: whether 95 bytes hold each rank 0 to 94 once.
+ghost use mathlib.Core.Path.{_≡_};
+ghost use lib.ListN.{length};
+ghost use Rattle.definitions.specs.Limits.{ranksWidth};
+ghost use Rattle.definitions.specs.Alphabet.{isAlphabet};
+use definitions::RANKS_WIDTH;
+
+// Whether each rank stands once: one pass, which stops at a number that is no rank and at a rank that was met before.
+// Ruled out: a list with a rank twice; a list with rank 95.
+pub fn is_alphabet(ranks: &[u8]) -> bool
+    requires { ⌜ length (now ranks) ≡ ranksWidth ⌝ }
+    ensures { λ r. ⌜ r ≡ isAlphabet (now (ranks .entry)) ⌝ }
+{
+    let mut met = [false; RANKS_WIDTH];
+    let mut i = 0;
+    while i < RANKS_WIDTH {
+        let rank = ranks[i] as usize;
+        if RANKS_WIDTH <= rank {
+            return false;
+        }
+        if met[rank] {
+            return false;
+        }
+        met[rank] = true;
+        i += 1;
+    }
+    true
+}
