@@ -144,7 +144,7 @@ tablesFit n = eqb (n .ranks) ranksWidth && (eqb (n .termTable) termTableWidth &&
 abbrev pub lengthsFit : Lent → Bool
 lengthsFit l = tablesFit (lengthsOf l)
 
--- ── load: 1, 21, 2 to 9 ──────────────────────────────────────────────────────────────────────
+-- ── load: 1, 21, 2 to 9 ─────────────────────────────────────────────────────────────────────
 
 -- what the call returns, and both tables at its end
 pub record LoadResult : Type 0 where
@@ -197,7 +197,7 @@ entryTests l saved = do
   require 21 (isAlphabet (l .ranks))
   given 10 (soundIn l saved)
 
--- ── run: 1, 21, 10, 11 ──────────────────────────────────────────────────────────────────────────
+-- ── run: 1, 21, 10, 11 ──────────────────────────────────────────────────────────────────────
 
 -- what a run's tuples are tried under
 abbrev pub settingOf : Checked → (ranks : List ℕ) → (now : ℤ) → Setting
@@ -233,7 +233,7 @@ runResult saved (passed x) = Outcomes._>>=_ (x .run) (λ r. ok (ranOf (x .checke
 unfoldable pub runCall : Lent → SavedRun → (budget : ℕ) → (now : ℤ) → Outcome Ran
 runCall l saved budget now = runResult saved (runTests l saved budget now)
 
--- ── page: 1, 21, 10, 12, 13, 14 ─────────────────────────────────────────────────────────────────
+-- ── page: 1, 21, 10, 12, 13, 14 ─────────────────────────────────────────────────────────────
 
 abbrev pub isGraph : Option Term → Bool
 isGraph none = false

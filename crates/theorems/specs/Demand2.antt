@@ -42,11 +42,11 @@ use Rattle.definitions.specs.declared.PageAnswer.the-variants as PageAnswers
 
 -- ── load ──────────────────────────────────────────────────────────────────────────────────────
 
--- past refusals 1 to 7
 -- a refusal that comes before 8 does
 abbrev pub BeforeEight : ℕ → Type 0
 BeforeEight n = ((1 ≤ n) × (n ≤ 7)) ⊎ (n ≡ 21)
 
+-- past refusals 1, 21 and 2 to 7
 pub record PastSeven (l : Lent) : Type 0 where
   -- 1: ranks and tables have their lengths; 21: the ranks are an alphabet
   pub lengths : T (lengthsFit l)
