@@ -11,8 +11,9 @@
 
 /* ---- records, written one after the other ---- */
 
+/* room for eight of the longest records, a page's with a string */
 struct bytes {
-    uint8_t at[2048];
+    uint8_t at[8 * (WILLETCOFFER_OBJECT_OFFSET + WILLETCOFFER_SLOT_WIDTH)];
     size_t length;
 };
 

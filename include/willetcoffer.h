@@ -40,7 +40,7 @@ extern "C" {
 
 /* The term table: WILLETCOFFER_TERM_LIMIT slots of WILLETCOFFER_SLOT_WIDTH bytes. A slot holds a term's record and zeros; a free
    one is all zeros. */
-#define WILLETCOFFER_TERM_TABLE_WIDTH 25088
+#define WILLETCOFFER_TERM_TABLE_WIDTH 53760
 /* The quad table: WILLETCOFFER_QUAD_LIMIT quads, each four term numbers of 2 bytes: graph, subject, property, object. Those in
    use stand first (the saved run counts them), each once, rising by graph, then subject, property and object number; zeros after.
    So the same terms by number and the same quads are always the same bytes. */
@@ -58,22 +58,22 @@ extern "C" {
 
 /* ---- widths of fields, in bytes ------------------------------------------------------------------------------------------ */
 
-#define WILLETCOFFER_TEXT_WIDTH 40           /* a URI's text, a string's text, filled with zeros */
+#define WILLETCOFFER_TEXT_WIDTH 96           /* a URI's text, a string's text, filled with zeros */
 #define WILLETCOFFER_TAG_WIDTH 8             /* a string's language tag, filled with zeros */
 #define WILLETCOFFER_NUMBER_WIDTH 8          /* an integer, a decimal (in millionths), a dateTime (seconds from 1970) */
 #define WILLETCOFFER_PATTERN_WIDTH 16        /* a pattern, filled with zeros */
 #define WILLETCOFFER_LANGUAGE_RANGE_WIDTH 8  /* a language range, filled with zeros */
 #define WILLETCOFFER_BLOCK_WIDTH 10          /* a block's head after its kind: mode, count, four pairs */
-#define WILLETCOFFER_SLOT_WIDTH 49           /* a slot of the term table: the longest term record, a string's */
-#define WILLETCOFFER_URI_WIDTH 41            /* a URI's record: kind and text */
-#define WILLETCOFFER_ENTRY_WIDTH 42          /* a schema record: kind, URI and datatype */
-#define WILLETCOFFER_SCHEMA_WIDTH 5376       /* a schema of all its entries */
+#define WILLETCOFFER_SLOT_WIDTH 105          /* a slot of the term table: the longest term record, a string's */
+#define WILLETCOFFER_URI_WIDTH 97            /* a URI's record: kind and text */
+#define WILLETCOFFER_ENTRY_WIDTH 98          /* a schema record: kind, URI and datatype */
+#define WILLETCOFFER_SCHEMA_WIDTH 12544      /* a schema of all its entries */
 #define WILLETCOFFER_QUAD_WIDTH 8            /* a quad */
 
 /* ---- where parts of a record begin, counted from its kind ---------------------------------------------------------------- */
 
-#define WILLETCOFFER_PROPERTY_OFFSET 41           /* a page record's property, after its subject */
-#define WILLETCOFFER_OBJECT_OFFSET 81             /* a page record's object */
+#define WILLETCOFFER_PROPERTY_OFFSET 97           /* a page record's property, after its subject */
+#define WILLETCOFFER_OBJECT_OFFSET 193            /* a page record's object */
 #define WILLETCOFFER_COUNT_OFFSET 2               /* a block's count of variables, after its mode */
 #define WILLETCOFFER_PAIRS_OFFSET 3               /* a block's pairs */
 #define WILLETCOFFER_QUERY_OFFSET 11              /* a block's query */
@@ -92,7 +92,7 @@ extern "C" {
 #define WILLETCOFFER_PAIR_LIMIT 4            /* variables of one block */
 #define WILLETCOFFER_BUDGET_LIMIT 60000      /* steps of one run call */
 #define WILLETCOFFER_PAGE_LIMIT 65536        /* bytes of a page */
-#define WILLETCOFFER_PRINTER_LIMIT 32512     /* bytes of a card's three parts together, as the type printer reads them */
+#define WILLETCOFFER_PRINTER_LIMIT 68352     /* bytes of a card's three parts together, as the type printer reads them */
 #define WILLETCOFFER_INTEGER_LIMIT 1000000000000LL        /* an integer's amount */
 #define WILLETCOFFER_DECIMAL_LIMIT 1000000000000000000LL  /* a decimal's amount, in millionths */
 #define WILLETCOFFER_SECONDS_BEFORE 62135596800LL         /* the first dateTime, 0001-01-01T00:00:00Z, before 1970 */

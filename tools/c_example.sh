@@ -1,7 +1,7 @@
 #!/usr/bin/env bash
 # c_example.sh COMPILER WORDS..: installs the C library below a new folder, compiles examples/panel.c against it, runs the program
-# and compares what it prints with examples/panel.expected; does the same with tools/ranks.c, which tries the ranks and prints nothing;
-# and sees that the library calls what the header says, and nothing else.
+# and compares what it prints with examples/panel.expected; does the same with tools/ranks.c and tools/texts.c, which try ranks and long
+# texts and print nothing; and sees that the library calls what the header says, and nothing else.
 set -euo pipefail
 cd "$(dirname "$0")/.."
 place=$(mktemp -d)
@@ -15,5 +15,7 @@ else
 fi
 "$@" -Wall -Wextra -Wpedantic -Werror examples/panel.c -x none "${flags[@]}" -o "$place/panel"
 "$place/panel" | diff - examples/panel.expected
-"$@" -Wall -Wextra -Wpedantic -Werror tools/ranks.c -x none "${flags[@]}" -o "$place/ranks"
-"$place/ranks"
+for trial in ranks texts; do
+  "$@" -Wall -Wextra -Wpedantic -Werror "tools/$trial.c" -x none "${flags[@]}" -o "$place/$trial"
+  "$place/$trial"
+done

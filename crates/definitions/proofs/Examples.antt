@@ -99,13 +99,47 @@ refusals-6 = refl
 
 -- a zero inside a text; the integer -3, two's complement
 terms-read :
-    readTerms (0x11 ∷ ascii "a" ++ (0 ∷ ascii "b" ++ replicate 37 0))
+    readTerms (0x11 ∷ filled textWidth (ascii "a" ++ (0 ∷ ascii "b")))
     ∷ readTerms (0x13 ∷ 0xFD ∷ replicate 7 0xFF)
     ∷ []
     ≡ none ∷ some (Term.integer (negsuc 2) ∷ []) ∷ []
 unfolding opened
 terms-read = refl
 
-refusal-2 : loadOf (0x11 ∷ ascii "a" ++ (0 ∷ ascii "b" ++ replicate 37 0)) [] success ≡ 2
+refusal-2 : loadOf (0x11 ∷ filled textWidth (ascii "a" ++ (0 ∷ ascii "b"))) [] success ≡ 2
 unfolding lend loadOf success opened
 refusal-2 = refl
+
+-- ── longer texts (document 02, Ask 6) ───────────────────────────────────────────────────────
+
+-- the width of a text in document 01
+oldWidth : ℕ
+oldWidth = 40
+
+-- a URI's record: a text of so many bytes and a last one, in a field of its width
+uri-of : (width bytes last : ℕ) → List ℕ
+uri-of width n last = 0x11 ∷ filled width (replicate n 0x61 ++ (last ∷ []))
+
+-- a schema record with a property of so many bytes
+entry-of : (width bytes : ℕ) → List ℕ
+entry-of width n = 0x21 ∷ filled width (replicate n 0x61) ++ (2 ∷ [])
+
+long-texts :
+    loadOf (uri-of textWidth 39 0x61 ++ (uri-of textWidth 40 0x61 ++ (uri-of textWidth 94 0x61 ++ uri-of textWidth 95 0x61))) [] success  -- 40, 41, 95 and 96 bytes
+    ∷ loadOf (uri-of textWidth 95 0x61 ++ uri-of textWidth 95 0x62) [] success  -- the 96th tells two terms apart
+    ∷ loadOf (uri-of textWidth 95 0x61 ++ uri-of textWidth 95 0x61) [] success  -- one twice
+    ∷ loadOf (uri-of 97 96 0x61) [] success  -- 97 bytes
+    ∷ loadOf [] (entry-of textWidth 41 ++ entry-of textWidth 96) success
+    ∷ loadOf [] (entry-of 97 97) success
+    ∷ loadOf (uri-of oldWidth 5 0x61) [] success  -- a term's record and a schema record of before
+    ∷ loadOf [] (entry-of oldWidth 6) success
+    ∷ []
+    ≡ 0 ∷ 0 ∷ 3 ∷ 2 ∷ 0 ∷ 4 ∷ 2 ∷ 4 ∷ []
+unfolding lend loadOf success uri-of entry-of oldWidth opened
+long-texts = refl
+
+-- a term table of before: 512 slots of 49 bytes
+old-table :
+    loadNumber (load (record { ranks = builtIn; terms = []; schema = []; script = success; termTable = replicate 25088 0; quadTable = replicate quadTableWidth 0 }) .returned .answer) ≡ 1
+unfolding success opened
+old-table = refl

@@ -1,5 +1,5 @@
 -- The definitions at work, by computation: a script loaded, run and given pages, call by call on bytes; and refusals 10 to 14.
-use Prim.Native.Nat.{ℕ, zero, suc, _+_}
+use Prim.Native.Nat.{ℕ, _+_}
 use mathlib.Core.Path.{_≡_, refl}
 use mathlib.Core.List.{List, [], _∷_, _++_}
 use lib.IntN.{ℤ, pos, negsuc}
@@ -119,6 +119,27 @@ noneLeft :
     ≡ paged (PageAnswers.Taken 2) ∷ ranFor 3 Spent ∷ paged (PageAnswers.Taken 0) ∷ ranFor 1 Ended ∷ []
 unfolding withTables afterRun afterPage afterCall afterCalls afterLoad uri number card triple page whole runFor take ranFor opened
 noneLeft = refl
+
+-- ── longer texts (document 02, Ask 6) ───────────────────────────────────────────────────────
+
+-- l:1 goes 3, in fields of 40 bytes as document 01 had them
+oldPage : List ℕ
+oldPage = 0x83 ∷ filled 40 (ascii "l:1") ++ (filled 40 (ascii "p:speed") ++ number (pos 3))
+
+-- a subject of 96 bytes, and one that differs from it in the last
+longPage : List ℕ
+longPage =
+    triple 0x83 (replicate 95 0x61 ++ (0x61 ∷ [])) (ascii "p:speed") (number (pos 3))
+    ++ triple 0x83 (replicate 95 0x61 ++ (0x62 ∷ [])) (ascii "p:speed") (number (pos 3))
+
+-- a page of before is bad, alone and four times over; of the long one each subject is an answer: from named, two answers, and each with its script
+longer :
+    afterCalls (
+    take 1 oldPage ∷ take 1 (oldPage ++ (oldPage ++ (oldPage ++ oldPage))) ∷ take 1 longPage ∷ runFor 10 ∷ []
+    ) (afterLoad card) .answers
+    ≡ paged (PageAnswers.Refused 13) ∷ paged (PageAnswers.Refused 13) ∷ paged (PageAnswers.Taken 0) ∷ ranFor 6 Ended ∷ []
+unfolding withTables afterRun afterPage afterCall afterCalls afterLoad uri number card triple oldPage longPage whole runFor take ranFor opened
+longer = refl
 
 -- ── refusal 10: a quad naming term 600 of 4 ─────────────────────────────────────────────────
 

@@ -19,7 +19,7 @@ use Rattle.definitions.specs.declared.SavedControl.{SavedControl}
 use Rattle.definitions.specs.declared.SavedStore.{SavedStore}
 use Rattle.definitions.specs.declared.SavedRun.{SavedRun}
 
--- ── the term table: a record and zeros in each 49 bytes, zeros after the last ───────────────
+-- ── the term table: a record and zeros in each slot, zeros after the last ──────────────────
 
 unfoldable pub slots : List Term → List ℕ
 slots [] = []

@@ -1,7 +1,7 @@
 // The data that all crates share: limits and widths, the saved run, and the answers of the calls.
 
 // Widths of fields and records, in bytes. `Limits` in specs/ has the same names and numbers.
-pub const TEXT_WIDTH: usize = 40;
+pub const TEXT_WIDTH: usize = 96;
 
 pub const TAG_WIDTH: usize = 8;
 

@@ -84,12 +84,6 @@ alike a b e = go (sameBytes a b) refl
 
 -- ── what is not sound ───────────────────────────────────────────────────────────────────────
 
--- a table that is the same holds as many terms
-pub same-counts : (loading table : List ℕ) (loaded : ℕ) → HoldsTerms loading loaded → {r : Bool} → r ≡ sameBytes loading table → r ≡ true
-    → Count loaded ≡ countOf (termsIn table)
-same-counts loading table loaded h e t =
-    sym (h .count) ∙ ap (λ (b : List ℕ). countOf (termsIn b)) (same-bytes loading table (trueIs (sameBytes loading table) (sym e ∙ t)))
-
 module _ (ranks terms schema script table store : List ℕ) (saved : SavedRun) where
   abbrev l : Lent
   l = lentOf ranks terms schema script table store

@@ -18,6 +18,7 @@ use definitions::BAD_RANKS;
 use definitions::ENTRY_LIMIT;
 use definitions::QUAD_TABLE_WIDTH;
 use definitions::RANKS_WIDTH;
+use definitions::SLOT_WIDTH;
 use definitions::SavedRun;
 use definitions::TERM_TABLE_WIDTH;
 use definitions::UNSOUND;
@@ -66,16 +67,17 @@ pub fn unread_number(ranks: &[u8]) -> u8
     BAD_RANKS
 }
 
-// How many terms a table holds: as many as that of loading, where it is the same.
+// How many terms a table holds. Where it begins as that of loading, the slots of loading's terms are not read again.
 fn counted(loading: &[u8], loaded: usize, table: &[u8]) -> Counted
     requires { ⌜ HoldsTerms (now loading) loaded ⌝ }
     requires { ⌜ length (now table) ≡ termTableWidth ⌝ }
     ensures { λ r. ⌜ r ≡ countOf (termsIn (now (table .entry))) ⌝ }
 {
-    if same_bytes(loading, table) {
-        return Counted::Count(loaded);
+    let end = loaded * SLOT_WIDTH;
+    if same_bytes(&loading[..end], &table[..end]) {
+        return used_terms(table, loaded);
     }
-    used_terms(table)
+    used_terms(table, 0)
 }
 
 // Refusal 10 of tables that have their lengths. The codes of least types go on from those of loading's terms, where the table begins with these.

@@ -6,6 +6,7 @@ use mathlib.Core.Option.{some}
 use mathlib.Core.Path.{_≡_}
 use native.Mathlib.Omega.{arith}
 use lib.ListN.{length}
+use Rattle.definitions.specs.Limits.{objectOffset}
 use Rattle.definitions.specs.Bytes.{byte}
 use Rattle.definitions.specs.Terms.{Triple, ofTermKind, readTriple}
 use Rattle.laws.specs.Records.{TripleAt}
@@ -23,18 +24,18 @@ module _ (page : List ℕ) (at : ℕ) (g : isSome (readTriple page at) ≡ true)
   holds : TripleAt page at (found .0 .0) (found .0 .1)
   holds = triple-inv page at (found .0 .0) (found .0 .1) (found .1)
 
-  pub triple-inside : at + 81 ≤ length page
+  pub triple-inside : at + objectOffset ≤ length page
   triple-inside = record-ends page at (found .0 .1) (found .0 .0) holds
 
   pub triple-kind : 0x81 ≤ byte page at
   triple-kind = kind-high page at (found .0 .1) (found .0 .0) holds
 
   module _ {w : ℕ} (e : w ≡ widthOf (ofTermKind (byte page at - 0x70))) where
-    end : at + 81 + w ≡ found .0 .1
+    end : at + objectOffset + w ≡ found .0 .1
     end = end-is page at (found .0 .1) (found .0 .0) holds w e
 
-    pub triple-ends : Read.Next (at + 81 + w) ≡ nextOf (readTriple page at)
+    pub triple-ends : Read.Next (at + objectOffset + w) ≡ nextOf (readTriple page at)
     triple-ends = rw end (leaf-ends (found .1))
 
-    pub triple-fits : at + 81 + w ≤ length page
+    pub triple-fits : at + objectOffset + w ≤ length page
     triple-fits = omega (arith, end, holds .fits)

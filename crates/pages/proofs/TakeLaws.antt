@@ -8,7 +8,7 @@ use mathlib.Core.Bool.{Bool, true, false, _&&_}
 use mathlib.Core.Option.{Option, none, some}
 use lib.Dec.{leb}
 use lib.ListN.{length, set, take, drop}
-use Rattle.definitions.specs.Limits.{textWidth, numberWidth, termLimit, quadLimit, quadWidth, quadTableWidth}
+use Rattle.definitions.specs.Limits.{textWidth, propertyOffset, objectOffset, numberWidth, termLimit, quadLimit, quadWidth, quadTableWidth}
 use Rattle.pages.specs.Room.{leastRecordWidth}
 use Rattle.definitions.specs.Bytes.{byte, part, allZero, inFront}
 use Rattle.definitions.specs.Types.{Datatype, datatypeCode, plain, leqDatatype}
@@ -63,7 +63,7 @@ body-wide Datatype.dateTime = omega arith
 body-wide Datatype.integer = omega arith
 
 module _ (page : List ℕ) (at next : ℕ) (x : Triple) (r : TripleAt page at x next) where
-  pub record-ends : at + 81 ≤ length page
+  pub record-ends : at + objectOffset ≤ length page
   record-ends = omega (arith, r .ends, r .fits)
 
   -- no record is shorter than one whose object is a number
@@ -74,36 +74,36 @@ module _ (page : List ℕ) (at next : ℕ) (x : Triple) (r : TripleAt page at x 
   kind-high = page-kind (byte page at) (r .datatype) (r .kind) .0
 
   -- as the code hands them on
-  pub subject-body : BodyIs 0x11 (take (at + 41 - (at + 1)) (drop (at + 1) page)) (Term.uri (x .subject))
+  pub subject-body : BodyIs 0x11 (take (at + propertyOffset - (at + 1)) (drop (at + 1) page)) (Term.uri (x .subject))
   subject-body =
-      let n : at + 41 - (at + 1) ≡ textWidth = omega arith in
+      let n : at + propertyOffset - (at + 1) ≡ textWidth = omega arith in
       rw n (uri-body (part page (at + 1) textWidth) (x .subject) (part-length page (at + 1) textWidth (omega (arith, record-ends))) (r .subject))
 
-  pub property-body : BodyIs 0x11 (take (at + 81 - (at + 41)) (drop (at + 41) page)) (Term.uri (x .property))
+  pub property-body : BodyIs 0x11 (take (at + objectOffset - (at + propertyOffset)) (drop (at + propertyOffset) page)) (Term.uri (x .property))
   property-body =
-      let n : at + 81 - (at + 41) ≡ textWidth = omega arith in
-      rw n (uri-body (part page (at + 41) textWidth) (x .property) (part-length page (at + 41) textWidth (omega (arith, record-ends))) (r .property))
+      let n : at + objectOffset - (at + propertyOffset) ≡ textWidth = omega arith in
+      rw n (uri-body (part page (at + propertyOffset) textWidth) (x .property) (part-length page (at + propertyOffset) textWidth (omega (arith, record-ends))) (r .property))
 
-  pub property-uri : isSome (uriText (take (at + 81 - (at + 41)) (drop (at + 41) page))) ≡ true
+  pub property-uri : isSome (uriText (take (at + objectOffset - (at + propertyOffset)) (drop (at + propertyOffset) page))) ≡ true
   property-uri =
-      let n : at + 81 - (at + 41) ≡ textWidth = omega arith in
+      let n : at + objectOffset - (at + propertyOffset) ≡ textWidth = omega arith in
       rw n (ap isSome (r .property))
 
-  pub end-is : (w : ℕ) → w ≡ widthOf (ofTermKind (byte page at - 0x70)) → at + 81 + w ≡ next
+  pub end-is : (w : ℕ) → w ≡ widthOf (ofTermKind (byte page at - 0x70)) → at + objectOffset + w ≡ next
   unfolding widthOf
   end-is w e =
       let d : w ≡ bodyWidth (r .datatype) = e ∙ ap widthOf (page-kind (byte page at) (r .datatype) (r .kind) .1) in
       omega (arith, r .ends)
 
-  pub object-body : BodyIs (byte page at - 0x70) (take (next - (at + 81)) (drop (at + 81) page)) (x .object)
+  pub object-body : BodyIs (byte page at - 0x70) (take (next - (at + objectOffset)) (drop (at + objectOffset) page)) (x .object)
   object-body =
       let w = bodyWidth (r .datatype) in
-      let n : next - (at + 81) ≡ w = omega (arith, r .ends) in
+      let n : next - (at + objectOffset) ≡ w = omega (arith, r .ends) in
       rw n
       (record {
         datatype = r .datatype;
         kind = page-kind (byte page at) (r .datatype) (r .kind) .1;
-        width = part-length page (at + 81) w (omega (arith, r .ends, r .fits));
+        width = part-length page (at + objectOffset) w (omega (arith, r .ends, r .fits));
         says = r .object;
       })
 
@@ -173,14 +173,14 @@ says-datatype Datatype.dateTime b t e = ap datatype (number-inv isDateTime Term.
 says-datatype Datatype.integer b t e = ap datatype (number-inv isInteger Term.integer b t e .0)
 
 module _ (schema page : List ℕ) (S : Schema) (at next : ℕ) (x : Triple) (e : readSchema schema ≡ some S) (r : TripleAt page at x next) where
-  pub typed-is : (wanted given : ℕ) → wanted ≡ schemaCode (readSchema schema) (uriText (take (at + 81 - (at + 41)) (drop (at + 41) page)))
+  pub typed-is : (wanted given : ℕ) → wanted ≡ schemaCode (readSchema schema) (uriText (take (at + objectOffset - (at + propertyOffset)) (drop (at + propertyOffset) page)))
       → given ≡ datatypeCode (r .datatype) → codeLeq given wanted ≡ wellTyped S x
   unfolding schemaCode wellTyped
   typed-is wanted given f g =
-      let n : at + 81 - (at + 41) ≡ textWidth = omega arith in
-      let u : uriText (take (at + 81 - (at + 41)) (drop (at + 41) page)) ≡ some (x .property) = rw n (r .property) in
+      let n : at + objectOffset - (at + propertyOffset) ≡ textWidth = omega arith in
+      let u : uriText (take (at + objectOffset - (at + propertyOffset)) (drop (at + propertyOffset) page)) ≡ some (x .property) = rw n (r .property) in
       let w : wanted ≡ codeOf (datatypeIn S (x .property)) = f ∙ ap₂ schemaCode e u in
-      let d = says-datatype (r .datatype) (part page (at + 81) (bodyWidth (r .datatype))) (x .object) (r .object) in
+      let d = says-datatype (r .datatype) (part page (at + objectOffset) (bodyWidth (r .datatype))) (x .object) (r .object) in
       ap₂ codeLeq (g ∙ ap datatypeCode (sym d)) w ∙ codes-fit S (datatypeIn S (x .property)) (x .object)
 
 -- the codes of the five kinds

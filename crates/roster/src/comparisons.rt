@@ -49,7 +49,7 @@ fn relation(a: Value, b: Value) -> u8
 }
 
 // One case: two values and the sign between them.
-fn compare(a: Value, b: Value)
+pub fn compare(a: Value, b: Value)
     requires { ⌜ Good a ⌝ }
     requires { ⌜ Good b ⌝ }
 {

@@ -1,6 +1,7 @@
 // The roster: cases of document 01's values, a line of output for each. docs/ROSTER.md says where the expected lines come from.
 mod comparisons;
 mod dates;
+mod long;
 mod numbers;
 mod order;
 mod patterns;
@@ -15,4 +16,5 @@ fn main() {
     patterns::cases();
     ranges::cases();
     truths::cases();
+    long::cases();
 }

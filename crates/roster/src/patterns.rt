@@ -11,7 +11,7 @@ ghost use Rattle.definitions.specs.Limits.{patternWidth, textWidth};
 ghost use Rattle.values.specs.Meaning.{Good};
 
 // One case: a pattern on a string, or on no value of that kind.
-fn show_on(pattern: &[u8], v: Value)
+pub fn show_on(pattern: &[u8], v: Value)
     requires { ⌜ length (now pattern) ≤ patternWidth ⌝ }
     requires { ⌜ Good v ⌝ }
 {
@@ -53,7 +53,7 @@ pub fn cases() {
     show_rows(
         b"ab*c|ac\nab*c|abbbc\nab*c|adc\nx*|abc\n^a*$|\n^a*$|aab\n^a*ab$|aaab\n^.*c$|abcabc\n^a.*c$|abd\n^a*b*c*$|aacc\n",
     );
-    // A pattern and a text that fill their fields.
+    // A pattern that fills its field, on longer texts.
     show_rows(
         b"abcdefghijklmnop|abcdefghijklmnop\n^.*.*.*.*.*.*.*$|aaaaaaaaaaaaaaaaaaaaaaaaaaaaaaaaaaaaaaaa\n^a*a*a*a*a*a*b$|aaaaaaaaaaaaaaaaaaaaaaaaaaaaaaaaaaaaaaaa\n",
     );

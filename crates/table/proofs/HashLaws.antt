@@ -84,7 +84,7 @@ pub one-slot : (table hashes : List ℕ) (i x : ℕ) → i < length hashes → H
 one-slot table hashes i x h w e = one-hashed (λ j. hashOf (slotAt table j)) hashes i x h w (e ∙ ap hashOf (some-part table (i * slotWidth) slotWidth))
 
 -- a part does not see what comes after it
-part-front : (xs ys : List ℕ) (at n : ℕ) → at + n ≤ length xs → part (xs ++ ys) at n ≡ part xs at n
+pub part-front : (xs ys : List ℕ) (at n : ℕ) → at + n ≤ length xs → part (xs ++ ys) at n ≡ part xs at n
 part-front xs ys at n h =
     ap (take n) (drop-append-le at xs ys (omega arith)) ∙ take-append-le n (drop at xs) ys (omega (arith, length-drop at xs))
 

@@ -1,14 +1,14 @@
 -- Laws of the term table: its slots, the number of a term, slots that are all different, a slot written.
 use Prim.Native.Nat.{ℕ, zero, suc, _+_, _-_, _*_, _<_, _≤_}
-use mathlib.Core.Bool.{Bool, true, false, not, _&&_, _||_}
+use mathlib.Core.Bool.{Bool, true, false, true≢false, not, _&&_, _||_}
 use mathlib.Core.List.{List, [], _∷_, _++_, append-nil}
 use mathlib.Core.Option.{Option, none, some}
 use mathlib.Core.Path.{_≡_, refl, sym, ap, ap₂, _∙_}
 use native.Mathlib.Numerals.{add-one}
 use native.Mathlib.Omega.{arith}
 use lib.Dec.{ltb, leb·suc-suc}
-use lib.ListN.{length, take, drop, replicate, getElem?, length-drop, drop-of-length-le}
-use lib.Seq.{take-length, drop-length}
+use lib.ListN.{length, getD, take, drop, replicate, getElem?, length-take, length-drop, drop-of-length-le, take-append-drop}
+use lib.Seq.{take-length, drop-length, getD-take, getD-drop}
 use borrow.Author.Tests.{eq-eqb, ne-eqb, lt-ltb, le-ltb, not-true, not-false}
 use borrow.Rule.Slice.PartMut.{putMid}
 use Rattle.definitions.specs.Limits.{slotWidth, termLimit, termTableWidth}
@@ -28,10 +28,11 @@ use Rattle.definitions.specs.declared.Read.{Read}
 use Rattle.definitions.specs.declared.Read.the-variants.{Next, Malformed}
 use Rattle.laws.specs.ReadAnswers.{isSome, nextOf}
 use Rattle.fields.specs.Answers.{countOf, distinctIn}
-use Rattle.table.specs.Table.{HoldsTerms, GoodSlot, numberFrom, numberIn, slotSet}
+use Rattle.table.specs.Table.{HoldsTerms, Begun, GoodSlot, numberFrom, numberIn, slotSet}
 use Rattle.laws.proofs.ReadAnswers.{is-none, is-some, provided-is, next-lost, next-got}
 use Rattle.fields.proofs.PartLaws.{rest-part, some-part, drop-replicate}
-use Rattle.table.proofs.CountLaws.{countFrom, counted-some, none-of}
+use Rattle.table.proofs.CountLaws.{countFrom, count-zero, counted-some, none-of}
+use Rattle.table.proofs.HashLaws.{part-front}
 use Rattle.fields.proofs.SameLaws.{Compared, test-is}
 
 -- ── a slot ──────────────────────────────────────────────────────────────────────────────────
@@ -100,6 +101,29 @@ module _ (table : List ℕ) (n at : ℕ) where
           go t none = refl
           go t (some ts) = ap Counts.Count (omega arith)
 
+-- a slot that begins with zero holds none
+none-at-zero : (slot : List ℕ) → byte slot 0 ≡ 0 → isSome (slotTerm slot) ≡ false
+unfolding slotTerm readTerm onward
+none-at-zero slot e = rw e refl
+
+module _ (table : List ℕ) where
+  -- those of the first slots, and those after
+  pub begun-count : (n : ℕ) → Begun table n → countOf (termsIn table) ≡ countFrom n (termsFrom (termLimit - n) table (n * slotWidth))
+  unfolding termsIn
+  begun-count zero h = count-zero (termsIn table)
+  begun-count (suc n) h =
+      let at = n * slotWidth in
+      let good : true ≡ isSome (slotTerm (part table at (at + slotWidth - at))) = rw (some-part table at slotWidth) (sym (h .each n (omega arith))) in
+      let there : byte table at ≡ 0 → ⊥ = λ z. true≢false (sym (h .each n (omega arith)) ∙ none-at-zero (part table at slotWidth) (front table at ∙ z)) in
+      let next : countFrom n (termsFrom (termLimit - n) table at) ≡ countFrom (n + 1) (termsFrom (termLimit - (n + 1)) table (at + slotWidth))
+      = from-next table n at (omega (arith, h .few)) there {r = true} good refl in
+      let more : at + slotWidth ≡ suc n * slotWidth = omega arith in
+      begun-count n (record { width = h .width; few = omega (arith, h .few); each = λ i l. h .each i (omega arith) }) ∙ next
+      ∙ ap₂ (λ (m k : ℕ). countFrom m (termsFrom (termLimit - m) table k)) (add-one n) more
+    where
+      front : (s : List ℕ) (at : ℕ) → byte (part s at slotWidth) 0 ≡ byte s at
+      front s at = getD-take slotWidth (drop at s) 0 0 (omega arith) ∙ getD-drop at s 0 0 ∙ ap (λ (k : ℕ). getD s k 0) (omega arith)
+
 -- ── the number of a term ────────────────────────────────────────────────────────────────────
 
 counted-length : {A : Type 0} (xs : List A) {n : ℕ} → countOf (some xs) ≡ Counts.Count n → length xs ≡ n
@@ -134,6 +158,25 @@ module _ (table : List ℕ) (n : ℕ) (h : HoldsTerms table n) where
     -- as the code hands it on
     pub slot-good : GoodSlot (part table (i * slotWidth) (i * slotWidth + slotWidth - i * slotWidth))
     slot-good = rw (some-part table (i * slotWidth) slotWidth) (record { width = slot-width; good = rw (slot-there .1) })
+
+-- a table that begins with the slots of another holds terms there
+module _ (other table : List ℕ) (n : ℕ) (h : HoldsTerms other n) (w : length table ≡ termTableWidth) where
+  front-of : (s : List ℕ) → length s ≡ termTableWidth → (i : ℕ) → i < n
+      → part s (i * slotWidth) slotWidth ≡ part (take (n * slotWidth) s) (i * slotWidth) slotWidth
+  front-of s l i k =
+      let m = n * slotWidth in
+      sym (ap (λ (b : List ℕ). part b (i * slotWidth) slotWidth) (take-append-drop m s))
+      ∙ part-front (take m s) (drop m s) (i * slotWidth) slotWidth (omega (arith, length-take m s, holds-few other n h))
+
+  pub begun-as : take (n * slotWidth) other ≡ take (n * slotWidth) table → Begun table n
+  begun-as e =
+      record {
+        width = w;
+        few = holds-few other n h;
+        each = λ i l. ap (λ (b : List ℕ). isSome (slotTerm b))
+            (front-of table w i l ∙ ap (λ (b : List ℕ). part b (i * slotWidth) slotWidth) (sym e) ∙ sym (front-of other (h .width) i l))
+            ∙ ap isSome (slot-there other n h i l .1);
+      }
 
 number-first : (t x : Term) (xs : List Term) → sameTerm t x ≡ true → numbered t (x ∷ xs) .number ≡ 0
 unfolding numbered

@@ -1,5 +1,5 @@
 -- The term table: what it holds, the number of a term, and a term that joins.
-use Prim.Native.Nat.{ℕ, _+_, _*_, _≤_}
+use Prim.Native.Nat.{ℕ, _+_, _*_, _≤_, _<_}
 use mathlib.Core.Bool.{true, cond}
 use mathlib.Core.List.{List, [], _++_}
 use mathlib.Core.Option.{Option, none, some}
@@ -7,6 +7,7 @@ use mathlib.Core.Path.{_≡_}
 use lib.Dec.{leb}
 use lib.ListN.{length, take, drop}
 use Rattle.definitions.specs.Limits.{slotWidth, termLimit, termTableWidth}
+use Rattle.definitions.specs.Bytes.{part}
 use Rattle.definitions.specs.Terms.{Term}
 use Rattle.definitions.specs.Machine.{numbered}
 use Rattle.definitions.specs.Saved.{termTable, slotTerm, termsIn}
@@ -29,6 +30,12 @@ pub record HeldTerms (table : List ℕ) (n : ℕ) (ts : List Term) : Type 0 wher
   pub valid : All Valid ts
   pub count : length ts ≡ n
   pub few : n ≤ termLimit
+
+-- a table of which the first n slots hold terms
+pub record Begun (table : List ℕ) (n : ℕ) : Type 0 where
+  pub width : length table ≡ termTableWidth
+  pub few : n ≤ termLimit
+  pub each : (i : ℕ) → i < n → isSome (slotTerm (part table (i * slotWidth) slotWidth)) ≡ true
 
 -- a slot that holds a term
 pub record GoodSlot (slot : List ℕ) : Type 0 where

@@ -19,7 +19,7 @@ ghost use Rattle.definitions.specs.Saved.{slotTerm, termsIn};
 ghost use Rattle.laws.specs.ReadAnswers.{isSome};
 ghost use Rattle.fields.specs.Answers.{countOf, distinctIn};
 ghost use Rattle.table.specs.Hashes.{Hashed};
-ghost use Rattle.table.specs.Table.{HoldsTerms, GoodSlot, numberIn, slotSet};
+ghost use Rattle.table.specs.Table.{HoldsTerms, Begun, GoodSlot, numberIn, slotSet};
 
 // Whether a slot holds a term. Ruled out: bytes after the record that are not zero; a slot of zeros.
 pub fn slot_ok(slot: &[u8]) -> bool
@@ -31,13 +31,14 @@ pub fn slot_ok(slot: &[u8]) -> bool
     is_zero(&slot[end..])
 }
 
-// How many terms a table holds. Ruled out: a count past a slot of zeros; rubbish after the last let pass.
-pub fn used_terms(table: &[u8]) -> Counted
-    requires { ⌜ length (now table) ≡ termTableWidth ⌝ }
+// How many terms a table holds; its first slots, so many, are known to hold some.
+// Ruled out: a count past a slot of zeros; rubbish after the last let pass.
+pub fn used_terms(table: &[u8], first: usize) -> Counted
+    requires { ⌜ Begun (now table) first ⌝ }
     ensures { λ r. ⌜ r ≡ countOf (termsIn (now (table .entry))) ⌝ }
 {
-    let mut n = 0;
-    let mut at = 0;
+    let mut n = first;
+    let mut at = first * SLOT_WIDTH;
     while n < TERM_LIMIT {
         if table[at] == 0 {
             if is_zero(&table[at..]) {

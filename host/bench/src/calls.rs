@@ -1,10 +1,12 @@
 //! The workloads of single calls: a load, a run call and a page, all at the limits.
 
+use crate::texts::Texts;
 use compare::call::{Call, Engine, Station};
-use willetcoffer::limits::{BLOCK_WIDTH, ENTRY_LIMIT, PAGE_LIMIT, TERM_LIMIT};
-use willetcoffer::page::triple;
+use willetcoffer::kinds::{PAGE, STRING, URI};
+use willetcoffer::limits::{BLOCK_WIDTH, ENTRY_LIMIT, PAGE_LIMIT, QUAD_LIMIT, TERM_LIMIT};
+use willetcoffer::page::{record_width, triple};
 use willetcoffer::script::*;
-use willetcoffer::{BadTerm, Card, Datatype, Term};
+use willetcoffer::{BadTerm, Card, Datatype, PageReport, Term};
 
 /// Patterns and filters joined as a balanced tree.
 fn joined(mut parts: Vec<Query>) -> Query {
@@ -76,13 +78,16 @@ fn script(bytes: usize) -> Script {
 }
 
 /// A station before its load: a script of so many bytes over 512 terms and 128 entries. Term 0 is the graph, then come
-/// numbers, last the schema's URIs.
-pub fn before_load(bytes: usize) -> Result<Station, BadTerm> {
-    let property = |n| Term::uri(&format!("http://club.example/property/{n}"));
+/// numbers and so many strings, last the schema's URIs.
+pub fn before_load(bytes: usize, strings: usize, texts: Texts) -> Result<Station, BadTerm> {
+    let property = |n| Term::uri(&texts.of(&format!("http://club.example/property/{n}")));
     let properties = (0..ENTRY_LIMIT).map(property).collect::<Result<Vec<Term>, BadTerm>>()?;
-    let mut listed = vec![Term::uri("http://club.example/yard/0")?];
-    for n in 1..TERM_LIMIT - ENTRY_LIMIT {
+    let mut listed = vec![Term::uri(&texts.of("http://club.example/yard/0"))?];
+    for n in 1..TERM_LIMIT - ENTRY_LIMIT - strings {
         listed.push(Term::integer(n as i64)?);
+    }
+    for n in 0..strings {
+        listed.push(Term::tagged("en", &texts.of(&format!("Locomotive {n}")))?);
     }
     listed.extend(&properties);
     let entries: Vec<(Term, Datatype)> =
@@ -90,22 +95,50 @@ pub fn before_load(bytes: usize) -> Result<Station, BadTerm> {
     Ok(Station::new(Card::new(&listed, &entries, script(bytes)), 0))
 }
 
-/// A station and a page of 65,536 bytes for its graph 0: 448 names and 64 friends, all of them new, 512 quads.
-pub fn full_page(engine: &dyn Engine) -> Result<(Station, Call), BadTerm> {
-    let [name, friend] = [Term::uri("p:name")?, Term::uri("p:friend")?];
+/// The properties of the pages, and a loaded station of so many graphs that has them.
+fn yards(engine: &dyn Engine, graphs: usize, texts: Texts) -> Result<([Term; 2], Station), BadTerm> {
+    let [name, friend] = [Term::uri(&texts.of("p:name"))?, Term::uri(&texts.of("p:friend"))?];
     let schema = [(name, Datatype::String), (friend, Datatype::AnyUri)];
-    let card = Card::new(&[Term::uri("http://club.example/yard/0")?], &schema, success());
-    let mut station = Station::new(card, 0);
+    let yard = |n| Term::uri(&texts.of(&format!("http://club.example/yard/{n}")));
+    let listed = (0..graphs).map(yard).collect::<Result<Vec<Term>, BadTerm>>()?;
+    let mut station = Station::new(Card::new(&listed, &schema, success()), 0);
     assert_eq!(station.call(engine, &Call::Load).code, 0);
-    let loco = |n: usize| Term::uri(&format!("http://club.example/loco/{n}"));
-    let mut page = Vec::new();
-    for n in 0..448 {
-        let called = Term::tagged("en", &format!("Locomotive {n}"))?;
-        page.extend(triple(&loco(n % 28)?, &name, &called).into_iter().flatten());
+    Ok(([name, friend], station))
+}
+
+/// So many names of 28 locomotives and so many of their friendships, each a record; all names are new, and so are the locomotives.
+fn records([name, friend]: [Term; 2], names: usize, friends: usize, texts: Texts) -> Result<Vec<Vec<u8>>, BadTerm> {
+    let loco = |n: usize| Term::uri(&texts.of(&format!("http://club.example/loco/{n}")));
+    let mut records = Vec::new();
+    for n in 0..names {
+        let called = Term::tagged("en", &texts.of(&format!("Locomotive {n}")))?;
+        records.extend(triple(&loco(n % 28)?, &name, &called));
     }
-    for n in 0..64 {
-        page.extend(triple(&loco(n % 8)?, &friend, &loco(8 + n / 8)?).into_iter().flatten());
+    for n in 0..friends {
+        records.extend(triple(&loco(n % 8)?, &friend, &loco(8 + n / 8)?));
     }
+    Ok(records)
+}
+
+/// A station and a page of 65,536 bytes for its graph 0: as many names as may be, the rest friends, all of them new.
+pub fn full_page(engine: &dyn Engine, texts: Texts) -> Result<(Station, Call), BadTerm> {
+    let (properties, station) = yards(engine, 1, texts)?;
+    let [named, befriended] =
+        [STRING, URI].map(|object| record_width(PAGE + object).expect("the kind of a page record"));
+    let fits = |names: &usize| (PAGE_LIMIT - names * named).is_multiple_of(befriended);
+    let names = (0..=PAGE_LIMIT / named).rev().find(fits).expect("a page as long as may be");
+    let page = records(properties, names, (PAGE_LIMIT - names * named) / befriended, texts)?.concat();
     assert_eq!(page.len(), PAGE_LIMIT);
     Ok((station, Call::page(0, page)))
+}
+
+/// A station whose store is full: 448 names and 64 friends, 512 quads in as many graphs as it takes pages.
+pub fn full_store(engine: &dyn Engine, texts: Texts) -> Result<Station, BadTerm> {
+    let (properties, mut station) = yards(engine, 3, texts)?;
+    let records = records(properties, 448, 64, texts)?;
+    for (graph, records) in records.chunks(records.len().div_ceil(3)).enumerate() {
+        assert_eq!(station.call(engine, &Call::page(graph, records.concat())).paged(), Some(PageReport { skipped: 0 }));
+    }
+    assert_eq!(station.quads().len(), QUAD_LIMIT);
+    Ok(station)
 }

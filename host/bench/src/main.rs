@@ -11,13 +11,14 @@ mod case;
 mod filters;
 mod names;
 mod stock;
+mod texts;
 
 use compare::call::archive::Archive;
 use compare::call::engine::fast;
 use compare::call::{Answer, Call, Engine, Station};
-use names::By;
 use std::error::Error;
 use std::time::{Duration, Instant};
+use texts::Texts;
 use willetcoffer::limits::BUDGET_LIMIT;
 use willetcoffer::{BadTerm, RunReport, State};
 
@@ -82,20 +83,52 @@ impl Bench {
     /// Single calls at the limits.
     fn calls(&self, reference: &dyn Engine) -> Result<(), BadTerm> {
         for bytes in [512, 1024, 1536, 2048] {
-            let station = calls::before_load(bytes)?;
+            let station = calls::before_load(bytes, 0, Texts::Short)?;
             let size = format!("{} bytes", station.card.script.len());
             self.row("load, 512 terms, 128 entries", &size, &station, &Call::Load);
         }
-        let mut loaded = calls::before_load(2048)?;
+        let mut loaded = calls::before_load(2048, 0, Texts::Short)?;
         assert_eq!(loaded.call(reference, &Call::Load).code, 0);
         self.row("run call of 0 steps, the same", "2048 bytes", &loaded, &Call::run(0, 0));
-        let (station, page) = calls::full_page(reference)?;
-        self.row("page of 65,536 bytes, new terms", "512 quads", &station, &page);
-        let mut filled = station;
+        let [load, run] = ["load, 256 of the terms strings", "run call of 0 steps, with these"];
+        self.loads(reference, [load, run], Texts::Short)?;
+        self.loads(reference, ["load, long texts", "run call of 0 steps, long texts"], Texts::Long)?;
+        let pages = [
+            "page of 65,536 bytes, new terms",
+            "the same page again",
+            "run call of 0 steps on these",
+            "run call of 1 step on these",
+        ];
+        self.pages(reference, pages, Texts::Short)?;
+        let pages = [
+            "page of 65,536 bytes, long texts",
+            "that page again",
+            "run call of 0 steps on those",
+            "run call of 1 step on those",
+        ];
+        self.pages(reference, pages, Texts::Long)
+    }
+
+    /// A card with many strings: its load, and a run call.
+    fn loads(&self, reference: &dyn Engine, [load, run]: [&str; 2], texts: Texts) -> Result<(), BadTerm> {
+        let mut station = calls::before_load(2048, 256, texts)?;
+        self.row(load, "2048 bytes", &station, &Call::Load);
+        assert_eq!(station.call(reference, &Call::Load).code, 0);
+        self.row(run, "2048 bytes", &station, &Call::run(0, 0));
+        Ok(())
+    }
+
+    /// A page as long as may be, the same again, and run calls on a full store.
+    fn pages(&self, reference: &dyn Engine, names: [&str; 4], texts: Texts) -> Result<(), BadTerm> {
+        let (station, page) = calls::full_page(reference, texts)?;
+        let mut filled = station.clone();
         assert_eq!(filled.call(reference, &page).code, 0);
-        self.row("the same page again", "512 quads", &filled, &page);
-        self.row("run call of 0 steps on these", "512 quads", &filled, &Call::run(0, 0));
-        self.row("run call of 1 step on these", "512 quads", &filled, &Call::run(1, 0));
+        let size = format!("{} quads", filled.quads().len());
+        self.row(names[0], &size, &station, &page);
+        self.row(names[1], &size, &filled, &page);
+        let full = calls::full_store(reference, texts)?;
+        self.row(names[2], "512 quads", &full, &Call::run(0, 0));
+        self.row(names[3], "512 quads", &full, &Call::run(1, 0));
         Ok(())
     }
 
@@ -103,7 +136,7 @@ impl Bench {
     fn searches(&self, reference: &dyn Engine) -> Result<(), BadTerm> {
         for workload in stock::workloads() {
             for locomotives in [21, 42, 84, 168].into_iter().filter(|n| *n <= workload.most) {
-                let station = stock::station(reference, workload.script.clone(), locomotives, workload.graphs)?;
+                let station = stock::station(reference, &workload, locomotives)?;
                 let size = format!("{} quads", 3 * locomotives);
                 self.row(workload.name, &size, &station, &Call::run(BUDGET_LIMIT, 0));
             }
@@ -112,15 +145,10 @@ impl Bench {
             let (station, call) = filters::station(reference, uris)?;
             self.row("union, two variables to filters", &format!("{uris} URIs"), &station, &call);
         }
-        let rows = [
-            ("every pair of names, by text", By::Text, false),
-            ("every pair of names, by tag", By::Tag, false),
-            ("the same by ranks turned round", By::Text, true),
-        ];
-        for (name, by, turned) in rows {
+        for row in names::rows() {
             for names in [42, 168] {
-                let (station, call) = names::station(reference, by, names, turned)?;
-                self.row(name, &format!("{names} names"), &station, &call);
+                let (station, call) = names::station(reference, row, names)?;
+                self.row(row.name, &format!("{names} names"), &station, &call);
             }
         }
         Ok(())

@@ -1,5 +1,6 @@
 //! The stock of the searches: locomotives with name, speed and address, and the queries over them.
 
+use crate::texts::Texts;
 use compare::call::{Call, Engine, Station};
 use willetcoffer::page::triple;
 use willetcoffer::script::*;
@@ -23,17 +24,18 @@ const P: u8 = 4;
 const A: u8 = 5;
 
 /// The page of the locomotives whose number falls to this graph.
-fn page(locomotives: usize, graphs: usize, graph: usize) -> Result<Vec<u8>, BadTerm> {
-    let [name, speed, addr] = [Term::uri("p:name")?, Term::uri("p:speed")?, Term::uri("p:addr")?];
+fn page(workload: &Workload, locomotives: usize, graph: usize) -> Result<Vec<u8>, BadTerm> {
+    let Workload { graphs, texts, .. } = workload;
+    let [name, speed, addr] = properties(*texts)?;
     let mut bytes = Vec::new();
     for i in (0..locomotives).filter(|i| i % graphs == graph) {
-        let subject = Term::uri(&format!("http://club.example/loco/{i}"))?;
+        let subject = Term::uri(&texts.of(&format!("http://club.example/loco/{i}")))?;
         let step = (i * 7 % 80) as i64;
         let quick = match i % 2 {
             0 => Term::decimal((30 + step) * 1_000_000 + 500_000)?,
             _ => Term::integer(30 + step)?,
         };
-        let called = Term::tagged("en", &format!("Locomotive {i}"))?;
+        let called = Term::tagged("en", &texts.of(&format!("Locomotive {i}")))?;
         let lives = Term::integer(3 + (i * 13 % 80) as i64)?;
         let triples = [(name, called), (speed, quick), (addr, lives)];
         bytes.extend(triples.iter().filter_map(|(property, object)| triple(&subject, property, object)).flatten());
@@ -41,20 +43,24 @@ fn page(locomotives: usize, graphs: usize, graph: usize) -> Result<Vec<u8>, BadT
     Ok(bytes)
 }
 
-/// A station with this each block, its pages taken in over so many graphs.
-pub fn station(engine: &dyn Engine, script: Script, locomotives: usize, graphs: usize) -> Result<Station, BadTerm> {
-    let yard = |g| Term::uri(&format!("http://club.example/yard/{g}"));
+/// The properties of a name, a speed and an address.
+fn properties(texts: Texts) -> Result<[Term; 3], BadTerm> {
+    let property = |text| Term::uri(&texts.of(text));
+    Ok([property("p:name")?, property("p:speed")?, property("p:addr")?])
+}
+
+/// A station with a workload's each block, its pages of so many locomotives taken in over its graphs.
+pub fn station(engine: &dyn Engine, workload: &Workload, locomotives: usize) -> Result<Station, BadTerm> {
+    let Workload { script, graphs, texts, .. } = workload;
+    let yard = |g| Term::uri(&texts.of(&format!("http://club.example/yard/{g}")));
     let mut listed = (0..GRAPHS).map(yard).collect::<Result<Vec<Term>, BadTerm>>()?;
-    listed.extend([Term::integer(60)?, Term::integer(1000)?, Term::string("nobody")?]);
-    let schema = [
-        (Term::uri("p:speed")?, Datatype::Decimal),
-        (Term::uri("p:addr")?, Datatype::Integer),
-        (Term::uri("p:name")?, Datatype::String),
-    ];
-    let mut station = Station::new(Card::new(&listed, &schema, script), 0);
+    listed.extend([Term::integer(60)?, Term::integer(1000)?, Term::string(&texts.of("nobody"))?]);
+    let [name, speed, addr] = properties(*texts)?;
+    let schema = [(speed, Datatype::Decimal), (addr, Datatype::Integer), (name, Datatype::String)];
+    let mut station = Station::new(Card::new(&listed, &schema, script.clone()), 0);
     assert_eq!(station.call(engine, &Call::Load).code, 0);
-    for graph in 0..graphs {
-        let answer = station.call(engine, &Call::page(graph, page(locomotives, graphs, graph)?));
+    for graph in 0..*graphs {
+        let answer = station.call(engine, &Call::page(graph, page(workload, locomotives, graph)?));
         assert_eq!(answer.paged(), Some(PageReport { skipped: 0 }));
     }
     Ok(station)
@@ -86,14 +92,16 @@ pub struct Workload {
     pub script: Script,
     /// Graphs.
     pub graphs: usize,
-    /// Locomotives at most; a query in the worst order is given fewer.
+    /// Locomotives at most; a query in the worst order is given fewer, and so is one over a single graph, whose page holds no more.
     pub most: usize,
+    /// How long the texts are.
+    pub texts: Texts,
 }
 
 /// An each block that binds these variables in this order, over all graphs.
 fn search(name: &'static str, variables: &[u8], query: Query) -> Workload {
     let open: Vec<_> = variables.iter().map(|v| (*v, None)).collect();
-    Workload { name, script: each(&open, query, success()), graphs: GRAPHS, most: 168 }
+    Workload { name, script: each(&open, query, success()), graphs: GRAPHS, most: 168, texts: Texts::Short }
 }
 
 /// The searches that the benchmark is about.
@@ -105,7 +113,8 @@ pub fn workloads() -> Vec<Workload> {
         let name_speed = both(has(con(0), NAME, N), has(con(0), SPEED, V));
         both(both(name_speed, has(con(0), ADDR, A)), query)
     };
-    let one_graph = |workload: Workload| Workload { graphs: 1, ..workload };
+    let one_graph = |workload: Workload| Workload { graphs: 1, most: 84, ..workload };
+    let long = |workload: Workload| Workload { texts: Texts::Long, ..workload };
     vec![
         search("join g s n v, speed > 60", &[G, S, N, V], join(SIXTY)),
         search(
@@ -140,9 +149,8 @@ pub fn workloads() -> Vec<Workload> {
         search("subject and graph free v s g", &[V, S, G], has(g(), SPEED, V)),
         search("join in the worst order n v s g", &[N, V, S, G], join(SIXTY)),
         one_graph(search("star n v a, then s", &[N, V, A, S], star(empty()))),
-        one_graph(Workload {
-            most: 84,
-            ..search("star n v a, then s, no answer", &[N, V, A, S], star(filter(less(con(THOUSAND), var(V)))))
-        }),
+        one_graph(search("star n v a, then s, no answer", &[N, V, A, S], star(filter(less(con(THOUSAND), var(V)))))),
+        long(search("join g s n v, long texts", &[G, S, N, V], join(SIXTY))),
+        long(search("no answer, by filter, long texts", &[G, S, N, V], join(THOUSAND))),
     ]
 }

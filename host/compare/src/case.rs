@@ -1,5 +1,6 @@
 //! One case: its words and script, its load, its list of calls, all of it given to two engines.
 
+use crate::before;
 use crate::call::evaluator::Evaluator;
 use crate::call::{Answer, Call, Engine, Made, Station};
 use crate::count::{Coverage, Met};
@@ -7,6 +8,7 @@ use crate::draw::pool::Size;
 use crate::draw::Draw;
 use crate::judge::{judge, ranks, Breach, Difference, History, Once};
 use crate::replay::{describe, describe_asked, Move, Replay, Tampering};
+use second::check::Loaded;
 use std::time::Duration;
 use willetcoffer::{SavedRun, State};
 
@@ -23,10 +25,20 @@ pub struct Case<'a> {
     evaluator: Option<&'a mut Evaluator>,
     /// The ranks lent at the load.
     ranks: Vec<u8>,
+    /// What the load has read.
+    loaded: Option<Loaded>,
     /// Whether each call is made again by ranks turned round.
     turning: bool,
     /// The slowest call of each engine.
     pub slowest: [Duration; 2],
+}
+
+/// What a case goes on with where a call is to have left nothing.
+struct Kept {
+    station: Station,
+    last: Option<Answer>,
+    steps: u64,
+    stores: usize,
 }
 
 /// Each so-manieth case is made by ranks turned round too.
@@ -52,6 +64,7 @@ impl<'a> Case<'a> {
             engines,
             coverage,
             ranks: station.ranks.clone(),
+            loaded: None,
             turning: index.is_multiple_of(TURNING),
             station,
             history: History::default(),
@@ -92,6 +105,11 @@ impl<'a> Case<'a> {
         self.station.card.joined()
     }
 
+    /// The same in the widths of before, if the card can be read.
+    pub fn joined_before(&self) -> Option<Vec<u8>> {
+        before::joined(&self.station.card)
+    }
+
     /// Makes all calls; the first difference ends the case.
     pub fn run(&mut self) -> Result<(), Difference> {
         self.print()?;
@@ -108,6 +126,10 @@ impl<'a> Case<'a> {
         if !loads {
             return Ok(());
         }
+        if self.draw.rng.one_in(2) {
+            let call = if self.draw.rng.one_in(4) { Call::total() } else { Call::Load };
+            self.odd_call(call)?;
+        }
         for _ in 0..self.draw.rng.within(3, 10) {
             self.draw.other_ranks(&mut self.station);
             if self.draw.rng.one_in(4) {
@@ -119,6 +141,9 @@ impl<'a> Case<'a> {
                 let few = if self.draw.pool.size == Size::Full { 2 } else { 8 };
                 if self.draw.rng.one_in(few) {
                     self.spoiled_call(call.clone())?;
+                }
+                if self.draw.rng.one_in(4) {
+                    self.odd_call(call.clone())?;
                 }
                 self.call(&call, None)?;
             }
@@ -174,8 +199,12 @@ impl<'a> Case<'a> {
         }
         let (why, notes) = (self.engines[0].why(), self.engines[0].notes());
         let exact = self.history.once.is_some() && !self.history.tampered && tampering.is_none();
-        self.coverage.call(&Met { call, tamper: label, answer: &made.answers[0], why, exact, notes });
+        let looks = self.engines[0].looks();
+        self.coverage.call(&Met { call, answer: &made.answers[0], why, exact, notes, looks });
         self.coverage.ranks(&made, &self.ranks);
+        if let (Some(loaded), None, 0) = (&self.loaded, tampering, made.answers[0].code) {
+            self.coverage.lent_texts(&made, loaded);
+        }
         let judged = judge(&made, tampering.is_some(), &mut self.history);
         let turned = || if self.turning { ranks::turned(&made, self.engines) } else { Ok(()) };
         judged.and_then(|()| turned()).map_err(|difference| {
@@ -236,28 +265,60 @@ impl<'a> Case<'a> {
 
     /// Makes a call on a station that was tampered with, and goes on from there now and then.
     fn tampered_call(&mut self) -> Result<(), Difference> {
-        let kept = (self.station.clone(), self.last.clone(), self.history.steps);
-        let stores = self.history.stores.len();
+        let kept = self.kept_back();
         let (label, mut call) = self.draw.tampered_call(&mut self.station, self.last.as_ref());
         if self.draw.rng.one_in(10) {
             self.draw.spoiled(&mut self.station, &mut call);
         }
-        let tampering = match &self.watch {
-            Watch::Keep(_) => Tampering::between(label, &kept.0, &self.station),
-            _ => Tampering::named(label),
-        };
-        let answer = self.call(&call, Some(&tampering))?;
+        let answer = self.changed_call(label, &kept.station, &call)?;
+        self.coverage.tampered(label, answer.code);
         if answer.code == 0 && self.draw.rng.one_in(2) {
             self.history.tampered = true;
             self.draw.answered(&call);
         } else {
-            (self.station, self.last, self.history.steps) = kept;
-            self.history.stores.truncate(stores);
-            if let Watch::Keep(replay) = &mut self.watch {
-                replay.moves.pop();
-            }
+            self.put_back(kept);
         }
         Ok(())
+    }
+
+    /// Makes a call that is lent something odd, and goes on as if it had not been made.
+    fn odd_call(&mut self, mut call: Call) -> Result<(), Difference> {
+        let kept = self.kept_back();
+        if let Some(odd) = self.draw.odd(&mut self.station, &mut call) {
+            if call == Call::Load {
+                self.print()?;
+            }
+            let answer = self.changed_call(odd.label(), &kept.station, &call)?;
+            self.coverage.odd(odd, &call, answer.code);
+            self.put_back(kept);
+        } else {
+            self.station = kept.station;
+        }
+        Ok(())
+    }
+
+    /// Makes a call on a station that was changed since it was this one.
+    fn changed_call(&mut self, label: &'static str, before: &Station, call: &Call) -> Result<Answer, Difference> {
+        let tampering = match &self.watch {
+            Watch::Keep(_) => Tampering::between(label, before, &self.station),
+            _ => Tampering::named(label),
+        };
+        self.call(call, Some(&tampering))
+    }
+
+    /// What a call may change.
+    fn kept_back(&self) -> Kept {
+        let (station, last) = (self.station.clone(), self.last.clone());
+        Kept { station, last, steps: self.history.steps, stores: self.history.stores.len() }
+    }
+
+    /// Goes on as if the last call had not been made.
+    fn put_back(&mut self, kept: Kept) {
+        (self.station, self.last, self.history.steps) = (kept.station, kept.last, kept.steps);
+        self.history.stores.truncate(kept.stores);
+        if let Watch::Keep(replay) = &mut self.watch {
+            replay.moves.pop();
+        }
     }
 
     /// Counts and learns what an accepted script is.
@@ -272,5 +333,7 @@ impl<'a> Case<'a> {
         self.draw.loaded(&loaded);
         self.history.once = Once::of(&loaded.script);
         self.coverage.kinds(&loaded.script);
+        self.coverage.card_texts(card);
+        self.loaded = Some(loaded);
     }
 }

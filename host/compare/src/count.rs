@@ -2,13 +2,16 @@
 
 mod coverage;
 pub mod kinds;
+pub mod texts;
 
 pub use coverage::Coverage;
 
 use crate::call::{Answer, Call, Made};
 use crate::draw::is_block;
+use crate::draw::odd::Odd;
 use crate::draw::ranks::turn;
 use crate::judge::ranks::each_once;
+use second::edge::Look;
 use second::evaluator::Line;
 use second::note::Note;
 use second::script::Script;
@@ -21,8 +24,6 @@ use willetcoffer::{SavedRun, State};
 pub struct Met<'a> {
     /// The call.
     pub call: &'a Call,
-    /// The name of the change before it, if there was one.
-    pub tamper: &'a str,
     /// What it gave.
     pub answer: &'a Answer,
     /// Why it was refused.
@@ -31,6 +32,8 @@ pub struct Met<'a> {
     pub exact: bool,
     /// What it met on its way.
     pub notes: Vec<Note>,
+    /// What looked at texts at an edge, with the byte.
+    pub looks: Vec<(Look, usize)>,
 }
 
 /// What sort of ranks these are.
@@ -74,21 +77,16 @@ impl Coverage {
     }
 
     /// Counts a call.
-    pub fn call(&mut self, Met { call, tamper, answer, why, exact, notes }: &Met) {
+    pub fn call(&mut self, Met { call, answer, why, exact, notes, looks }: &Met) {
         self.add(call.name(), format!("{:02}", answer.code));
         for (section, key) in notes.iter().map(|note| note.name()) {
             self.add(section, key);
         }
+        for (look, byte) in looks {
+            self.add(look.name(), byte.to_string());
+        }
         if answer.code != 0 {
             self.add("reasons", format!("{} {} {why}", call.name(), answer.code));
-        }
-        if !tamper.is_empty() {
-            let verdict = match answer.code {
-                1 | 21 => "not looked at",
-                10 => "unsound",
-                _ => "sound",
-            };
-            self.add("tampered", format!("{tamper} {verdict}"));
         }
         if let Some(report) = answer.ran() {
             let name = match report.state {
@@ -107,6 +105,29 @@ impl Coverage {
                 self.add("page record", format!("{:x}", record[0]));
             }
             self.add("page", if report.skipped > 0 { "with skipped records" } else { "without skipped records" });
+        }
+    }
+
+    /// Counts what came of a change behind the engines' backs.
+    pub fn tampered(&mut self, label: &str, code: u32) {
+        let verdict = match code {
+            1 | 21 => "not looked at",
+            10 => "unsound",
+            _ => "sound",
+        };
+        self.add("tampered", format!("{label} {verdict}"));
+    }
+
+    /// Counts what came of a call that was lent something odd.
+    pub fn odd(&mut self, odd: Odd, call: &Call, code: u32) {
+        let verdict = match code {
+            0 => "taken",
+            2 | 4 | 10 | 13 => "refused",
+            _ => "not looked at",
+        };
+        match odd.edge() {
+            Some(edge) => self.add("byte changed", format!("{edge} of {} {verdict}", odd.label())),
+            None => self.add("odd", format!("{} in a {} {code:02}", odd.label(), call.name())),
         }
     }
 

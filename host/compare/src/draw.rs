@@ -3,12 +3,14 @@
 pub mod damage;
 pub mod first;
 pub mod next;
+pub mod odd;
 pub mod pages;
 pub mod pool;
 pub mod ranks;
 pub mod rng;
 pub mod scripts;
 pub mod tamper;
+pub mod texts;
 pub mod tuples;
 pub mod wild;
 

@@ -1,7 +1,9 @@
 //! Judging: what two engines owe each other on one call, and what either of them promises.
 
+mod old;
 pub mod ranks;
 mod stores;
+mod whole;
 
 pub use stores::Stores;
 
@@ -25,6 +27,10 @@ pub enum Breach {
     Lent,
     /// Something else than less on strings goes by the ranks.
     Turned,
+    /// A card or page of before was taken for something else.
+    Old,
+    /// A card's terms or a page's triples are not in the tables as they were given.
+    Whole,
     /// The machine met a fault.
     Fault,
     /// Refusal 10 of a station that nobody tampered with.
@@ -127,6 +133,7 @@ pub fn judge(made: &Made, tampered: bool, history: &mut History) -> Result<(), D
         return differs(Breach::Kept, format!("refused {} and changed a table", answer.code));
     }
     ranks::refused_first(made)?;
+    old::refused(made)?;
     if answer.code >= FAULT {
         return differs(Breach::Fault, format!("fault {}", answer.code - FAULT));
     }
@@ -139,6 +146,7 @@ pub fn judge(made: &Made, tampered: bool, history: &mut History) -> Result<(), D
     }
     // A total is not lent the tables.
     if answer.code == 0 && made.call.is_lent() {
+        whole::kept_whole(made)?;
         history.alike = history.stores.meet(made.call, station)?;
     }
     if let (Call::Run { budget, .. }, 0) = (made.call, answer.code) {

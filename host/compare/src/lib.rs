@@ -7,6 +7,7 @@
 //! | module | what it does |
 //! |---|---|
 //! | [`draw`] | draws words, scripts, pages, calls, damage and tuples |
+//! | [`records`], [`before`] | a card's records, told apart by their widths; records and tables of the widths of before |
 //! | [`call`] | stations, calls and engines: the proved one, the second, and the second by the definitions; type printer and evaluator as programs |
 //! | [`judge`] | what two engines owe each other on one call, and what either owes over the calls of a case |
 //! | [`count`] | what was met, and whether it was met often enough |
@@ -16,11 +17,13 @@
 #![forbid(unsafe_code)]
 #![warn(missing_docs)]
 
+pub mod before;
 pub mod call;
 pub mod case;
 pub mod count;
 pub mod draw;
 pub mod judge;
+pub mod records;
 pub mod replay;
 pub mod run;
 pub mod shrink;

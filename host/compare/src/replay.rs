@@ -40,6 +40,8 @@ pub struct Tampering {
     pub label: &'static str,
     /// Another card, where this was changed.
     pub card: Option<Card>,
+    /// Another length of the term table, where this was changed.
+    pub length: Option<usize>,
     /// Bytes changed in the lent buffers.
     pub changes: Vec<Change>,
 }
@@ -58,7 +60,7 @@ pub struct Change {
 impl Tampering {
     /// A change of which only the name is known.
     pub fn named(label: &'static str) -> Tampering {
-        Tampering { label, card: None, changes: Vec::new() }
+        Tampering { label, card: None, length: None, changes: Vec::new() }
     }
 
     /// What was changed between two states of a station.
@@ -73,13 +75,17 @@ impl Tampering {
                 }
             }
         }
-        Tampering { label, card, changes }
+        let length = after.term_table.len();
+        Tampering { label, card, length: (before.term_table.len() != length).then_some(length), changes }
     }
 
     /// Makes the change.
     fn apply(&self, station: &mut Station) {
         if let Some(card) = &self.card {
             station.card = card.clone();
+        }
+        if let Some(length) = self.length {
+            station.term_table.resize(length, 0);
         }
         let buffers = station.buffers_mut();
         for Change { buffer, at, bytes } in &self.changes {

@@ -1,5 +1,6 @@
 //! Case after case: differences printed, each with a smaller case that shows it too.
 
+use crate::before;
 use crate::call::evaluator::Evaluator;
 use crate::call::printer::Printer;
 use crate::call::Engine;
@@ -83,7 +84,9 @@ impl Compare<'_> {
             case = case.evaluating(&mut self.evaluator);
         }
         let printed = match &mut self.printer {
-            Some(printer) if plan.printed || index.is_multiple_of(printer.every) => printer.compare(&case.joined()),
+            Some(printer) if plan.printed || index.is_multiple_of(printer.every) => {
+                printer.compare(&case.joined(), case.joined_before().as_deref())
+            }
             _ => Ok(()),
         };
         (printed.and_then(|()| guarded(&mut case)), case.slowest)
@@ -131,7 +134,7 @@ impl Compare<'_> {
         let [a, b] = self.engines.map(|engine| engine.print(&input));
         match (a, b) {
             (Some(a), Some(b)) if a != b => Some(Difference::new(Breach::Printer, format!("{a:?} and {b:?}"))),
-            _ => self.printer.as_mut()?.compare(&input).err(),
+            _ => self.printer.as_mut()?.compare(&input, before::joined(&replay.station.card).as_deref()).err(),
         }
     }
 

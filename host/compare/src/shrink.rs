@@ -3,14 +3,13 @@
 pub mod tree;
 
 use crate::call::Call;
+use crate::records::{self, numbered};
 use crate::replay::{Asked, Move, Replay, Tampering};
 use std::collections::BTreeSet;
 use std::time::{Duration, Instant};
 use tree::Node;
-use willetcoffer::limits::{SLOT_WIDTH, TEXT_WIDTH};
-use willetcoffer::page::records;
+use willetcoffer::page;
 use willetcoffer::ranks::BUILT_IN;
-use willetcoffer::term::body_width;
 use willetcoffer::Card;
 
 /// How long a case is cut down.
@@ -179,7 +178,7 @@ impl Shrink<'_> {
                             break;
                         }
                     }
-                    let all: Vec<Vec<u8>> = records(&page).map(<[u8]>::to_vec).collect();
+                    let all: Vec<Vec<u8>> = page::records(&page).map(<[u8]>::to_vec).collect();
                     self.pieces(all, &|replay, rest: &[Vec<u8>]| {
                         if let Call::Page { page, .. } = &mut replay.moves[place].call {
                             *page = rest.concat();
@@ -196,11 +195,12 @@ impl Shrink<'_> {
             Call::Page { page, .. } => Some(page),
             _ => None,
         });
-        let all: BTreeSet<Vec<u8>> = pages.flat_map(|page| records(page)).map(<[u8]>::to_vec).collect();
+        let all: BTreeSet<Vec<u8>> = pages.flat_map(|page| page::records(page)).map(<[u8]>::to_vec).collect();
         self.pieces(all.into_iter().collect(), &|replay, rest: &[Vec<u8>]| {
             for m in &mut replay.moves {
                 if let Call::Page { page, .. } = &mut m.call {
-                    let kept: Vec<&[u8]> = records(page).filter(|record| rest.iter().any(|r| r == record)).collect();
+                    let kept: Vec<&[u8]> =
+                        page::records(page).filter(|record| rest.iter().any(|r| r == record)).collect();
                     *page = kept.concat();
                 }
             }
@@ -213,13 +213,11 @@ impl Shrink<'_> {
             if self.attempt(|replay| replay.moves[place].tampering = None) {
                 continue;
             }
-            let Some(Tampering { card, changes, .. }) = self.best.moves[place].tampering.clone() else { continue };
-            if card.is_some() {
-                self.attempt(|replay| {
-                    if let Some(tampering) = &mut replay.moves[place].tampering {
-                        tampering.card = None;
-                    }
-                });
+            let Some(Tampering { changes, .. }) = self.best.moves[place].tampering.clone() else { continue };
+            let changes_alone: [fn(&mut Tampering); 2] =
+                [|tampering| tampering.card = None, |tampering| tampering.length = None];
+            for change in changes_alone {
+                self.attempt(|replay| replay.moves[place].tampering.as_mut().into_iter().for_each(change));
             }
             self.pieces(changes, &|replay, rest| {
                 if let Some(tampering) = &mut replay.moves[place].tampering {
@@ -244,10 +242,10 @@ impl Shrink<'_> {
                 }
             }),
         }
-        self.pieces(split(&card.terms, &term_width), &|replay, rest: &[Vec<u8>]| {
+        self.pieces(records::terms(&card.terms), &|replay, rest: &[Vec<u8>]| {
             with_card(replay, place, |card| card.terms = rest.concat());
         });
-        self.pieces(split(&card.schema, &|_| Some(ENTRY)), &|replay, rest: &[Vec<u8>]| {
+        self.pieces(records::entries(&card.schema), &|replay, rest: &[Vec<u8>]| {
             with_card(replay, place, |card| card.schema = rest.concat());
         });
     }
@@ -291,43 +289,6 @@ fn with_asked(replay: &mut Replay, change: impl FnOnce(&mut Asked)) {
     if let Some(asked) = &mut replay.asked {
         change(asked);
     }
-}
-
-/// The bytes of a schema record.
-const ENTRY: usize = 1 + TEXT_WIDTH + 1;
-
-/// The bytes of a term record.
-fn term_width(kind: u8) -> Option<usize> {
-    body_width(kind).map(|body| 1 + body)
-}
-
-/// Records of the widths that their kinds fix; the rest in one piece.
-fn split(bytes: &[u8], width: &dyn Fn(u8) -> Option<usize>) -> Vec<Vec<u8>> {
-    let mut all = Vec::new();
-    let mut rest = bytes;
-    while let Some(kind) = rest.first() {
-        let (record, after) = rest.split_at(width(*kind).unwrap_or(rest.len()).min(rest.len()));
-        all.push(record.to_vec());
-        rest = after;
-    }
-    all
-}
-
-/// The terms' slots as loading numbers them: those listed, then the schema's URIs that are not among them.
-fn numbered(card: &Card) -> Vec<Vec<u8>> {
-    let slot = |record: &[u8]| {
-        let mut slot = record.to_vec();
-        slot.resize(SLOT_WIDTH, 0);
-        slot
-    };
-    let mut all: Vec<Vec<u8>> = split(&card.terms, &term_width).iter().map(|record| slot(record)).collect();
-    for entry in split(&card.schema, &|_| Some(ENTRY)).iter().filter(|entry| entry.len() == ENTRY) {
-        let uri = slot(&[&[0x11], &entry[1..ENTRY - 1]].concat());
-        if !all.contains(&uri) {
-            all.push(uri);
-        }
-    }
-    all
 }
 
 /// Changes terms or schema of a card; where that gives terms other numbers, constants, page calls and tuples follow.

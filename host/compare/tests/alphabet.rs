@@ -18,7 +18,7 @@ use std::cell::RefCell;
 use willetcoffer::limits::{RANKS_WIDTH, RUN_REPORT_WIDTH};
 use willetcoffer::ranks::BUILT_IN;
 use willetcoffer::Card;
-use wrong::{Turn, Wrong};
+use wrong::{How, Other, Turn, Wrong};
 
 mod wrong;
 
@@ -27,8 +27,6 @@ const CASES: u64 = 2000;
 
 type Less = fn(&Ranks, &Str, &Str) -> bool;
 type Stands = fn(&Ranks) -> bool;
-/// How a call is made.
-type Made = fn(&mut Station, &Call, &mut [u8]) -> u32;
 
 /// The first breach.
 fn breach(engines: [&dyn Engine; 2]) -> Option<Breach> {
@@ -132,20 +130,9 @@ fn bad_lists_that_are_taken_are_found() {
 fn good_lists_that_are_refused_are_found() {
     for stands in [|ranks: &Ranks| *ranks == BUILT_IN, |ranks: &Ranks| ranks[0] != 94 && each_once(ranks)] {
         let alphabet = Alphabet { stands, ..rank::FAST };
-        assert_eq!((found(alphabet), found_alike(alphabet)), (Some(Breach::Answers), Some(Breach::Lent)));
-    }
-}
-
-/// An engine that does something else with a call and goes on by the second engine.
-struct Other(Made);
-
-impl Engine for Other {
-    fn name(&self) -> &'static str {
-        "wrong"
-    }
-
-    fn call(&self, station: &mut Station, call: &Call, report: &mut [u8]) -> u32 {
-        (self.0)(station, call, report)
+        // Lent good ranks at first, or at first where the call is made again by ranks turned round.
+        assert!(matches!(found(alphabet), Some(Breach::Answers | Breach::Turned)));
+        assert!(matches!(found_alike(alphabet), Some(Breach::Lent | Breach::Turned)));
     }
 }
 
@@ -165,7 +152,7 @@ fn is_spoiled(station: &Station, call: &Call) -> bool {
 /// 21 stands straight after 1.
 #[test]
 fn another_place_is_found() {
-    let places: [(&str, Made); 6] = [
+    let places: [(&str, How); 6] = [
         ("21 before 1", |station, call, report| match is_spoiled(station, call) {
             true => 21,
             false => fast().call(station, call, report),
@@ -225,7 +212,7 @@ fn another_place_is_found() {
 /// Calls that do not look at what they are lent.
 #[test]
 fn calls_that_do_not_look_are_found() {
-    let careless: [Made; 3] = [
+    let careless: [How; 3] = [
         |station, call, report| match call {
             Call::Load if is_spoiled(station, call) => with_good_ranks(station, call, report),
             _ => fast().call(station, call, report),
@@ -308,7 +295,9 @@ fn what_else_goes_by_ranks_is_found() {
     ];
     for (place, turn) in turns.into_iter().enumerate() {
         assert!(breach([&fast(), &Wrong(turn)]).is_some(), "{place}");
-        assert_eq!(breach([&Wrong(turn), &Wrong(turn)]), Some(Breach::Turned), "{place}");
+        // A record skipped too many is found by the law about what is taken in, too.
+        let alike = breach([&Wrong(turn), &Wrong(turn)]);
+        assert!(matches!(alike, Some(Breach::Turned | Breach::Whole)), "{place}: {alike:?}");
     }
     // A run that gives up where ranks are turned round, though nothing asks for an order.
     let lazy = Other(|station, call, report| {

@@ -103,7 +103,8 @@ fn what_keeps_equal_quads_is_found() {
         quads.sort_unstable();
     }
     assert_eq!(found(Order { put: kept, ..order::FAST }), Some(Breach::Tables));
-    assert_eq!(found_alike(Order { put: kept, stands: |quads| quads.is_sorted() }), Some(Breach::Stores));
+    // The graph's quads are the page's triples, each once.
+    assert_eq!(found_alike(Order { put: kept, stands: |quads| quads.is_sorted() }), Some(Breach::Whole));
 }
 
 /// There is one order, and another one: only the comparison tells.
@@ -200,10 +201,10 @@ fn the_law() {
     }
     // A byte that is none of its quads or terms.
     let mut stray = station(&[a, b]);
-    stray.quad_table[4095] = 1;
+    *stray.quad_table.last_mut().expect("a table") = 1;
     assert_eq!(meet(&page(1), &stray), Err(Breach::Stores));
     let mut stray = station(&[a, b]);
-    stray.term_table[25_087] = 1;
+    *stray.term_table.last_mut().expect("a table") = 1;
     assert_eq!(meet(&page(1), &stray), Err(Breach::Stores));
     // With other terms the law says nothing of the order.
     let mut more = station(&[b, a]);

@@ -1,6 +1,8 @@
 //! The untyped evaluation of a query for one tuple: whether it holds, or one of the eight faults. All parts are evaluated.
 
+use crate::edge::{self, Look};
 use crate::note::{note, Note};
+use crate::pattern::Pattern;
 use crate::rank::Lent;
 use crate::script::{Cond, Expr, Name, Query};
 use crate::term::trim;
@@ -68,6 +70,15 @@ pub(crate) fn noted(truth: Truth, above: Note) -> Truth {
     truth
 }
 
+/// Whether a pattern accepts a text; where its last byte decides that, it is noted.
+fn accepts(pattern: &Pattern, text: &[u8]) -> bool {
+    let accepts = pattern.accepts(text);
+    if edge::EDGES.contains(&text.len()) && pattern.accepts(&text[..text.len() - 1]) != accepts {
+        edge::look(Look::Pattern, text.len());
+    }
+    accepts
+}
+
 impl Store<'_> {
     /// The value of an expression.
     pub fn expr(&self, expr: &Expr, bindings: &Bindings) -> Result<Value, Fault> {
@@ -104,7 +115,7 @@ impl Store<'_> {
             Cond::And(a, b) => Ok(part(a, Note::And)?.and(part(b, Note::And)?)),
             Cond::Not(a) => Ok(part(a, Note::Not)?.not()),
             Cond::Regex(pattern, e) => match self.expr(e, bindings)? {
-                Value::Str(string) => Ok(string.map(|(_, text)| pattern.accepts(trim(&text))).into()),
+                Value::Str(string) => Ok(string.map(|(_, text)| accepts(pattern, trim(&text))).into()),
                 _ => Err(Fault::NoString),
             },
             Cond::LangMatches(range, e) => match self.expr(e, bindings)? {

@@ -29,6 +29,7 @@ pub mod calls;
 pub mod check;
 pub mod count;
 pub mod early;
+pub mod edge;
 pub mod eval;
 pub mod evaluator;
 pub mod hash;

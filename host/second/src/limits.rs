@@ -1,15 +1,17 @@
-//! The limits and widths of document 01, each named once.
+//! The limits and widths of document 01, as document 02's Ask 6 has them, each named once.
 
 /// Bytes of URI text and of string text in a record.
-pub const TEXT: usize = 40;
+pub const TEXT: usize = 96;
 /// Bytes of a language tag and of a language range.
 pub const TAG: usize = 8;
 /// Bytes from 20 to 7E, each with a rank.
 pub const RANKS: usize = 95;
 /// Bytes of a pattern.
 pub const PATTERN: usize = 16;
-/// Bytes of a term slot: the longest term record.
-pub const SLOT: usize = 49;
+/// Bytes of a term slot: the longest term record, a string's.
+pub const SLOT: usize = 1 + TAG + TEXT;
+/// Bytes of a schema record: kind, URI and datatype.
+pub const ENTRY: usize = 1 + TEXT + 1;
 /// Terms in use, at most.
 pub const TERMS: usize = 512;
 /// Stored quads, at most.
@@ -46,10 +48,11 @@ pub const TOTAL_REPORT: usize = 4;
 pub const BUDGET: u64 = 60_000;
 /// Bytes of a page, at most.
 pub const PAGE: usize = 65_536;
-/// Bytes of the type printer's input, at most.
-pub const PRINTER: usize = 32_512;
-/// Bytes of the input of the evaluator of tuples, at most: ranks, terms, schema and script that are full, and 64 tuples.
-pub const EVALUATOR: usize = 62_803;
+/// Bytes of the type printer's input, at most: terms, schema and script that are full.
+pub const PRINTER: usize = TERMS * SLOT + ENTRIES * ENTRY + SCRIPT;
+/// Bytes of the input of the evaluator of tuples, at most: ranks, three lengths of 2, terms, schema and script that are full, both
+/// tables, the saved run, now of 8, and 64 tuples.
+pub const EVALUATOR: usize = RANKS + 3 * 2 + PRINTER + TERM_TABLE + QUAD_TABLE + SAVED + 8 + 64 * TUPLE;
 /// Largest amount of an integer.
 pub const INTEGER: i64 = 1_000_000_000_000;
 /// Millionths in one.

@@ -1,9 +1,8 @@
 //! The type printer: terms, schema and script joined, to text.
 
 use crate::check::{check, Typer};
-use crate::limits::PRINTER;
+use crate::limits::{ENTRY, PRINTER};
 use crate::refusal::{demand, Refusal};
-use crate::schema;
 use crate::term::Term;
 
 /// Takes records off the front while their kind fixes a length. A record cut off by the end belongs to this part.
@@ -19,7 +18,7 @@ fn split(input: &[u8], length: impl Fn(u8) -> Option<usize>) -> (&[u8], &[u8]) {
 /// is not 21.
 pub fn parts(input: &[u8]) -> [&[u8]; 3] {
     let (terms, rest) = split(input, |kind| Term::body_length(kind).map(|body| body + 1));
-    let (schema, script) = split(rest, |kind| (kind == 0x21).then_some(schema::RECORD));
+    let (schema, script) = split(rest, |kind| (kind == 0x21).then_some(ENTRY));
     [terms, schema, script]
 }
 

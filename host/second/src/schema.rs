@@ -1,13 +1,10 @@
 //! Schema records.
 
 use crate::hash::Map;
-use crate::limits::TEXT;
+use crate::limits::{ENTRY, TEXT};
 use crate::refusal::{demand, refuse, Refusal};
 use crate::term::{uri_body, Uri};
 use crate::types::Datatype;
-
-/// Bytes of a schema record.
-pub const RECORD: usize = 2 + TEXT;
 
 /// The schema: which URIs are properties, and the datatype of each one's objects.
 #[derive(Clone, Debug, Default)]
@@ -22,8 +19,8 @@ impl Schema {
     /// Reads all schema records (refusal 4), then looks for a property given twice (refusal 5).
     pub fn read(bytes: &[u8]) -> Result<Schema, Refusal> {
         let mut entries = Vec::new();
-        for record in bytes.chunks(RECORD) {
-            demand(record.len() == RECORD && record[0] == 0x21, 4, "schema record: kind or length")?;
+        for record in bytes.chunks(ENTRY) {
+            demand(record.len() == ENTRY && record[0] == 0x21, 4, "schema record: kind or length")?;
             match (uri_body(&record[1..=TEXT]), Datatype::from_code(record[1 + TEXT])) {
                 (Some(uri), Some(datatype)) => entries.push((uri, datatype)),
                 (None, _) => return refuse(4, "schema record: URI"),

@@ -37,7 +37,7 @@ pub fn trim(bytes: &[u8]) -> &[u8] {
     &bytes[..bytes.iter().position(|b| *b == 0).unwrap_or(bytes.len())]
 }
 
-/// Whether the 40 bytes are a URI body.
+/// The URI of a body of [`TEXT`] bytes, if it is one.
 pub fn uri_body(body: &[u8]) -> Option<Uri> {
     let length = filled(body, |b| (0x21..=0x7e).contains(&b))?;
     (length > 0).then(|| body.try_into().ok()).flatten()

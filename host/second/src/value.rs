@@ -1,6 +1,7 @@
 //! Values of expressions, with "no value" in their kinds.
 
 use crate::calendar::date_time;
+use crate::edge::{self, Look};
 use crate::limits::{DECIMAL, INTEGER, MILLION, TAG, TEXT};
 use crate::rank::{Lent, Str};
 use crate::term::{fill, Term, Uri};
@@ -82,8 +83,11 @@ impl Value {
     /// Its text as a string without a tag.
     pub fn str(&self) -> Value {
         let text: Option<[u8; TEXT]> = match self {
-            Value::Uri(text) => Some(*text),
-            Value::Str(string) => string.map(|(_, text)| text),
+            Value::Uri(text) => {
+                edge::length(Look::StrOfUri, text);
+                Some(*text)
+            }
+            Value::Str(string) => string.map(|(_, text)| text).inspect(|text| edge::length(Look::StrOfString, text)),
             Value::Int(n) => n.map(|n| fill(n.to_string().as_bytes())),
             Value::Dec(n) => n.map(|n| fill(decimal_text(n).as_bytes())),
             Value::Time(n) => Some(fill(date_time(*n).as_bytes())),
@@ -95,8 +99,14 @@ impl Value {
     /// tag and text, whatever their order.
     pub fn equal(&self, other: &Value) -> Option<Option<bool>> {
         match (self, other) {
-            (Value::Uri(a), Value::Uri(b)) => Some(Some(a == b)),
-            (Value::Str(a), Value::Str(b)) => Some(a.zip(*b).map(|(a, b)| a == b)),
+            (Value::Uri(a), Value::Uri(b)) => {
+                edge::difference(Look::EqualOnUris, a, b);
+                Some(Some(a == b))
+            }
+            (Value::Str(a), Value::Str(b)) => Some(a.zip(*b).map(|(a, b)| {
+                edge::difference(Look::EqualOnStrings, &a.1, &b.1);
+                a == b
+            })),
             (Value::Time(a), Value::Time(b)) => Some(Some(a == b)),
             _ => self.amounts(other, |a, b| a == b),
         }
@@ -105,8 +115,14 @@ impl Value {
     /// Whether a value is less than another, none as in [`Value::equal`]. Strings go by the ranks that are lent, and nothing else does.
     pub fn less(&self, other: &Value, lent: &Lent) -> Option<Option<bool>> {
         match (self, other) {
-            (Value::Uri(a), Value::Uri(b)) => Some(Some(a < b)),
-            (Value::Str(a), Value::Str(b)) => Some(a.zip(*b).map(|(a, b)| lent.less(&a, &b))),
+            (Value::Uri(a), Value::Uri(b)) => {
+                edge::difference(Look::LessOnUris, a, b);
+                Some(Some(a < b))
+            }
+            (Value::Str(a), Value::Str(b)) => Some(a.zip(*b).map(|(a, b)| {
+                edge::difference(Look::LessOnStrings, &a.1, &b.1);
+                lent.less(&a, &b)
+            })),
             (Value::Time(a), Value::Time(b)) => Some(Some(a < b)),
             _ => self.amounts(other, |a, b| a < b),
         }

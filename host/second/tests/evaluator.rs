@@ -7,7 +7,9 @@ use second::limits::{DEPTH, EVALUATOR, FIRST_SECOND, LAST_SECOND, RANKS, TUPLE};
 use second::term::{fill, Term};
 use second::write::*;
 use std::io::Write;
+use std::path::Path;
 use std::process::{Command, Stdio};
+use std::{env, fs};
 
 /// Terms: 0 g:stock, 1 is 60; then p:speed 2, p:addr 3, p:name 4; from the page l:a 5, 70 6, l:b 7, 50 8.
 ///
@@ -191,4 +193,21 @@ fn the_program() {
         let output = child.wait_with_output().unwrap();
         assert_eq!(String::from_utf8(output.stdout).unwrap(), evaluate(&input));
     }
+}
+
+/// The input and the output that `rt check evaluate` tries its program with are these. With `SECOND_UPDATE` in the environment the input is
+/// written anew.
+#[test]
+fn the_input_of_the_proved_program() {
+    let folder = Path::new(env!("CARGO_MANIFEST_DIR")).join("../../crates/evaluate");
+    // The first two hold or not by the speed; no term 9, no such quad, no term 600.
+    let tuples = [[5, 6, 0, 0], [7, 8, 0, 0], [5, 9, 0, 0], [0, 6, 0, 0], [600, 6, 0, 0]];
+    let input = input(&at_block(true), 0, &tuples);
+    if env::var_os("SECOND_UPDATE").is_some() {
+        fs::write(folder.join("stdin"), &input).expect("a file");
+    }
+    assert!(fs::read(folder.join("stdin")).expect("an input") == input, "SECOND_UPDATE=1 writes it anew");
+    let lines = "true 5\nfalse 6\nbad\nfalse 2\nbad\n";
+    assert_eq!(fs::read_to_string(folder.join("stdout")).expect("an output"), lines);
+    assert_eq!(evaluate(&input), lines);
 }

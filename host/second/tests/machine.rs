@@ -2,6 +2,7 @@
 
 mod common;
 use common::{stock, Station};
+use second::limits::SLOT;
 use second::term::{fill, Term};
 use second::write::*;
 
@@ -43,7 +44,7 @@ fn fast_stock(each: bool, then: Bytes) -> Bytes {
 fn a_load_leaves_the_root_alone() {
     let s = station(fast_stock(true, success()));
     assert_eq!(s.terms_in_use()[2..], [uri("p:speed"), uri("p:addr"), uri("p:name")]);
-    assert!(s.term_table[5 * 49..].iter().all(|b| *b == 0) && s.quad_table.iter().all(|b| *b == 0));
+    assert!(s.term_table[5 * SLOT..].iter().all(|b| *b == 0) && s.quad_table.iter().all(|b| *b == 0));
     let mut saved = vec![0; 486];
     saved[0] = 1;
     saved[6..9].copy_from_slice(&[1, 3, 2]);

@@ -6,6 +6,7 @@ use second::limits::*;
 use second::term::{fill, Term};
 use second::types::Datatype;
 use second::write::*;
+use std::ops::Range;
 
 fn load(terms: Vec<u8>, schema: Vec<u8>, script: Vec<u8>) -> u32 {
     Station::new(terms, schema, script).load()
@@ -59,12 +60,12 @@ fn row_2_bad_term() {
         assert!(!good(&number(kind, low - 1)) && !good(&number(kind, high + 1)));
     }
     let text = |kind: u8, body: &[u8]| [&[kind], body].concat();
-    assert!(good(&text(0x11, &[0x21; 40])) && good(&text(0x11, &fill::<40>(b"~"))));
-    assert!(!good(&text(0x11, &[0; 40])), "a URI is not empty");
-    assert!(!good(&text(0x11, &fill::<40>(b"a b"))), "no blank in a URI");
-    assert!(!good(&text(0x11, &fill::<40>(b"a\x7f"))) && !good(&text(0x11, &fill::<40>(b"a\0b"))));
-    assert!(!good(&text(0x11, &[0x21; 39])), "cut off");
-    let string = |tag: &[u8], text: &[u8]| [&[0x12], &fill::<8>(tag)[..], &fill::<40>(text)].concat();
+    assert!(good(&text(0x11, &[0x21; TEXT])) && good(&text(0x11, &fill::<TEXT>(b"~"))));
+    assert!(!good(&text(0x11, &[0; TEXT])), "a URI is not empty");
+    assert!(!good(&text(0x11, &fill::<TEXT>(b"a b"))), "no blank in a URI");
+    assert!(!good(&text(0x11, &fill::<TEXT>(b"a\x7f"))) && !good(&text(0x11, &fill::<TEXT>(b"a\0b"))));
+    assert!(!good(&text(0x11, &[0x21; TEXT - 1])), "cut off");
+    let string = |tag: &[u8], text: &[u8]| [&[0x12], &fill::<TAG>(tag)[..], &fill::<TEXT>(text)].concat();
     assert!(good(&string(b"", b"")) && good(&string(b"-en-gb-x", b" ~")));
     assert!(!good(&string(b"En", b"")) && !good(&string(b"e1", b"")) && !good(&string(b"e\0n", b"")));
     assert!(!good(&string(b"", b"\x1f")) && !good(&string(b"", b"a\0b")));
@@ -85,14 +86,14 @@ fn row_3_term_twice() {
 
 #[test]
 fn rows_4_and_5_schema() {
-    let entry = |datatype: u8| [&[0x21], &fill::<40>(b"p:name")[..], &[datatype]].concat();
+    let entry = |datatype: u8| [&[0x21], &fill::<TEXT>(b"p:name")[..], &[datatype]].concat();
     assert_eq!(load(vec![], entry(6), vec![0x71]), 4);
     assert_eq!(load(vec![], entry(0), vec![0x71]), 4);
     assert_eq!(load(vec![], entry(5), vec![0x71]), 0);
     assert_eq!(load(vec![], [entry(2), entry(2)].concat(), vec![0x71]), 5);
     assert_eq!(load(vec![], [entry(2), entry(3)].concat(), vec![]), 5);
     assert_eq!(load(vec![], [entry(2), entry(2), entry(6)].concat(), vec![]), 4);
-    assert_eq!(load(vec![], [&[0x21], &[0; 40][..], &[2]].concat(), vec![0x71]), 4);
+    assert_eq!(load(vec![], [&[0x21], &[0; TEXT][..], &[2]].concat(), vec![0x71]), 4);
     let many: Vec<String> = (0..129).map(|i| format!("p:{i}")).collect();
     let many: Vec<(&str, Datatype)> = many.iter().map(|p| (p.as_str(), Datatype::String)).collect();
     assert_eq!(load(vec![], schema(&many[..128]), vec![0x71]), 0);
@@ -219,26 +220,29 @@ fn rows_12_and_13_page() {
     // A record that would be skipped must be good in form too.
     let mut skipped = triple(&fill(b"u:a"), &fill(b"p:none"), &Term::Int(1));
     assert_eq!(s.page(1, &skipped), Ok(1));
-    skipped[88] = 0x7f;
+    *skipped.last_mut().unwrap() = 0x7f;
     assert_eq!(s.page(1, &skipped), Err(13));
-    // 65,536 bytes are allowed, as records of 121, 129 and 89 bytes.
-    let (a, b, c) = (0..600)
-        .flat_map(|a| (0..500).map(move |b| (a, b)))
-        .filter(|(a, b)| 121 * a + 129 * b <= 65_536 && (65_536 - 121 * a - 129 * b) % 89 == 0)
-        .map(|(a, b)| (a, b, (65_536 - 121 * a - 129 * b) / 89))
-        .next()
-        .unwrap();
-    let full = [
-        triple(&fill(b"u:a"), &fill(b"p:none"), &uri("u:b")).repeat(a),
-        triple(&fill(b"u:a"), &fill(b"p:none"), &string("")).repeat(b),
-        triple(&fill(b"u:a"), &fill(b"p:none"), &Term::Int(1)).repeat(c),
-    ]
-    .concat();
-    assert_eq!(full.len(), PAGE);
-    assert_eq!(s.page(1, &full), Ok((a + b + c) as u32));
-    let mut over = name_of("u:a", "").repeat(600);
+    let full = full_page();
+    assert_eq!(s.page(1, &full.concat()), Ok(full.len() as u32));
+    let mut over = name_of("u:a", "").repeat(full.len());
     over.truncate(PAGE + 1);
-    assert_eq!(s.page(1, &over), Err(13));
+    assert_eq!((over.len(), s.page(1, &over)), (PAGE + 1, Err(13)));
+}
+
+/// Records that would be skipped, with a URI, a string and an integer, as many of each as make a page of 65,536 bytes.
+fn full_page() -> Vec<Bytes> {
+    let record = |object: Term| triple(&fill(b"u:a"), &fill(b"p:none"), &object);
+    let records = [uri("u:b"), string(""), Term::Int(1)].map(record);
+    let [a, b, c] = records.each_ref().map(Vec::len);
+    assert_eq!([a, b, c], [289, 297, 201]);
+    let mut counts = (0..=PAGE / a).flat_map(|uris| (0..=(PAGE - uris * a) / b).map(move |strings| (uris, strings)));
+    let left = |uris: usize, strings: usize| PAGE - uris * a - strings * b;
+    let (uris, strings) = counts.find(|(uris, strings)| left(*uris, *strings).is_multiple_of(c)).unwrap();
+    let integers = left(uris, strings) / c;
+    let counted = records.into_iter().zip([uris, strings, integers]);
+    let full: Vec<Bytes> = counted.flat_map(|(record, count)| vec![record; count]).collect();
+    assert_eq!(full.concat().len(), PAGE);
+    full
 }
 
 #[test]
@@ -251,21 +255,21 @@ fn row_14_limits() {
     }
     assert_eq!(s.page(64, &[]), Err(14));
     assert_eq!(s.page(63, &[]), Ok(0));
-    // 68 terms so far. 444 new ones fit, 445 do not; skipped records add none.
-    let page = |n: usize| (0..n).map(|i| name_of("g:0", &format!("name {i}"))).collect::<Vec<_>>().concat();
-    assert_eq!(s.page(0, &page(445)), Err(14));
-    assert_eq!(s.terms_in_use().len(), 68);
+    // 68 terms so far. 444 new ones fit, 445 do not; skipped records add none. A page holds 220 names.
+    let page = |names: Range<usize>| names.map(|i| name_of("g:0", &format!("name {i}"))).collect::<Vec<_>>().concat();
+    assert_eq!((s.page(0, &page(0..220)), s.page(1, &page(220..440))), (Ok(0), Ok(0)));
+    assert_eq!(s.page(2, &page(440..445)), Err(14));
+    assert_eq!(s.terms_in_use().len(), 508);
     let skipped = triple(&fill(b"u:new"), &fill(b"p:name"), &Term::Int(77));
-    assert_eq!(s.page(0, &[page(444), skipped].concat()), Ok(1));
+    assert_eq!(s.page(2, &[page(440..444), skipped].concat()), Ok(1));
     assert_eq!(s.terms_in_use().len(), 512);
     // 68 quads fit beside these 444; room set free is used again.
-    let known = |n: usize| (0..n).map(|i| name_of("g:1", &format!("name {i}"))).collect::<Vec<_>>().concat();
-    assert_eq!(s.page(1, &known(69)), Err(14));
-    assert_eq!(s.page(1, &known(68)), Ok(0));
+    assert_eq!(s.page(3, &page(0..69)), Err(14));
+    assert_eq!(s.page(3, &page(0..68)), Ok(0));
     assert_eq!(s.quads().len(), 512);
-    assert_eq!(s.page(2, &known(1)), Err(14));
-    assert_eq!(s.page(1, &known(67)), Ok(0));
-    assert_eq!(s.page(2, &known(1)), Ok(0));
+    assert_eq!(s.page(4, &page(0..1)), Err(14));
+    assert_eq!(s.page(3, &page(0..67)), Ok(0));
+    assert_eq!(s.page(4, &page(0..1)), Ok(0));
     // 13 comes before 14.
     assert_eq!(s.page(64, &[0x81]), Err(13));
 }

@@ -2,6 +2,7 @@
 
 mod common;
 use common::{stock, types};
+use second::limits::TEXT;
 use second::term::Term;
 use second::types::{Datatype, Type};
 use second::value::Value;
@@ -100,8 +101,9 @@ fn printer_refusals() {
     // A kind outside 11 to 15 ends the terms and one other than 21 the schema: both are script here.
     assert_eq!(refused(&[0x16]), "refused 6\n");
     assert_eq!(refused(&[&schema(&[("p", Datatype::String)])[..], &[0x13]].concat()), "refused 6\n");
-    // Over 32,512 bytes is 6 before anything else, also before a bad first term.
-    let bad_term = [&[0x11; 41][..], &vec![0; 32_512 - 41]].concat();
+    // Over 68,352 bytes is 6 before anything else, also before a bad first term.
+    let mut bad_term = vec![0; 68_352];
+    bad_term[..=TEXT].fill(0x11);
     assert_eq!(refused(&bad_term), "refused 2\n");
     assert_eq!(refused(&[bad_term, vec![0]].concat()), "refused 6\n");
 }

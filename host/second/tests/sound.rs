@@ -2,6 +2,7 @@
 
 mod common;
 use common::{stock, Station};
+use second::limits::{SLOT, TERM_TABLE, TEXT};
 use second::term::{fill, Term};
 use second::write::*;
 
@@ -61,7 +62,7 @@ fn these_load() {
     unsound(|s| s.schema.truncate(5));
     unsound(|s| s.script.clear());
     unsound(|s| {
-        let again = s.terms[..41].to_vec();
+        let again = s.terms[..=TEXT].to_vec();
         s.terms.extend(again);
     });
     // Another script that works out to the same types and fits tables and stack is sound.
@@ -83,18 +84,18 @@ fn reported_types() {
 
 #[test]
 fn term_slots() {
-    unsound(|s| s.term_table[49 * 6] = 0x16);
-    unsound(|s| s.term_table[49 * 6 + 48] = 1);
-    unsound(|s| s.term_table.copy_within(49 * 6..49 * 7, 49 * 8));
-    unsound(|s| s.term_table.copy_within(0..49, 49 * 10));
-    unsound(|s| s.term_table[49 + 1] = b'h');
-    unsound(|s| s.term_table[49 * 10 + 48] = 1);
-    unsound(|s| s.term_table[49 * 512 - 1] = 1);
-    unsound(|s| s.term_table[49 * 5..].fill(0));
+    unsound(|s| s.term_table[SLOT * 6] = 0x16);
+    unsound(|s| s.term_table[SLOT * 7 - 1] = 1);
+    unsound(|s| s.term_table.copy_within(SLOT * 6..SLOT * 7, SLOT * 8));
+    unsound(|s| s.term_table.copy_within(0..SLOT, SLOT * 10));
+    unsound(|s| s.term_table[SLOT + 1] = b'h');
+    unsound(|s| s.term_table[SLOT * 11 - 1] = 1);
+    unsound(|s| s.term_table[TERM_TABLE - 1] = 1);
+    unsound(|s| s.term_table[SLOT * 5..].fill(0));
     // A gap: slot 9 empty, slot 10 used.
-    unsound(|s| s.term_table.copy_within(49 * 9..49 * 10, 49 * 10 + 49));
+    unsound(|s| s.term_table.copy_within(SLOT * 9..SLOT * 10, SLOT * 11));
     // A further term, which no quad names.
-    assert_eq!(sound(|s| s.term_table[490..539].copy_from_slice(&Term::Int(8).slot())), (0, 1, 6));
+    assert_eq!(sound(|s| s.term_table[SLOT * 10..SLOT * 11].copy_from_slice(&Term::Int(8).slot())), (0, 1, 6));
 }
 
 #[test]

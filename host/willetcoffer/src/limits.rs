@@ -3,7 +3,7 @@
 //! the definitions.
 
 /// Bytes of a URI's text and of a string's text.
-pub const TEXT_WIDTH: usize = 40;
+pub const TEXT_WIDTH: usize = 96;
 /// Bytes of a language tag.
 pub const TAG_WIDTH: usize = 8;
 /// Bytes of an integer, a decimal or a dateTime.

@@ -6,7 +6,7 @@ use willetcoffer::limits::{DECIMAL_LIMIT, INTEGER_LIMIT};
 use willetcoffer::term::{MILLION, PLACES};
 use willetcoffer::Term;
 
-/// The longest text that is read as a number.
+/// The longest text that is read as a number; a text of a record may be longer.
 const LONGEST: usize = 40;
 
 /// Why a text is no number.

@@ -183,9 +183,12 @@ mod tests {
 
     #[test]
     fn what_does_not_fit_says_by_how_much() {
-        let long = format!("http://club.example/{}", "x".repeat(40));
-        let error = table().term(&long).expect_err("45 bytes");
-        assert_eq!(error.to_string(), format!("45 bytes, 5 more than the 40 of a record: club:{}", "x".repeat(40)));
+        let long = "x".repeat(TEXT_WIDTH);
+        let error = table().term(&format!("http://club.example/{long}")).expect_err("club: and as many bytes as fit");
+        let (over, length) = ("club:".len(), "club:".len() + TEXT_WIDTH);
+        let expected = format!("{length} bytes, {over} more than the {TEXT_WIDTH} of a record: club:{long}");
+        assert_eq!(error.to_string(), expected);
+        assert!(table().term(&format!("http://club.example/{}", &long[over..])).is_ok(), "as many as fit");
         assert_eq!(table().term("http://club.example/é"), Err(IriError::Character('é')));
         assert_eq!(table().term(""), Err(IriError::Empty));
     }

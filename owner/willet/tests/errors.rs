@@ -28,7 +28,7 @@ fn messages(refusal: u32, scripts: &[(&str, String)]) -> String {
 
 /// A line that does not fill the page.
 fn shortened(line: &str) -> String {
-    match line.char_indices().nth(150) {
+    match line.char_indices().nth(190) {
         Some((end, _)) => format!("{} ..", line[..end].trim_end()),
         None => line.to_owned(),
     }

@@ -132,20 +132,36 @@ fn over(folder: &Folder, triples: impl Iterator<Item = String>) -> String {
     said.err
 }
 
+/// What is said of a page that the store has no room for.
+fn refused(page: &str, store: &str) -> String {
+    let help = format!("the store holds {store}; 512, 512 and 64 are its limits");
+    format!("error[14]: {page}: terms, quads or graphs would pass their limits\n = help: {help}\n\n")
+}
+
 #[test]
-fn a_store_that_is_full() {
+fn a_store_that_is_full_of_terms() {
     let folder = folder();
-    let refused = |store: &str| {
-        let help = format!("the store holds {store}; 512, 512 and 64 are its limits");
-        format!(
-            "error[14]: http://club.example/yard: terms, quads or graphs would pass their limits\n = help: {help}\n\n"
-        )
+    // the card has the yard, 60 and three properties; 254 subjects and as many speeds are one term too many
+    let triples = (0..254).map(|n| format!("<http://x.example/{n}> <http://p.example/speed> {n}.5 .\n"));
+    assert_eq!(over(&folder, triples), refused("http://club.example/yard", "5 terms, 0 quads and 0 graphs"));
+}
+
+#[test]
+fn a_store_that_is_full_of_quads() {
+    let folder = Folder::new();
+    folder.write(
+        "two.page",
+        "prefix x: <http://x.example/>\nschema x:speed xsd:decimal\nfrom named x:a\nfrom named x:b\n",
+    );
+    let page = |count: usize| {
+        let row = |n| format!("<http://x.example/{}> <http://x.example/speed> {}.5 .\n", n / 16, n % 16);
+        (0..count).map(row).collect::<String>()
     };
-    // the card has the yard, 60 and three properties
-    let terms = (0..508).map(|n| format!("<http://x.example/l> <http://p.example/speed> {}.5 .\n", n));
-    assert_eq!(over(&folder, terms), refused("5 terms, 0 quads and 0 graphs"));
-    let quads = (0..513).map(|n| format!("<http://x.example/{}> <http://p.example/speed> {}.5 .\n", n / 23, n % 23));
-    assert_eq!(over(&folder, quads), refused("5 terms, 0 quads and 0 graphs"));
+    folder.write("pages/a.ttl", page(256));
+    folder.write("pages/b.ttl", page(257));
+    let said = folder.willet(&["run", "two.page", "--from", "pages", "-q"]);
+    // two graphs, a property, 16 subjects and 16 speeds
+    assert_eq!((said.code, said.err), (Some(1), refused("http://x.example/b", "35 terms, 256 quads and 1 graphs")));
 }
 
 #[test]
@@ -159,9 +175,8 @@ fn a_sixty_fifth_graph() {
     folder.write("pages/all.ttl", rows.collect::<String>());
     (0..64).for_each(|n| folder.write(&format!("pages/g{n}.ttl"), ""));
     let said = folder.willet(&["run", "all.page", "--from", "pages", "-q"]);
-    let expected = "error[14]: http://x.example/g63: terms, quads or graphs would pass their limits\n \
-        = help: the store holds 66 terms, 64 quads and 64 graphs; 512, 512 and 64 are its limits\n\n";
-    assert_eq!((said.code, said.err.as_str()), (Some(1), expected));
+    let expected = refused("http://x.example/g63", "66 terms, 64 quads and 64 graphs");
+    assert_eq!((said.code, said.err), (Some(1), expected));
 }
 
 #[test]

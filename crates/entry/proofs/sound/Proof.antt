@@ -19,7 +19,7 @@ slice-aggregate-check-card : tie.Need-slice-aggregate-check-card
 slice-aggregate-check-card c = search needs
 
 check-card-requires : tie.Need-check-card-requires
-check-card-requires c κs = search needs
+check-card-requires c κs = (search needs, search needs)
 
 refused-requires : tie.Need-refused-requires
 refused-requires c κs = search needs

@@ -1,6 +1,9 @@
 -- What is put out lies within the bytes lent for it.
+use Prim.Native.Nat.{ℕ}
 use mathlib.Core.Path.{sym}
 use lib.Seq.{length-take-le}
+use lib.ListN.{length-replicate}
+use Rattle.evaluate.specs.Evaluator.{outputRoom}
 use Rattle.evaluate.proofs.EvaluationLaws.{still-within}
 use borrow.Author.Needs.{needs}
 use Rattle.evaluate.proofs.main.Statement.{statement}
@@ -22,7 +25,7 @@ slice-aggregate-evaluate-2 : tie.Need-slice-aggregate-evaluate-2
 slice-aggregate-evaluate-2 c = search needs
 
 evaluate-requires : tie.Need-evaluate-requires
-evaluate-requires c κs = search needs
+evaluate-requires c κs = length-replicate {A = ℕ} outputRoom 0
 
 array-share-prefix-out : tie.Need-array-share-prefix-out
 array-share-prefix-out c = still-within (c .before .evaluate .ensures .1) (c .before .evaluate .kept .1 .0)

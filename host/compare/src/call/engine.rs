@@ -5,6 +5,7 @@ use second::arcs;
 use second::assignments;
 use second::count;
 use second::early;
+use second::edge::{take_looks, Look};
 use second::eval::{Evaluate, Fault};
 use second::evaluator::{evaluate_with, Ways};
 use second::note::{take_notes, Note};
@@ -50,6 +51,11 @@ pub trait Engine {
         Vec::new()
     }
 
+    /// What of the last call looked at texts at an edge, with the byte, if it says so.
+    fn looks(&self) -> Vec<(Look, usize)> {
+        Vec::new()
+    }
+
     /// What it counted on the way.
     fn counts(&self) -> Vec<(&'static str, u64)> {
         Vec::new()
@@ -67,14 +73,15 @@ pub struct Second<S> {
     evaluate: Evaluate,
     why: Cell<&'static str>,
     notes: RefCell<Vec<Note>>,
+    looks: RefCell<Vec<(Look, usize)>>,
 }
 
 /// An engine with these parts: how types are worked out in loads and by the printer, and in the other calls; and how
 /// answers are found. It keeps quads in order and takes ranks as the fast engine does, and evaluates tuples by giving up early.
 pub fn with<S>(name: &'static str, typers: [second::check::Typer; 2], search: S) -> Second<S> {
-    let (why, notes) = (Cell::new(""), RefCell::default());
+    let (why, notes, looks) = (Cell::new(""), RefCell::default(), RefCell::default());
     let (order, alphabet, evaluate) = (order::FAST, rank::FAST, early::evaluate);
-    Second { name, typers, search, order, alphabet, evaluate, why, notes }
+    Second { name, typers, search, order, alphabet, evaluate, why, notes, looks }
 }
 
 /// The fast engine.
@@ -153,6 +160,7 @@ impl<S: Search + Counts> Engine for Second<S> {
         let Station { card, ranks, term_table: terms, quad_table: quads, saved } = station;
         let inputs = [&ranks[..], &card.terms, &card.schema, &card.script];
         take_notes();
+        take_looks();
         let code = self.code(match call {
             Call::Load => self.engine(false).load(inputs, [terms, quads, saved]),
             Call::Run { budget, now, .. } => {
@@ -164,6 +172,7 @@ impl<S: Search + Counts> Engine for Second<S> {
             Call::Total { .. } => self.engine(false).total([inputs[1], inputs[2], inputs[3]], report),
         });
         self.notes.replace(take_notes());
+        self.looks.replace(take_looks());
         code
     }
 
@@ -183,6 +192,10 @@ impl<S: Search + Counts> Engine for Second<S> {
 
     fn notes(&self) -> Vec<Note> {
         self.notes.borrow().clone()
+    }
+
+    fn looks(&self) -> Vec<(Look, usize)> {
+        self.looks.borrow().clone()
     }
 
     fn counts(&self) -> Vec<(&'static str, u64)> {

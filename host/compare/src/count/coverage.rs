@@ -1,5 +1,7 @@
 //! What was met, and whether it was met often enough.
 
+use super::texts::{PLACES, SKIPPED};
+use second::edge::{Look, EDGES};
 use second::note::Note;
 use std::collections::BTreeMap;
 use std::fmt::Write;
@@ -16,8 +18,15 @@ const ENOUGH: u64 = 100;
 /// 1,000 times in the gate's 50,000.
 const CASES_FOR_ONE: u64 = 50;
 
+/// What looks at texts at an edge, and what is lent in the widths of before or with a byte at an edge changed so that it is refused, are to
+/// be met by one call for so many cases: each 100 times in 50,000.
+const CASES_FOR_A_LOOK: u64 = 500;
+
 /// Two refusals that a call would meet together are to be met by one call for so many cases: each pair 50 times in 50,000.
 const CASES_FOR_TWO: u64 = 1_000;
+
+/// A byte at an edge that is changed and leaves a good text is to be met by one call for so many cases: 25 times in 50,000.
+const CASES_FOR_ANOTHER: u64 = 2_000;
 
 /// The sorts of ranks in which each stands once.
 const GOOD_RANKS: [&str; 4] = ["built in", "built in, turned round", "by byte", "others"];
@@ -38,7 +47,7 @@ const TUPLES: u64 = 50_000;
 
 /// What a long enough run of so many cases has to meet, and how often: each refusal of each call, each script kind, each state, also
 /// where the total is known, each place of each blocks, each type, each sort of ranks, each note, each change of a store's order, each way
-/// to a store again, and refusals together.
+/// to a store again, refusals together, and at each edge each place that has a text and each look at one.
 fn required(cases: u64) -> Vec<(&'static str, String, u64)> {
     let mut all = Vec::new();
     let mut add = |section, keys: &[u32]| all.extend(keys.iter().map(|k| (section, format!("{k:02}"))));
@@ -66,7 +75,36 @@ fn required(cases: u64) -> Vec<(&'static str, String, u64)> {
     let mut all: Vec<_> = all.into_iter().map(|(section, key)| (section, key, ENOUGH)).collect();
     all.extend(often().map(|(section, key)| (section, key.to_string(), cases / CASES_FOR_ONE)));
     all.extend(together().map(|(section, key)| (section, key.to_string(), cases / CASES_FOR_TWO)));
+    for edge in EDGES.map(|edge| edge.to_string()) {
+        all.extend(PLACES.map(|place| (place, edge.clone(), cases / CASES_FOR_ONE)));
+        let looks = Look::ALL.into_iter().map(Look::name).chain([SKIPPED]);
+        all.extend(looks.map(|look| (look, edge.clone(), cases / CASES_FOR_A_LOOK)));
+        for (verdict, cases_for_one) in [("refused", CASES_FOR_A_LOOK), ("taken", CASES_FOR_ANOTHER)] {
+            let changed = CHANGED.map(|what| format!("{edge} of {what} {verdict}"));
+            all.extend(changed.map(|key| ("byte changed", key, cases / cases_for_one)));
+        }
+    }
+    all.extend(odd().map(|key| ("odd", key, cases / CASES_FOR_A_LOOK)));
     all
+}
+
+/// Where a byte at an edge is changed.
+const CHANGED: [&str; 4] =
+    ["a text of the terms", "a property of the schema", "a text of the page", "a text of a slot"];
+
+/// What is lent in the widths of before, and what a call has to say of it.
+fn odd() -> impl Iterator<Item = String> {
+    let rows: [(&str, &[&str]); 8] = [
+        ("terms of before", &["load 02", "total 02", "run 10", "page 10"]),
+        ("schema of before", &["load 04", "total 04", "run 10", "page 10"]),
+        ("card of before", &["load 02", "total 02", "run 10", "page 10"]),
+        ("term table of before", &["load 01", "run 01", "page 01"]),
+        ("card and term table of before", &["load 01", "run 01", "page 01"]),
+        ("slots of before", &["run 10", "page 10"]),
+        ("page of before", &["page 13"]),
+        ("a slot after its record", &["run 10", "page 10"]),
+    ];
+    rows.into_iter().flat_map(|(what, calls)| calls.iter().map(move |call| format!("{what} in a {call}")))
 }
 
 /// Two refusals that a call would meet: 1 and 21, of which it gives 1, and 21 and another, of which it gives 21.

@@ -22,7 +22,7 @@ pub fn station(rng: &mut Rng, pool: &Pool) -> (Station, &'static str) {
         2 => damage(rng, &mut card.schema),
         3 => damage(rng, &mut card.script),
         4 => repeat_record(rng, &mut card.terms, |kind| Term::body_length(kind).map(|n| n + 1)),
-        5 => repeat_record(rng, &mut card.schema, |_| Some(second::schema::RECORD)),
+        5 => repeat_record(rng, &mut card.schema, |_| Some(second::limits::ENTRY)),
         6 => block_head(rng, &mut card.script, pool.numbered.len()),
         _ => card.terms.extend((0..520).flat_map(|n| Term::Int(5_000 + n).record())),
     }
@@ -37,7 +37,8 @@ pub fn station(rng: &mut Rng, pool: &Pool) -> (Station, &'static str) {
 
 /// A script of the case, and what sort it is.
 fn script(rng: &mut Rng, pool: &Pool) -> (Vec<u8>, &'static str) {
-    match rng.weighted(&[44, 18, 10, 5, 5, 15, 19, 30, 4]) {
+    let edged = if pool.texts.are_long() { 180 } else { 4 };
+    match rng.weighted(&[44, 18, 10, 5, 5, 17, 27, 38, edged, 4]) {
         0 => {
             let room = rng.within(20, 400);
             (Writer::new(rng, pool, room).script(0), "typed")
@@ -52,6 +53,7 @@ fn script(rng: &mut Rng, pool: &Pool) -> (Vec<u8>, &'static str) {
         5 => (Writer::new(rng, pool, 200).starred(), "starred"),
         6 => (Writer::new(rng, pool, 200).overflowing(), "overflowing"),
         7 => (Writer::new(rng, pool, 200).sorted(), "sorted"),
+        8 => (Writer::new(rng, pool, 200).edged(), "edged"),
         _ => (as_long_as_it_may_be(rng, pool), "longest"),
     }
 }

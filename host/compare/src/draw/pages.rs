@@ -3,9 +3,11 @@
 
 use crate::draw::pool::{datatype, term, Pool};
 use crate::draw::rng::Rng;
+use crate::draw::texts::{other_end, Texts};
 use second::check::Loaded;
 use second::script::{Kind, Name, Query};
 use second::term::{fill, Term, Uri};
+use second::types::Datatype;
 use second::write::triple;
 use willetcoffer::limits::PAGE_LIMIT;
 use willetcoffer::page::records;
@@ -52,10 +54,25 @@ pub(super) fn patterns(query: &Query) -> Vec<[Name; 4]> {
 }
 
 /// A subject: mostly one of few, so that joins meet.
-fn subject(rng: &mut Rng, uris: &[Uri], new: usize) -> Uri {
+fn subject(rng: &mut Rng, texts: Texts, uris: &[Uri], new: usize) -> Uri {
     match rng.pick(&uris[..uris.len().min(6)]) {
         Some(uri) if rng.percent(70) => *uri,
-        _ => fill(format!("u:{}", rng.below(new)).as_bytes()),
+        _ => {
+            let n = rng.below(new);
+            fill(&texts.uri(rng, n))
+        }
+    }
+}
+
+/// A property and a datatype: mostly of the schema; a URI that differs from one of these in its last byte alone; any other.
+fn property(rng: &mut Rng, pool: &Pool, uris: &[Uri]) -> (Uri, Datatype) {
+    match (rng.pick(&pool.schema), rng.below(45)) {
+        (Some((uri, d)), 0..=1) => match other_end(rng, &Term::Uri(*uri)) {
+            Some(Term::Uri(other)) => (other, *d),
+            _ => (*uri, *d),
+        },
+        (Some((uri, d)), 4..) => (*uri, *d),
+        _ => (subject(rng, pool.texts, uris, 5), datatype(rng)),
     }
 }
 
@@ -65,29 +82,26 @@ pub fn page(rng: &mut Rng, pool: &Pool, records: usize, new: usize) -> Vec<u8> {
         pool.numbered.iter().filter_map(|t| if let Term::Uri(u) = t { Some(*u) } else { None }).collect();
     let mut done: Vec<Vec<u8>> = Vec::new();
     for _ in 0..records {
-        let (property, range) = match rng.pick(&pool.schema) {
-            Some((uri, d)) if !rng.one_in(15) => (*uri, *d),
-            _ => (subject(rng, &uris, 5), datatype(rng)),
-        };
+        let (property, range) = property(rng, pool, &uris);
         let wanted = if rng.one_in(12) { datatype(rng) } else { range };
         let known: Vec<&Term> = pool.numbered.iter().take(60).filter(|t| t.has_datatype(wanted)).collect();
         let object = match rng.pick(&known) {
             Some(term) if rng.percent(60) => **term,
             _ => {
                 let n = rng.below(new);
-                term(rng, wanted, n)
+                term(rng, pool.texts, wanted, n)
             }
         };
         let again = done.last().filter(|_| rng.one_in(12)).cloned();
-        done.push(again.unwrap_or_else(|| triple(&subject(rng, &uris, new), &property, &object)));
+        done.push(again.unwrap_or_else(|| triple(&subject(rng, pool.texts, &uris, new), &property, &object)));
     }
     done.concat()
 }
 
 /// A page for a table at its limits: many records over few or over many new terms.
 pub fn full(rng: &mut Rng, pool: &Pool) -> Vec<u8> {
-    let count = rng.within(1, 700);
-    let new = rng.one(&[4, 40, 400]);
+    let count = rng.within(1, 400);
+    let new = rng.one(&[4, 40, 400, 400, 400]);
     let mut bytes = page(rng, pool, count, new);
     if bytes.len() > PAGE_LIMIT && !rng.one_in(4) {
         // Whole records only, so that the page is good and as long as it may be.

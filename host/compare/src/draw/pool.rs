@@ -1,10 +1,11 @@
 //! The words of a case: its terms and its schema, drawn so that joins, comparisons and patterns meet.
 
 use crate::draw::rng::Rng;
+use crate::draw::texts::{other_end, Texts};
 use second::term::{fill, Term, Uri};
 use second::types::{Datatype, Type};
-use second::write::{entry, tagged, terms};
-use willetcoffer::limits::{DECIMAL_LIMIT, INTEGER_LIMIT, SECONDS_AFTER, SECONDS_BEFORE, TEXT_WIDTH};
+use second::write::{entry, terms};
+use willetcoffer::limits::{DECIMAL_LIMIT, INTEGER_LIMIT, SECONDS_AFTER, SECONDS_BEFORE};
 use willetcoffer::term::MILLION;
 
 /// How large a case is.
@@ -23,21 +24,14 @@ pub enum Size {
 pub struct Pool {
     /// How many there are.
     pub size: Size,
+    /// How long their texts are.
+    pub texts: Texts,
     /// The listed terms.
     pub listed: Vec<Term>,
     /// The schema entries.
     pub schema: Vec<(Uri, Datatype)>,
     /// Listed terms and added schema URIs, as loading numbers them.
     pub numbered: Vec<Term>,
-}
-
-/// A URI's text.
-fn uri_text(rng: &mut Rng, n: usize) -> Vec<u8> {
-    match rng.below(12) {
-        0 => (0..rng.within(1, TEXT_WIDTH)).map(|_| rng.within(0x21, 0x7e) as u8).collect(),
-        1 => format!("{}{n}", "u".repeat(rng.within(TEXT_WIDTH - 10, TEXT_WIDTH - 2))).into_bytes(),
-        _ => format!("u:{n}").into_bytes(),
-    }
 }
 
 const TAGS: [&str; 13] = ["", "", "", "en", "en-gb", "en-", "fr", "e", "eng", "-", "--", "--------", "abcdefgh"];
@@ -51,20 +45,6 @@ fn same_text(rng: &mut Rng, listed: &[Term]) -> Option<Term> {
     Some(Term::Str(fill(tag.as_bytes()), text))
 }
 
-/// A string.
-fn string(rng: &mut Rng, n: usize) -> Term {
-    let tag = rng.one(&TAGS);
-    let mut text = match rng.below(8) {
-        0 => String::new(),
-        1 => (0..rng.within(1, TEXT_WIDTH)).map(|_| rng.within(0x20, 0x7e) as u8 as char).collect(),
-        2 => format!("name {n}"),
-        3 => rng.one(&["1970-01-01T00:00:00Z", "3", "-0.5", "3.0", "u:1"]).to_string(),
-        _ => (0..rng.within(1, 4)).map(|_| rng.one(&['a', 'A', 'b', 'B', ' ', '0', '-', '~'])).collect(),
-    };
-    text.truncate(TEXT_WIDTH);
-    tagged(tag, &text)
-}
-
 fn near(rng: &mut Rng, limit: i64) -> i64 {
     let n = limit - rng.below(3) as i64;
     if rng.one_in(2) {
@@ -75,11 +55,11 @@ fn near(rng: &mut Rng, limit: i64) -> i64 {
 }
 
 /// A term of this kind, the number making most of them different.
-pub fn term(rng: &mut Rng, datatype: Datatype, n: usize) -> Term {
+pub fn term(rng: &mut Rng, texts: Texts, datatype: Datatype, n: usize) -> Term {
     let small = rng.below(9) as i64 - 4;
     match datatype {
-        Datatype::AnyUri => Term::Uri(fill(&uri_text(rng, n))),
-        Datatype::String => string(rng, n),
+        Datatype::AnyUri => Term::Uri(fill(&texts.uri(rng, n))),
+        Datatype::String => Term::Str(fill(rng.one(&TAGS).as_bytes()), fill(&texts.string(rng, n))),
         Datatype::Integer => Term::Int(match rng.below(6) {
             0 => near(rng, INTEGER_LIMIT),
             1 => n as i64,
@@ -111,7 +91,8 @@ pub fn datatype(rng: &mut Rng) -> Datatype {
 impl Pool {
     /// Draws the words of a case.
     pub fn new(rng: &mut Rng) -> Pool {
-        let size = [Size::Small, Size::Middle, Size::Full][rng.weighted(&[90, 8, 2])];
+        let size = [Size::Small, Size::Middle, Size::Full][rng.weighted(&[89, 8, 3])];
+        let texts = Texts::new(rng);
         let (count, entries) = match size {
             Size::Small if rng.one_in(20) => (rng.within(0, 4), rng.within(0, 2)),
             Size::Small => (rng.within(5, 14), rng.within(2, 7)),
@@ -122,7 +103,7 @@ impl Pool {
         let mut seen = std::collections::HashSet::new();
         for n in 0..count {
             let datatype = if n < 5 && rng.percent(70) { Datatype::ALL[n] } else { datatype(rng) };
-            let word = term(rng, datatype, n);
+            let word = term(rng, texts, datatype, n);
             if seen.insert(word) {
                 listed.push(word);
             }
@@ -131,12 +112,16 @@ impl Pool {
         for _ in 0..twins {
             listed.extend(same_text(rng, &listed).filter(|word| seen.insert(*word)));
         }
+        let neighbours = if size == Size::Full || !texts.are_long() { 0 } else { rng.within(2, 6) };
+        for _ in 0..neighbours {
+            listed.extend(rng.pick(&listed).and_then(|word| other_end(rng, word)).filter(|word| seen.insert(*word)));
+        }
         let mut schema: Vec<(Uri, Datatype)> = Vec::new();
         for n in 0..entries {
             let own = rng.pick(&listed).copied();
             let uri = match own {
                 Some(Term::Uri(uri)) if rng.one_in(5) => uri,
-                _ => fill(format!("p:{n}").as_bytes()),
+                _ => fill(&texts.property(rng, n)),
             };
             if schema.iter().all(|(other, _)| *other != uri) {
                 let datatype = if n < 5 && rng.percent(60) { Datatype::ALL[n] } else { datatype(rng) };
@@ -145,7 +130,7 @@ impl Pool {
         }
         rng.shuffle(&mut listed);
         rng.shuffle(&mut schema);
-        let mut pool = Pool { size, numbered: listed.clone(), listed, schema };
+        let mut pool = Pool { size, texts, numbered: listed.clone(), listed, schema };
         for (uri, _) in &pool.schema {
             let term = Term::Uri(*uri);
             if !seen.contains(&term) {

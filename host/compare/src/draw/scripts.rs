@@ -1,5 +1,6 @@
 //! Scripts that are accepted often: each variable has a type in mind, and the parts are drawn to agree with it.
 
+mod edged;
 mod overflowing;
 mod sorted;
 mod starred;

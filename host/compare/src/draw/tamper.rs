@@ -21,7 +21,7 @@ pub fn tamper(rng: &mut Rng, pool: &Pool, station: &mut Station) -> &'static str
     match rng.weighted(&[30, 12, 14, 8, 12, 3, order]) {
         0 => saved_run(rng, station),
         1 => quads(rng, station),
-        2 => terms(rng, station),
+        2 => terms(rng, pool, station),
         3 => inputs(rng, pool, station),
         4 => craft::craft(rng, station),
         5 => craft::crowd(rng, station),
@@ -181,13 +181,13 @@ fn quads(rng: &mut Rng, station: &mut Station) -> &'static str {
     }
 }
 
-fn terms(rng: &mut Rng, station: &mut Station) -> &'static str {
+fn terms(rng: &mut Rng, pool: &Pool, station: &mut Station) -> &'static str {
     let used = station.used();
     let slot = SLOT_WIDTH * rng.below(used);
     let free = SLOT_WIDTH * used.min(TERM_LIMIT - 1);
     let datatype = datatype(rng);
     let n = rng.below(900);
-    let new = term(rng, datatype, n).slot();
+    let new = term(rng, pool.texts, datatype, n).slot();
     let table = &mut station.term_table;
     match rng.below(7) {
         0 => {
@@ -241,7 +241,7 @@ fn inputs(rng: &mut Rng, pool: &Pool, station: &mut Station) -> &'static str {
             // A term added at the end is numbered before the schema URIs.
             let datatype = datatype(rng);
             let n = rng.below(900);
-            station.card.terms.extend(term(rng, datatype, n).record());
+            station.card.terms.extend(term(rng, pool.texts, datatype, n).record());
             "inputs: a term more"
         }
     }

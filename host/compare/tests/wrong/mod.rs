@@ -1,4 +1,5 @@
-//! An engine that is wrong on purpose.
+//! Engines that are wrong on purpose.
+#![allow(dead_code)]
 
 use compare::call::engine::fast;
 use compare::call::{Call, Engine, Station};
@@ -24,5 +25,21 @@ impl Engine for Wrong {
             *station = before;
         }
         code
+    }
+}
+
+/// How a call is made.
+pub type How = fn(&mut Station, &Call, &mut [u8]) -> u32;
+
+/// An engine that does something else with a call and goes on by the second engine.
+pub struct Other(pub How);
+
+impl Engine for Other {
+    fn name(&self) -> &'static str {
+        "wrong"
+    }
+
+    fn call(&self, station: &mut Station, call: &Call, report: &mut [u8]) -> u32 {
+        (self.0)(station, call, report)
     }
 }

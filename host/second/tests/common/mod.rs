@@ -7,6 +7,7 @@ use second::term::Term;
 use second::types::{Datatype, Type};
 use second::Engine;
 
+#[derive(Clone)]
 pub struct Station {
     pub ranks: Vec<u8>,
     pub terms: Vec<u8>,

@@ -6,20 +6,22 @@ use borrow.Author.Needs.{needs}
 use Rattle.definitions.specs.Limits.{slotWidth, termLimit}
 use Rattle.definitions.specs.Saved.{termsFrom, termsIn}
 use Rattle.fields.specs.Answers.{countOf}
-use Rattle.table.proofs.CountLaws.{countFrom, count-zero}
-use Rattle.table.proofs.TableLaws.{from-end, from-zeros, from-rubbish, from-bad, from-next}
+use Rattle.table.proofs.CountLaws.{countFrom}
+use Rattle.table.proofs.TableLaws.{begun-count, from-end, from-zeros, from-rubbish, from-bad, from-next}
 use Rattle.table.proofs.slots.used_terms.Statement.{statement}
 use Rattle.table.proofs.slots.used_terms.Tie as tie
 
 abbrev Inv-loop : tie.InvT-loop
-Inv-loop table n₀ at₀ n at = (n ≤ termLimit) × (at ≡ n * slotWidth) × (countOf (termsIn table) ≡ countFrom n (termsFrom (termLimit - n) table at))
+Inv-loop table first n₀ at₀ n at = (n ≤ termLimit) × (at ≡ n * slotWidth) × (countOf (termsIn table) ≡ countFrom n (termsFrom (termLimit - n) table at))
 
 abbrev μ-loop : tie.MeasureT-loop
-μ-loop table n₀ at₀ n at = termLimit - n
+μ-loop table first n₀ at₀ n at = termLimit - n
+
+mul-at : tie.Need-mul-at Inv-loop μ-loop
+mul-at c = omega (arith, c .before .pre .few)
 
 loop-holds : tie.Need-loop-holds Inv-loop μ-loop
-unfolding termsIn
-loop-holds c = (omega arith, omega arith, count-zero (termsIn (c .before .args .table .now)))
+loop-holds c = let c₁ = c .before in (omega (arith, c₁ .pre .few), omega arith, begun-count _ _ (c₁ .pre))
 
 shared-slice-read-if1 : tie.Need-shared-slice-read-if1 Inv-loop μ-loop
 shared-slice-read-if1 c = search needs
@@ -86,6 +88,7 @@ used-terms-spec =
     (tie.spec
     Inv-loop
     μ-loop
+    mul-at
     loop-holds
     shared-slice-read-if1
     sub-is-zero
