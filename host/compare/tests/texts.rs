@@ -25,6 +25,7 @@ use second::truth::Truth;
 use second::types::Datatype;
 use second::value::Value;
 use second::write::{entry, string, tagged, terms, triple, uri};
+use std::time::Duration;
 use wrong::{How, Other, Turn, Wrong};
 
 mod wrong;
@@ -540,7 +541,8 @@ fn a_table_of_before_is_cut_down() {
     let kept = kept.expect("a case shows it");
     let shows = |replay: &Replay| replay.play(engines).is_some_and(|(_, d)| d.breach == Breach::Answers);
     assert!(shows(&kept));
-    let small = shrink(kept, Patience::default(), &mut |replay| shows(replay));
+    let patience = Patience { tries: 20_000, time: Duration::from_secs(60) };
+    let small = shrink(kept, patience, &mut |replay| shows(replay));
     assert!(shows(&small));
     let tampering = small.moves.last().and_then(|last| last.tampering.as_ref()).expect("it was tampered with");
     assert_eq!(tampering.length, Some(before::TERM_TABLE));
