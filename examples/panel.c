@@ -1,5 +1,6 @@
 /*
- * A panel in C: a card is loaded, runs, wants a page, gets it with a record that is skipped, and runs to its end.
+ * A panel in C: a card is loaded, runs, wants a page, gets it with speeds as their makers print them and a record that is skipped,
+ * and runs to its end.
  *
  *     cc panel.c $(pkg-config --cflags --libs willetcoffer) -o panel && ./panel
  *
@@ -65,10 +66,20 @@ static void put_name(struct bytes *page, const char *subject, const char *tag, c
     put_text(page, name, WILLETCOFFER_TEXT_WIDTH);
 }
 
-static void put_speed(struct bytes *page, const char *subject, int64_t millionths)
+/* a speed as its maker prints it, an integer or a decimal; 0 where the text is no such number */
+static int put_speed(struct bytes *page, const char *subject, const char *text)
 {
-    put_triple(page, 0x84, subject, "p:speed");
-    put_number(page, millionths);
+    uint8_t record[WILLETCOFFER_NUMBER_RECORD_WIDTH];
+    uint32_t refusal = willetcoffer_number((const uint8_t *)text, strlen(text), record, sizeof record);
+    size_t i;
+    if (refusal != 0) {
+        printf("number %s: refused %u\n", text, (unsigned)refusal);
+        return 0;
+    }
+    put_triple(page, 0x70 + record[0], subject, "p:speed");
+    for (i = 1; i < sizeof record; i++)
+        put(page, record[i]);
+    return 1;
 }
 
 /* ---- the card: from the yard's page, each locomotive with a name and a speed above 60 ---- */
@@ -185,17 +196,19 @@ static int take_page(const struct bytes *page)
     return 1;
 }
 
+static int write_page(struct bytes *page)
+{
+    put_name(page, "u:1", "en", "Mallard");
+    put_name(page, "u:2", "en", "Puffing Billy");
+    put_name(page, "u:3", "de", "Adler");
+    put_triple(page, 0x83, "u:3", "p:wheels"); /* no such property in the schema: skipped */
+    put_number(page, 6);
+    return put_speed(page, "u:1", "126.4") && put_speed(page, "u:2", "8") && put_speed(page, "u:3", "0.65e2");
+}
+
 int main(void)
 {
     static struct bytes page;
     write_card();
-    put_name(&page, "u:1", "en", "Mallard");
-    put_speed(&page, "u:1", 126400000);
-    put_name(&page, "u:2", "en", "Puffing Billy");
-    put_speed(&page, "u:2", 8000000);
-    put_name(&page, "u:3", "de", "Adler");
-    put_speed(&page, "u:3", 65000000);
-    put_triple(&page, 0x83, "u:3", "p:wheels"); /* no such property in the schema: skipped */
-    put_number(&page, 6);
-    return load() && run(0) && take_page(&page) && run(0) ? 0 : 1;
+    return write_page(&page) && load() && run(0) && take_page(&page) && run(0) ? 0 : 1;
 }

@@ -8,6 +8,7 @@
  *     willetcoffer_run(..)       until the report says wanted, waiting or ended
  *     willetcoffer_page(..)      for a wanted graph, and whenever a page has changed
  *     willetcoffer_total(..)     whenever a display wants to know how long the script takes
+ *     willetcoffer_number(..)    for a number as its maker prints it, on the way to a term or a page record
  *
  * Load, run and page are lent ranks too, the order in which a club sorts its texts; a club that has none of its own lends
  * willetcoffer_built_in_ranks.
@@ -55,6 +56,8 @@ extern "C" {
 #define WILLETCOFFER_PAGE_REPORT_WIDTH 4
 /* The report of a total call; see willetcoffer_total. */
 #define WILLETCOFFER_TOTAL_REPORT_WIDTH 4
+/* The record that a number call writes; see willetcoffer_number. */
+#define WILLETCOFFER_NUMBER_RECORD_WIDTH 9
 
 /* ---- widths of fields, in bytes ------------------------------------------------------------------------------------------ */
 
@@ -93,6 +96,7 @@ extern "C" {
 #define WILLETCOFFER_BUDGET_LIMIT 60000      /* steps of one run call */
 #define WILLETCOFFER_PAGE_LIMIT 65536        /* bytes of a page */
 #define WILLETCOFFER_PRINTER_LIMIT 68352     /* bytes of a card's three parts together, as the type printer reads them */
+#define WILLETCOFFER_NUMBER_TEXT_LIMIT 40    /* bytes of a number's text */
 #define WILLETCOFFER_INTEGER_LIMIT 1000000000000LL        /* an integer's amount */
 #define WILLETCOFFER_DECIMAL_LIMIT 1000000000000000000LL  /* a decimal's amount, in millionths */
 #define WILLETCOFFER_SECONDS_BEFORE 62135596800LL         /* the first dateTime, 0001-01-01T00:00:00Z, before 1970 */
@@ -165,7 +169,7 @@ static const uint8_t willetcoffer_built_in_ranks[WILLETCOFFER_RANKS_WIDTH] = {
 
 /* ---- refusals ------------------------------------------------------------------------------------------------------------- */
 
-#define WILLETCOFFER_REFUSED_LENGTH 1          /* lent ranks, a lent table, saved run or report of another length */
+#define WILLETCOFFER_REFUSED_LENGTH 1          /* lent ranks, a lent table, saved run, report or record of another length */
 #define WILLETCOFFER_REFUSED_TERM_RECORD 2     /* a bad term record */
 #define WILLETCOFFER_REFUSED_TERM_TWICE 3      /* a term listed twice */
 #define WILLETCOFFER_REFUSED_SCHEMA_RECORD 4   /* a bad schema record */
@@ -181,6 +185,8 @@ static const uint8_t willetcoffer_built_in_ranks[WILLETCOFFER_RANKS_WIDTH] = {
 #define WILLETCOFFER_REFUSED_PAGE_GRAPH 12     /* the page's graph is no URI of the term table */
 #define WILLETCOFFER_REFUSED_PAGE 13           /* page over WILLETCOFFER_PAGE_LIMIT bytes, or a bad record in it */
 #define WILLETCOFFER_REFUSED_ROOM 14           /* terms, quads or graphs would pass their limits */
+#define WILLETCOFFER_REFUSED_NUMBER_TEXT 16    /* a text that has not the form or the length of a number's */
+#define WILLETCOFFER_REFUSED_NUMBER_VALUE 17   /* a number outside the limits of its kind, or no whole count of millionths */
 #define WILLETCOFFER_REFUSED_RANKS 21          /* ranks that are not each rank from 0 to 94 once; straight after 1 */
 
 /* ---- the calls ------------------------------------------------------------------------------------------------------------ */
@@ -279,6 +285,26 @@ uint32_t willetcoffer_total(
     const uint8_t *schema, size_t schema_length,
     const uint8_t *script, size_t script_length,
     uint8_t *report, size_t report_length);
+
+/*
+ * Reads a number as makers print it, such as -3, 126.4 or 0.999e2. Its text is an optional sign, digits, optionally a point with
+ * digits after it, optionally e or E with an optional sign and one or two digits, and nothing else, no blank either. With neither
+ * point nor exponent it is an integer, otherwise a decimal. The value is exact: 0.999e2 is 99900000 millionths, and 1e-7 has no
+ * reading. Minus zero is zero. The text that str gives for a term that was read reads as the same term.
+ *
+ *   text        1 to WILLETCOFFER_NUMBER_TEXT_LIMIT bytes, else refusal 16; it needs no zero at its end
+ *   record      written, WILLETCOFFER_NUMBER_RECORD_WIDTH bytes: the term's record
+ *                 at 0, 1 byte   its kind, 13 for an integer, 14 for a decimal (hexadecimal)
+ *                 at 1, 8 bytes  the integer, or the decimal's count of millionths
+ *
+ * The record may stand among the terms of a card. The body after its kind may stand as the object of a page record, whose kind is 70
+ * (hexadecimal) more than the record's.
+ *
+ * Refusals: 1, 16, 17, in this order.
+ */
+uint32_t willetcoffer_number(
+    const uint8_t *text, size_t text_length,
+    uint8_t *record, size_t record_length);
 
 #ifdef __cplusplus
 }

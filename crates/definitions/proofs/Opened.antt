@@ -13,6 +13,7 @@ use Rattle.definitions.specs.Calendar as Calendar
 use Rattle.definitions.specs.Outcome as Outcome
 use Rattle.definitions.specs.Truth as Truth
 use Rattle.definitions.specs.Values as Values
+use Rattle.definitions.specs.Numerals as Numerals
 use Rattle.definitions.specs.Evaluate as Evaluate
 use Rattle.definitions.specs.Evaluated as Evaluated
 use Rattle.definitions.specs.Search as Search
@@ -84,6 +85,11 @@ unfolding Values.valueOf Values.numberIn Values.lifted Values.lifted₂ Values.s
     Values.equalPair Values.lessPair Values.stringIn Values.truthIn
 openValues = tt
 
+unfoldable pub openNumerals : Unit {0}
+unfolding Numerals.isDigit Numerals.leading Numerals.afterSign Numerals.digitsAt Numerals.fractionAt Numerals.exponentAt Numerals.numeralOf Numerals.naturalOf Numerals.withSign
+    Numerals.integerTerm Numerals.decimalTerm Numerals.termOf
+openNumerals = tt
+
 unfoldable pub openEvaluate : Unit {0}
 unfolding Evaluate.stored Evaluate.named Evaluate.propertyDatatype Evaluate.expression Evaluate.condition Evaluate.query
 openEvaluate = tt
@@ -118,7 +124,7 @@ openResult = tt
 unfoldable pub openCalls : Unit {0}
 unfolding Calls.recordTests Calls.sizesFit Calls.scriptTests Calls.readTests Calls.constantsOf Calls.typesOf Calls.typeTests Calls.check Calls.reportedTypes Calls.tablesFit
     Calls.loadTests Calls.loadResult Calls.load Calls.checkedOf Calls.soundIn Calls.entryTests Calls.runIn Calls.runTests Calls.ranOf Calls.runResult Calls.runCall Calls.pageIn
-    Calls.takeIn Calls.pageTests Calls.pageResult Calls.pageCall Calls.totalResult Calls.total
+    Calls.takeIn Calls.pageTests Calls.pageResult Calls.pageCall Calls.totalResult Calls.total Calls.numberCall
 openCalls = tt
 
 unfoldable pub openCallList : Unit {0}
@@ -127,7 +133,7 @@ openCallList = tt
 
 unfoldable pub openExports : Unit {0}
 unfolding Exports.words Exports.itemsBytes Exports.savedBytes Exports.wordsFrom Exports.itemsFrom Exports.itemsGood Exports.savedFrom Exports.runReport Exports.pageReport
-    Exports.totalReport Exports.loadExport Exports.runExport Exports.pageExport Exports.totalExport
+    Exports.totalReport Exports.recordAfter Exports.loadExport Exports.runExport Exports.pageExport Exports.totalExport Exports.numberExport
 openExports = tt
 
 unfoldable pub openPrinter : Unit {0}
@@ -136,6 +142,6 @@ unfolding Printer.entryBody Printer.endFrom Printer.termsEnd Printer.schemaEnd P
 openPrinter = tt
 
 unfoldable pub opened : Unit {0}
-unfolding openAlphabet openBytes openAscii openTerms openText openReading openScope openTotal openTyping openCalendar openOutcome openTruth openValues openEvaluate openEvaluated
-    openSearch openMachine openSaved openSound openResult openCalls openCallList openExports openPrinter
+unfolding openAlphabet openBytes openAscii openTerms openText openReading openScope openTotal openTyping openCalendar openOutcome openTruth openValues openNumerals openEvaluate
+    openEvaluated openSearch openMachine openSaved openSound openResult openCalls openCallList openExports openPrinter
 opened = tt

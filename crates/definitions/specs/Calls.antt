@@ -16,6 +16,7 @@ use Rattle.definitions.specs.Tree.{Script}
 use Rattle.definitions.specs.Reading.{parsed}
 use Rattle.definitions.specs.Scope.{inScope}
 use Rattle.definitions.specs.Total.{totalOf}
+use Rattle.definitions.specs.Numerals.{numeralOf, termOf}
 use Rattle.definitions.specs.Typing.{Written, unbound, undecided, fixed, writtenTypes, typeAt, Verdict, noTyping, noGreatest, greatest, verdict}
 use Rattle.definitions.specs.Outcome as Outcomes
 use Rattle.definitions.specs.Outcome.{Outcome, ok}
@@ -298,3 +299,11 @@ totalResult (passed x) = TotalAnswers.Total (totalOf (x .root))
 -- types are not asked
 unfoldable pub total : (terms schema script : List ℕ) → TotalAnswer
 total terms schema script = totalResult (readTests terms schema script)
+
+-- ── number: 16, 17, and at the C interface 1 for its record ─────────────────────────────────
+
+-- the term that a text reads as
+unfoldable pub numberCall : (text : List ℕ) → Result Term
+numberCall text = do
+  n ← given 16 (numeralOf text)
+  given 17 (termOf n)

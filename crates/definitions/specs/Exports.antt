@@ -1,4 +1,4 @@
--- The calls on bytes, as other programs link them: saved run and report are lent as bytes too, and count as lent tables.
+-- The calls on bytes, as other programs link them: saved run and report, or a record, are lent as bytes too, and count as lent tables.
 use Prim.Native.Nat.{ℕ, zero, suc, _+_}
 use mathlib.Core.List.{List, [], _∷_, _++_, map}
 use mathlib.Core.Bool.{Bool, true, false, _&&_}
@@ -7,14 +7,17 @@ use lib.Dec.{eqb, leb}
 use lib.IntN.{ℤ}
 use lib.ListN.{length}
 use Rattle.definitions.specs.Limits.{variableLimit, graphLimit, depthLimit, pairLimit}
-use Rattle.definitions.specs.Limits.{typesOffset, boundOffset, bindingsOffset, fetchedOffset, itemsOffset, itemWidth, savedWidth, runReportWidth, pageReportWidth, totalReportWidth}
+use Rattle.definitions.specs.Limits.{typesOffset, boundOffset, bindingsOffset, fetchedOffset, itemsOffset, itemWidth, savedWidth}
+use Rattle.definitions.specs.Limits.{runReportWidth, pageReportWidth, totalReportWidth, numberRecordWidth}
 use Rattle.definitions.specs.Lists.{every}
 use Rattle.definitions.specs.Alphabet.{isAlphabet}
 use Rattle.definitions.specs.Bytes.{byte, word, littleBytes, part, provided}
+use Rattle.definitions.specs.Terms.{Term, recordOf}
 use Rattle.definitions.specs.Outcome.{Outcome, ok, _>>=_}
+use Rattle.definitions.specs.Result.{Result, refused, passed}
 use Rattle.definitions.specs.Saved.{zeroItem}
-use Rattle.definitions.specs.Calls.{Lent, lengthsFit, load, runCall, PageResult, pageCall, total}
-use Rattle.definitions.specs.Numbers.{loadNumber, runNumber, pageNumber, totalNumber, stateNumber, wantedGraph}
+use Rattle.definitions.specs.Calls.{Lent, lengthsFit, load, runCall, PageResult, pageCall, total, numberCall}
+use Rattle.definitions.specs.Numbers.{loadNumber, runNumber, pageNumber, totalNumber, resultNumber, stateNumber, wantedGraph}
 use Rattle.definitions.specs.declared.SavedItem.{SavedItem}
 use Rattle.definitions.specs.declared.SavedRun.{SavedRun}
 use Rattle.definitions.specs.declared.Ran.{Ran}
@@ -104,6 +107,11 @@ unfoldable pub totalReport : List ℕ → TotalAnswer → List ℕ
 totalReport report (TotalAnswers.Total n) = littleBytes 4 n
 totalReport report (TotalAnswers.Refused n) = report
 
+-- the record of the term that a text reads as
+unfoldable pub recordAfter : List ℕ → Result Term → List ℕ
+recordAfter lent (refused n) = lent
+recordAfter lent (passed t) = recordOf t
+
 -- ── the calls: the number returned, and every lent buffer at the end ────────────────────────
 
 pub record LoadExport : Type 0 where
@@ -127,6 +135,10 @@ pub record PageExport : Type 0 where
 pub record TotalExport : Type 0 where
   pub number : ℕ
   pub report : List ℕ
+
+pub record NumberExport : Type 0 where
+  pub number : ℕ
+  pub «record» : List ℕ
 
 -- the saved run's bytes where nothing was refused, else those that were lent
 abbrev pub savedAfter : (number : ℕ) → SavedRun → (lent : List ℕ) → List ℕ
@@ -199,4 +211,12 @@ totalExport terms schema script report =
     elim (eqb (length report) totalReportWidth) [
       | true ↦ record { number = totalNumber answer; report = totalReport report answer }
       | false ↦ record { number = 1; report = report }
+    ]
+
+unfoldable pub numberExport : (text lent : List ℕ) → NumberExport
+numberExport text lent =
+    let r = numberCall text in
+    elim (eqb (length lent) numberRecordWidth) [
+      | true ↦ record { number = resultNumber r; «record» = recordAfter lent r }
+      | false ↦ record { number = 1; «record» = lent }
     ]

@@ -15,6 +15,7 @@ pub mod Calendar
 pub mod Outcome
 pub mod Truth
 pub mod Values
+pub mod Numerals
 pub mod Evaluate
 pub mod Evaluated
 pub mod Search

@@ -1,16 +1,21 @@
--- Document 01's number for every case of an enum answer, and the graph that a wanted one carries. What else an answer carries stands in the reports
--- (`Exports.runReport`, `Exports.pageReport`, `Exports.totalReport`).
+-- Document 01's number for every case of an enum answer, the graph that a wanted one carries, and the term that a number's text reads as. What else an answer
+-- carries stands in the reports (`Exports.runReport`, `Exports.pageReport`, `Exports.totalReport`).
 use Prim.Native.Nat.{ℕ}
+use Rattle.definitions.specs.Bytes.{signed}
+use Rattle.definitions.specs.Terms.{Term}
+use Rattle.definitions.specs.Result.{Result, refused, passed}
 use Rattle.definitions.specs.declared.RunState.{RunState}
 use Rattle.definitions.specs.declared.RunState.the-variants.{Ended, Wanted, Waiting, Spent}
 use Rattle.definitions.specs.declared.LoadAnswer.{LoadAnswer}
 use Rattle.definitions.specs.declared.RunAnswer.{RunAnswer}
 use Rattle.definitions.specs.declared.PageAnswer.{PageAnswer}
 use Rattle.definitions.specs.declared.TotalAnswer.{TotalAnswer}
+use Rattle.definitions.specs.declared.NumberAnswer.{NumberAnswer}
 use Rattle.definitions.specs.declared.LoadAnswer.the-variants as LoadAnswers
 use Rattle.definitions.specs.declared.RunAnswer.the-variants as RunAnswers
 use Rattle.definitions.specs.declared.PageAnswer.the-variants as PageAnswers
 use Rattle.definitions.specs.declared.TotalAnswer.the-variants as TotalAnswers
+use Rattle.definitions.specs.declared.NumberAnswer.the-variants as NumberAnswers
 
 -- 0, or the refusal's number
 abbrev pub loadNumber : LoadAnswer → ℕ
@@ -28,6 +33,16 @@ pageNumber (PageAnswers.Refused n) = n
 abbrev pub totalNumber : TotalAnswer → ℕ
 totalNumber (TotalAnswers.Total n) = 0
 totalNumber (TotalAnswers.Refused n) = n
+
+abbrev pub resultNumber : {A : Type 0} → Result A → ℕ
+resultNumber (refused n) = n
+resultNumber (passed a) = 0
+
+-- the term that a text reads as; its number is carried in two's complement
+abbrev pub termRead : NumberAnswer → Result Term
+termRead (NumberAnswers.Integer n) = passed (Term.integer (signed n))
+termRead (NumberAnswers.Decimal n) = passed (Term.decimal (signed n))
+termRead (NumberAnswers.Refused n) = refused n
 
 -- the state of a run, and the wanted graph's term number
 abbrev pub stateNumber : RunState → ℕ

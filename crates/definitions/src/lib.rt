@@ -20,6 +20,9 @@ pub const ENTRY_WIDTH: usize = 1 + TEXT_WIDTH + 1;
 // A URI's record: kind and text. A schema record's datatype stands after as many bytes.
 pub const URI_WIDTH: usize = 1 + TEXT_WIDTH;
 
+// A number's record: kind and its 8 bytes.
+pub const NUMBER_RECORD_WIDTH: usize = 1 + NUMBER_WIDTH;
+
 // Where a page record's property and its object begin.
 pub const PROPERTY_OFFSET: usize = 1 + TEXT_WIDTH;
 
@@ -72,6 +75,9 @@ pub const VARIABLE_LIMIT: usize = 16;
 pub const INTEGER_LIMIT: u64 = 1000000000000;
 
 pub const DECIMAL_LIMIT: u64 = 1000000000000000000;
+
+// The bytes of a number's text.
+pub const NUMBER_TEXT_LIMIT: usize = 40;
 
 // A dateTime lies at most so many seconds before 1970, and after it.
 pub const SECONDS_BEFORE: u64 = 62135596800;
@@ -137,7 +143,11 @@ pub const BAD_PAGE: u8 = 13;
 
 pub const NO_ROOM: u8 = 14;
 
-// Document 02's: ranks that are no alphabet.
+// Document 02's: a text that is no number's, or whose number no term has; ranks that are no alphabet.
+pub const BAD_NUMBER_TEXT: u8 = 16;
+
+pub const NO_SUCH_NUMBER: u8 = 17;
+
 pub const BAD_RANKS: u8 = 21;
 
 // What reading a record gives: the offset after it, or that it is malformed.
@@ -191,7 +201,7 @@ pub enum RunState {
 }
 
 // The answers of the calls: a refusal's number, or the result: steps and state of a run, the skipped count of a page, the total of
-// a script.
+// a script, the integer or the millionths that a text reads as, in two's complement.
 pub enum LoadAnswer {
     Accepted,
     Refused(u8),
@@ -209,6 +219,12 @@ pub enum PageAnswer {
 
 pub enum TotalAnswer {
     Total(u32),
+    Refused(u8),
+}
+
+pub enum NumberAnswer {
+    Integer(u64),
+    Decimal(u64),
     Refused(u8),
 }
 

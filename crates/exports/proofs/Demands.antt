@@ -1,5 +1,5 @@
 -- The demands and requests, held together with the code. The definitions of the calls say what each call gives: answer, saved run and both tables, on refusals too,
--- and at the C interface the number returned and every lent buffer. The first eight fields say that the code gives exactly that: they are the contracts of the
+-- and at the C interface the number returned and every lent buffer. The first ten fields say that the code gives exactly that: they are the contracts of the
 -- calls and of the exports, met. The others say what follows from the definitions.
 use mathlib.Core.Path.{_≡_}
 use mathlib.Core.List.{List}
@@ -16,6 +16,8 @@ use Rattle.engine.proofs.page.page.Statement as page-call
 use Rattle.engine.proofs.page.page.Met as page-met
 use Rattle.engine.proofs.total.total.Statement as total-call
 use Rattle.engine.proofs.total.total.Met as total-met
+use Rattle.numbers.proofs.read_number.Statement as number-call
+use Rattle.numbers.proofs.read_number.Met as number-met
 use Rattle.exports.proofs.willetcoffer_load.Statement as load-export
 use Rattle.exports.proofs.willetcoffer_load.Met as load-export-met
 use Rattle.exports.proofs.willetcoffer_run.Statement as run-export
@@ -24,6 +26,8 @@ use Rattle.exports.proofs.willetcoffer_page.Statement as page-export
 use Rattle.exports.proofs.willetcoffer_page.Met as page-export-met
 use Rattle.exports.proofs.willetcoffer_total.Statement as total-export
 use Rattle.exports.proofs.willetcoffer_total.Met as total-export-met
+use Rattle.exports.proofs.willetcoffer_number.Statement as number-export
+use Rattle.exports.proofs.willetcoffer_number.Met as number-export-met
 use Rattle.theorems.specs.Hosts.{HostCall}
 use Rattle.theorems.specs.Demand1.{Demand1}
 use Rattle.theorems.specs.Demand2.{Demand2}
@@ -34,6 +38,7 @@ use Rattle.theorems.specs.ExactSteps.{OnceLoad, ExactSteps}
 use Rattle.theorems.specs.OneOrder.{OneOrder}
 use Rattle.theorems.specs.Truths.{Truths}
 use Rattle.theorems.specs.Alphabets.{Alphabets}
+use Rattle.theorems.specs.NumberTexts.{NumberTexts}
 use Rattle.theorems.proofs.Demand1.{demand-1}
 use Rattle.theorems.proofs.Demand2.{demand-2}
 use Rattle.theorems.proofs.Demand3.{demand-3}
@@ -43,6 +48,7 @@ use Rattle.theorems.proofs.ExactSteps.{exact-steps}
 use Rattle.theorems.proofs.OneOrder.{one-order-of-quads}
 use Rattle.theorems.proofs.Truths.{truths}
 use Rattle.theorems.proofs.Alphabets.{alphabets}
+use Rattle.theorems.proofs.NumberTexts.{number-texts}
 
 pub record Demands (M : Type 1) : Type 2 where
   -- the code of each call does what the call's definition says
@@ -50,11 +56,13 @@ pub record Demands (M : Type 1) : Type 2 where
   pub runs : run-call.statement M
   pub pages : page-call.statement M
   pub totals : total-call.statement M
+  pub numbers : number-call.statement M
   -- and that of each export what the definition on bytes says
   pub loadExports : load-export.statement M
   pub runExports : run-export.statement M
   pub pageExports : page-export.statement M
   pub totalExports : total-export.statement M
+  pub numberExports : number-export.statement M
   -- refusals, of the calls and at the C interface
   pub first : Demand1
   pub firstOnBytes : ExportRefusals
@@ -72,6 +80,8 @@ pub record Demands (M : Type 1) : Type 2 where
   pub oneOrder : OneOrder
   -- Ask 9: less on strings under any club's ranks
   pub alphabets : Alphabets
+  -- Ask 1: which texts are numbers, and that str's texts read back
+  pub numberTexts : NumberTexts
 
 pub demands : {M : Type 1} → Demands M
 demands =
@@ -80,10 +90,12 @@ demands =
       runs = run-met.met;
       pages = page-met.met;
       totals = total-met.met;
+      numbers = number-met.met;
       loadExports = load-export-met.met;
       runExports = run-export-met.met;
       pageExports = page-export-met.met;
       totalExports = total-export-met.met;
+      numberExports = number-export-met.met;
       first = demand-1;
       firstOnBytes = export-refusals;
       second = demand-2;
@@ -93,4 +105,5 @@ demands =
       tables = truths;
       oneOrder = one-order-of-quads;
       alphabets = alphabets;
+      numberTexts = number-texts;
     }

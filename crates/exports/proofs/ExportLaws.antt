@@ -7,13 +7,15 @@ use mathlib.Core.Option.{none, some}
 use lib.IntN.{ℤ}
 use lib.ListN.{length}
 use borrow.Author.Tests.{eq-eqb, ne-eqb, not-true, not-false}
+use Rattle.definitions.specs.Terms.{Term}
 use Rattle.definitions.specs.Outcome.{ok, _>>=_}
-use Rattle.definitions.specs.Calls.{Lent, lengthsOf, load, runCall, pageCall, total}
+use Rattle.definitions.specs.Result.{Result}
+use Rattle.definitions.specs.Calls.{Lent, lengthsOf, load, runCall, pageCall, total, numberCall}
 use Rattle.definitions.specs.Alphabet.{isAlphabet}
-use Rattle.definitions.specs.Numbers.{loadNumber, runNumber, pageNumber, totalNumber}
-use Rattle.definitions.specs.Limits.{savedWidth, runReportWidth, pageReportWidth, totalReportWidth}
-use Rattle.definitions.specs.Exports.{savedFrom, savedAfter, runReport, pageReport, totalReport}
-use Rattle.definitions.specs.Exports.{loadExport, refusedRun, ranExport, runExport, refusedPage, pagedExport, pageExport, totalExport}
+use Rattle.definitions.specs.Numbers.{loadNumber, runNumber, pageNumber, totalNumber, resultNumber}
+use Rattle.definitions.specs.Limits.{savedWidth, runReportWidth, pageReportWidth, totalReportWidth, numberRecordWidth}
+use Rattle.definitions.specs.Exports.{savedFrom, savedAfter, runReport, pageReport, totalReport, recordAfter}
+use Rattle.definitions.specs.Exports.{loadExport, refusedRun, ranExport, runExport, refusedPage, pagedExport, pageExport, totalExport, numberExport}
 use Rattle.definitions.specs.declared.SavedRun.{SavedRun}
 use Rattle.definitions.specs.declared.Loaded.{Loaded}
 use Rattle.definitions.specs.declared.Ran.{Ran}
@@ -136,3 +138,18 @@ module _ (terms schema script report : List ℕ) where
       let m = number ∙ ap totalNumber e in
       let k = written ∙ ap (totalReport report) e in
       rw (totalExport, eq-eqb (length report) totalReportWidth h) (λ i. record { number = sym m i; report = sym k i })
+
+-- ── number ──────────────────────────────────────────────────────────────────────────────────
+
+module _ (text lent : List ℕ) where
+  pub number-length : (length lent ≡ numberRecordWidth → ⊥) → numberExport text lent ≡ record { number = 1; «record» = lent }
+  unfolding numberExport
+  number-length h = rw (numberExport, ne-eqb (length lent) numberRecordWidth h)
+
+  pub number-done : {r : Result Term} {p : List ℕ} {n : ℕ} → length lent ≡ numberRecordWidth → r ≡ numberCall text → p ≡ recordAfter lent r → n ≡ resultNumber r
+      → numberExport text lent ≡ record { number = n; «record» = p }
+  unfolding numberExport
+  number-done h e written number =
+      let m = number ∙ ap resultNumber e in
+      let k = written ∙ ap (recordAfter lent) e in
+      rw (numberExport, eq-eqb (length lent) numberRecordWidth h) (λ i. record { number = sym m i; «record» = sym k i })

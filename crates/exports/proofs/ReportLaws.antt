@@ -1,17 +1,22 @@
 -- The reports, by the cases of an answer.
-use Prim.Native.Nat.{ℕ}
+use Prim.Native.Nat.{ℕ, _^_, _<_}
 use mathlib.Core.Path.{_≡_, ap, sym, _∙_}
 use mathlib.Core.List.{List, _∷_, _++_}
 use Rattle.definitions.specs.Bytes.{littleBytes}
-use Rattle.definitions.specs.Numbers.{stateNumber, wantedGraph}
-use Rattle.definitions.specs.Exports.{runReport, pageReport, totalReport}
+use Rattle.definitions.specs.Limits.{numberWidth}
+use Rattle.definitions.specs.Terms.{bodyOf}
+use Rattle.definitions.specs.Numbers.{stateNumber, wantedGraph, termRead}
+use Rattle.definitions.specs.Exports.{runReport, pageReport, totalReport, recordAfter}
 use Rattle.definitions.specs.declared.RunState.{RunState}
 use Rattle.definitions.specs.declared.RunAnswer.{RunAnswer}
 use Rattle.definitions.specs.declared.PageAnswer.{PageAnswer}
 use Rattle.definitions.specs.declared.TotalAnswer.{TotalAnswer}
+use Rattle.definitions.specs.declared.NumberAnswer.{NumberAnswer}
 use Rattle.definitions.specs.declared.RunAnswer.the-variants as RunAnswers
 use Rattle.definitions.specs.declared.PageAnswer.the-variants as PageAnswers
 use Rattle.definitions.specs.declared.TotalAnswer.the-variants as TotalAnswers
+use Rattle.definitions.specs.declared.NumberAnswer.the-variants as NumberAnswers
+use Rattle.laws.proofs.Bytes.{unsigned-signed}
 
 module _ (report : List ℕ) {answer : RunAnswer} where
   pub run-refused : {n : ℕ} → answer ≡ RunAnswers.Refused n → report ≡ runReport report answer
@@ -40,3 +45,16 @@ module _ (report : List ℕ) {answer : TotalAnswer} where
   pub total-told : {steps : ℕ} → answer ≡ TotalAnswers.Total steps → {p : List ℕ} → p ≡ littleBytes 4 steps → p ≡ totalReport report answer
   unfolding totalReport
   total-told e s = s ∙ ap (totalReport report) (sym e)
+
+module _ (lent : List ℕ) {answer : NumberAnswer} where
+  pub number-refused : {n : ℕ} → answer ≡ NumberAnswers.Refused n → lent ≡ recordAfter lent (termRead answer)
+  unfolding recordAfter
+  number-refused e = rw e
+
+  pub integer-written : {n : ℕ} → answer ≡ NumberAnswers.Integer n → n < 2 ^ 64 → {p : List ℕ} → p ≡ 0x13 ∷ littleBytes numberWidth n → p ≡ recordAfter lent (termRead answer)
+  unfolding recordAfter bodyOf
+  integer-written e l w = w ∙ rw (e, unsigned-signed _ l)
+
+  pub decimal-written : {n : ℕ} → answer ≡ NumberAnswers.Decimal n → n < 2 ^ 64 → {p : List ℕ} → p ≡ 0x14 ∷ littleBytes numberWidth n → p ≡ recordAfter lent (termRead answer)
+  unfolding recordAfter bodyOf
+  decimal-written e l w = w ∙ rw (e, unsigned-signed _ l)

@@ -4,7 +4,8 @@ pub mod reports;
 
 ghost use mathlib.Core.Path.{_≡_};
 ghost use Rattle.definitions.specs.Outcome.{ok};
-ghost use Rattle.definitions.specs.Exports.{loadExport, runExport, pageExport, totalExport};
+ghost use Rattle.definitions.specs.Exports.{loadExport, runExport, pageExport, totalExport, numberExport};
+use definitions::NUMBER_RECORD_WIDTH;
 use definitions::PAGE_REPORT_WIDTH;
 use definitions::RUN_REPORT_WIDTH;
 use definitions::SAVED_WIDTH;
@@ -197,4 +198,18 @@ pub extern "C" fn willetcoffer_total(
     let answer = engine::total::total(terms, schema, script);
     reports::write_total_report(answer, report);
     reports::total_number(answer)
+}
+
+// Number: 1 for its record, then 16, 17.
+// Ruled out: a record of any length taken; a record written on a refusal.
+#[no_mangle]
+pub extern "C" fn willetcoffer_number(text: &[u8], record: &mut [u8]) -> u32
+    ensures { λ r. ⌜ numberExport (now (text .entry)) (now («record» .entry)) ≡ record { number = r; «record» = now («record» .exit) } ⌝ }
+{
+    if record.len() != NUMBER_RECORD_WIDTH {
+        return 1;
+    }
+    let answer = numbers::read_number(text);
+    reports::write_term(answer, record);
+    reports::refusal_number(answer)
 }

@@ -1,9 +1,13 @@
-// The numbers of the answers, and the reports of a run, of a page and of a total.
+// The numbers of the answers, the reports of a run, of a page and of a total, and the record of a number.
 ghost use mathlib.Core.Path.{_≡_};
-ghost use Rattle.definitions.specs.Numbers.{loadNumber, runNumber, pageNumber, totalNumber, stateNumber, wantedGraph};
-ghost use Rattle.definitions.specs.Limits.{runReportWidth, pageReportWidth, totalReportWidth};
-ghost use Rattle.definitions.specs.Exports.{runReport, pageReport, totalReport};
+ghost use mathlib.Core.List.{_∷_};
+ghost use Rattle.definitions.specs.Bytes.{littleBytes};
+ghost use Rattle.definitions.specs.Numbers.{loadNumber, runNumber, pageNumber, totalNumber, resultNumber, termRead, stateNumber, wantedGraph};
+ghost use Rattle.definitions.specs.Limits.{numberWidth, numberRecordWidth, runReportWidth, pageReportWidth, totalReportWidth};
+ghost use Rattle.definitions.specs.Exports.{runReport, pageReport, totalReport, recordAfter};
 use definitions::LoadAnswer;
+use definitions::NUMBER_RECORD_WIDTH;
+use definitions::NumberAnswer;
 use definitions::PageAnswer;
 use definitions::RunAnswer;
 use definitions::RunState;
@@ -47,6 +51,16 @@ pub fn total_number(answer: TotalAnswer) -> u32
     }
 }
 
+pub fn refusal_number(answer: NumberAnswer) -> u32
+    ensures { λ r. ⌜ r ≡ resultNumber (termRead answer) ⌝ }
+{
+    match answer {
+        NumberAnswer::Integer(_) => 0,
+        NumberAnswer::Decimal(_) => 0,
+        NumberAnswer::Refused(n) => n as u32,
+    }
+}
+
 fn state_number(state: RunState) -> u8
     ensures { λ r. ⌜ r ≡ stateNumber state ⌝ }
 {
@@ -78,7 +92,7 @@ pub fn write_run_report(answer: RunAnswer, out: &mut [u8])
     let RunAnswer::Ran(steps, state) = answer else {
         return;
     };
-    writing::write_number(steps, &mut out[0..4]);
+    writing::write_number(steps as u64, &mut out[0..4]);
     out[4] = state_number(state);
     out[5] = 0;
     writing::write_word(wanted_graph(state), &mut out[6..8]);
@@ -92,7 +106,7 @@ pub fn write_page_report(answer: PageAnswer, out: &mut [u8])
     let PageAnswer::Taken(skipped) = answer else {
         return;
     };
-    writing::write_number(skipped, out);
+    writing::write_number(skipped as u64, out);
 }
 
 // The total; a refused call leaves the report as it was.
@@ -103,5 +117,26 @@ pub fn write_total_report(answer: TotalAnswer, out: &mut [u8])
     let TotalAnswer::Total(steps) = answer else {
         return;
     };
-    writing::write_number(steps, out);
+    writing::write_number(steps as u64, out);
+}
+
+// A number's record.
+fn write_record(kind: u8, n: u64, out: &mut [u8])
+    requires { do ⌜ (← ⟦out.len()⟧) ≡ numberRecordWidth ⌝ }
+    ensures { λ r. ⌜ now (out .exit) ≡ kind ∷ littleBytes numberWidth n ⌝ }
+{
+    out[0] = kind;
+    writing::write_number(n, &mut out[1..NUMBER_RECORD_WIDTH]);
+}
+
+// The record of the term that a text reads as; a refused call leaves the record as it was.
+pub fn write_term(answer: NumberAnswer, out: &mut [u8])
+    requires { do ⌜ (← ⟦out.len()⟧) ≡ numberRecordWidth ⌝ }
+    ensures { λ r. ⌜ now (out .exit) ≡ recordAfter (now (out .entry)) (termRead answer) ⌝ }
+{
+    match answer {
+        NumberAnswer::Integer(n) => write_record(0x13, n, out),
+        NumberAnswer::Decimal(n) => write_record(0x14, n, out),
+        NumberAnswer::Refused(_) => {}
+    }
 }

@@ -8,7 +8,7 @@ use mathlib.Core.Logic.{⊎-elim}
 use native.Mathlib.Omega.{arith}
 use native.Mathlib.Nat.{pow-suc, div-lt-iff-lt-mul, mod-add-div}
 use lib.Dec.{T, T-not, eqb, leb, leb→le, eqb→eq}
-use lib.IntN.{ℤ, pos, negsuc, negℤ}
+use lib.IntN.{ℤ, pos, negsuc, natAbs, negℤ}
 use lib.Signed.{mag, leZ}
 use lib.ListN.{length, take, drop, replicate, length-append, length-replicate, length-take, length-drop, List·getD-eq-default}
 use lib.Seq.{getD-drop, getD-take}
@@ -49,6 +49,10 @@ take-bytes s n h i =
 
 pub part-bytes : (s : List ℕ) (at n : ℕ) → AreBytes s → AreBytes (part s at n)
 part-bytes s at n h = take-bytes (drop at s) n (drop-bytes s at h)
+
+-- a byte that is no zero lies within the bytes
+pub byte-within : (s : List ℕ) (i : ℕ) → (byte s i ≡ 0 → ⊥) → i < length s
+byte-within s i n = ⊎-elim (λ l. absurd (n (List·getD-eq-default s 0 {n = i} l))) (λ l. l) (split (length s) i)
 
 -- ── little endian numbers ───────────────────────────────────────────────────────────────────
 
@@ -116,6 +120,13 @@ unfolding withinLimits
 within-limits low high (pos n) l k h = let u = leb→le n high (andRight (leZ (negℤ (pos low)) (pos n)) (leb n high) h) in omega arith
 within-limits zero high (negsuc n) l k h = absurd h
 within-limits (suc low) high (negsuc n) l k h = let u = leb→le n low (andLeft (leb n low) true h) in omega arith
+
+-- a number within limits that are the same on both sides
+pub at-most : (limit : ℕ) (n : ℤ) → T (withinLimits limit limit n) → natAbs n ≤ limit
+unfolding withinLimits
+at-most limit (pos n) h = leb→le n limit (andRight (leZ (negℤ (pos limit)) (pos n)) (leb n limit) h)
+at-most zero (negsuc n) h = absurd h
+at-most (suc limit) (negsuc n) h = let u = leb→le n limit (andLeft (leb n limit) true h) in omega arith
 
 -- ── fields filled with zeros ────────────────────────────────────────────────────────────────
 

@@ -51,3 +51,4 @@ pub mod SlotAt
 pub mod Writing
 pub mod TestEquations
 pub mod Digits
+pub mod Numerals

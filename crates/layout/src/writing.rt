@@ -18,7 +18,7 @@ use definitions::SavedRun;
 use definitions::TYPES_OFFSET;
 
 // A number, little endian, in as many bytes as there are places.
-pub fn write_number(n: u32, out: &mut [u8])
+pub fn write_number(n: u64, out: &mut [u8])
     ensures { λ r. ⌜ now (out .exit) ≡ littleBytes (length (now (out .entry))) n ⌝ }
 {
     let mut rest = n;
@@ -36,7 +36,7 @@ pub fn write_word(n: u16, out: &mut [u8])
     requires { do ⌜ (← ⟦out.len()⟧) ≡ 2 ⌝ }
     ensures { λ r. ⌜ now (out .exit) ≡ littleBytes 2 n ⌝ }
 {
-    write_number(n as u32, out);
+    write_number(n as u64, out);
 }
 
 // Numbers one after the other.

@@ -8,7 +8,7 @@ use native.Mathlib.Numerals.{add-one}
 use mathlib.Core.Logic.{_⊎_, inl, inr, ⊎-elim}
 use native.Mathlib.Omega.{arith}
 use lib.Dec.{T, eqb, leb, leb→le, le→leb, eqb→eq}
-use lib.ListN.{length, drop, drop-of-length-le, List·getD-eq-default}
+use lib.ListN.{length, drop, drop-of-length-le}
 use lib.Seq.{drop-cons}
 use borrow.Author.Tests.{eq-eqb, ne-eqb, eqb-true, eqb-false}
 use Rattle.definitions.specs.Lists.{every}
@@ -29,10 +29,6 @@ ends b s e = rw (eq-eqb b 0 e, unfilled)
 goes-on : (b : ℕ) (s : List ℕ) → (b ≡ 0 → ⊥) → unfilled (b ∷ s) ≡ b ∷ unfilled s
 unfolding unfilled
 goes-on b s n = rw (ne-eqb b 0 n, unfilled)
-
--- a byte that is no zero lies within the field
-pub within : (s : List ℕ) (i : ℕ) → (byte s i ≡ 0 → ⊥) → i < length s
-within s i n = ⊎-elim (λ l. absurd (n (List·getD-eq-default s 0 {n = i} l))) (λ l. l) (split (length s) i)
 
 module _ (s : List ℕ) (i : ℕ) where
   pub rest-out : length s ≤ i → rest s i ≡ []

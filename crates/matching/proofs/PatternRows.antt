@@ -17,8 +17,9 @@ use Rattle.definitions.specs.Terms.{Text, fieldText, textByte}
 use Rattle.definitions.specs.Text.{Atom, any, literal, Piece, one, many, isAtom, atomOf, noLiteral, piecesOf, withPiece, star, dot, dollar, caret, Pattern, patternOf}
 use Rattle.definitions.specs.Text.{patternOfText, withStart, accepts}
 use Rattle.laws.proofs.Options.{some-is, provided-inv, onward-inv}
+use Rattle.laws.proofs.Bytes.{byte-within}
 use Rattle.matching.specs.Matching.{fits, anywhere, ahead, hits, RowFrom, Finds}
-use Rattle.matching.proofs.FieldLaws.{rest, rest-more, within, first-is, field-text, text-fits, text-byte, text-end}
+use Rattle.matching.proofs.FieldLaws.{rest, rest-more, first-is, field-text, text-fits, text-byte, text-end}
 use Rattle.matching.proofs.PatternLaws.{accepts-front, accepts-anywhere}
 
 -- ── pieces of a pattern's text ──────────────────────────────────────────────────────────────
@@ -236,7 +237,7 @@ text-other (b ∷ t) p n e = go (eqb b caret) refl e
     go false h c = let o = onward-inv (piecesOf (b ∷ t)) (λ r. some (withStart false r)) c in (o .0, o .1, sym (some-is (o .2)))
 
 caret-first : (f : List ℕ) → byte f 0 ≡ caret → rest f 0 ≡ caret ∷ rest f 1
-caret-first f c = let n : byte f 0 ≡ 0 → ⊥ = λ z. omega (arith, c, z) in rest-more f 0 (within f 0 n) n ∙ ap (λ a. a ∷ rest f 1) c
+caret-first f c = let n : byte f 0 ≡ 0 → ⊥ = λ z. omega (arith, c, z) in rest-more f 0 (byte-within f 0 n) n ∙ ap (λ a. a ∷ rest f 1) c
 
 module _ (f g : List ℕ) (at-start somewhere : Bool) where
   pub with-caret : byte f 0 ≡ caret → ((r : Pieces) → piecesOf (rest f 1) ≡ some r → Finds r (unfilled g) at-start somewhere)

@@ -17,8 +17,9 @@ use Rattle.definitions.specs.Text.{LanguageRange, anyTag, beginning, languageRa
 use Rattle.laws.proofs.Tests.{andLeft, andRight, trueIs}
 use Rattle.laws.proofs.Options.{some-is, provided-inv, onward-inv}
 use Rattle.laws.proofs.Equality.{same-bytes}
+use Rattle.laws.proofs.Bytes.{byte-within}
 use Rattle.matching.specs.Ranges.{endsAt}
-use Rattle.matching.proofs.FieldLaws.{rest, rest-out, rest-end, rest-more, rest-cases, within, first-is, field-text}
+use Rattle.matching.proofs.FieldLaws.{rest, rest-out, rest-end, rest-more, rest-cases, first-is, field-text}
 use Rattle.matching.proofs.Booleans.{or-none, and-both}
 
 -- ── a `-*` at the end ───────────────────────────────────────────────────────────────────────
@@ -74,7 +75,7 @@ module _ (f : List ℕ) (i : ℕ) (here : i < length f) where
         starred : byte f i ≡ hyphen → byte f (i + 1) ≡ star → rest f i ≡ hyphen ∷ star ∷ rest f (i + 1 + 1)
         starred p q =
             rest-more f i here (λ z. omega (arith, p, z))
-            ∙ (rw (rest-more f (i + 1) (within f (i + 1) (λ z. omega (arith, q, z))) (λ z. omega (arith, q, z))) (ap₂ (λ a b. a ∷ b ∷ rest f (i + 1 + 1)) p q))
+            ∙ (rw (rest-more f (i + 1) (byte-within f (i + 1) (λ z. omega (arith, q, z))) (λ z. omega (arith, q, z))) (ap₂ (λ a b. a ∷ b ∷ rest f (i + 1 + 1)) p q))
 
         go : (p : Bool) → eqb (byte f i) 0 ≡ p → withoutStar (rest f i) ≡ []
         go true h = rw (rest-end f i here (eqb-true (byte f i) 0 h))
@@ -178,7 +179,7 @@ module _ (f : List ℕ) where
   star-first : byte f 0 ≡ star → T (every tagByte (withoutStar (unfilled f))) → ⊥
   star-first e h =
       let n : byte f 0 ≡ 0 → ⊥ = λ z. omega (arith, e, z) in
-      star-stays (rest f 1) (subst (λ t. T (every tagByte (withoutStar t))) (rest-more f 0 (within f 0 n) n ∙ rw e) h)
+      star-stays (rest f 1) (subst (λ t. T (every tagByte (withoutStar t))) (rest-more f 0 (byte-within f 0 n) n ∙ rw e) h)
 
   pub accepts-tagged : (g : List ℕ) → byte f 0 ≡ star → (q : LanguageRange) → languageRangeOf f ≡ some q → not (eqb (byte g 0) 0) ≡ matches q (unfilled g)
   unfolding matches

@@ -18,6 +18,7 @@ use Rattle.definitions.specs.Tree.{Script}
 use Rattle.definitions.specs.Reading.{parsed}
 use Rattle.definitions.specs.Scope.{inScope}
 use Rattle.definitions.specs.Total.{totalOf}
+use Rattle.definitions.specs.Numerals.{numeralOf, termOf}
 use Rattle.definitions.specs.Typing.{writtenTypes, typings, above, Verdict, greatest, firstAbove, judge, verdict}
 use Rattle.definitions.specs.Outcome as Outcomes
 use Rattle.definitions.specs.Machine.{withProperties, taken, withPage, inLimits}
@@ -25,12 +26,13 @@ use Rattle.definitions.specs.Result.{Result, refused, passed, _>>=_, _>>_, requ
 use Rattle.definitions.specs.Calls.{recordTests, sizesFit, scriptTests, Parsed, readTests}
 use Rattle.definitions.specs.Calls.{Checked, constantsOf, typesOf, typeTests, check, Lent, lengthsFit, loadTests, loadResult, load, soundIn, entryTests}
 use Rattle.definitions.specs.Calls.{runIn, Running, runTests, ranOf, runResult, runCall}
-use Rattle.definitions.specs.Calls.{isGraph, pageIn, takeIn, Taking, pageTests, pageResult, pageCall, totalResult, total}
+use Rattle.definitions.specs.Calls.{isGraph, pageIn, takeIn, Taking, pageTests, pageResult, pageCall, totalResult, total, numberCall}
 use Rattle.definitions.specs.declared.SavedRun.{SavedRun}
 use Rattle.definitions.specs.declared.RunAnswer.the-variants as RunAnswers
 use Rattle.laws.proofs.Results.{by-bind, by-after}
 use Rattle.theorems.proofs.CallsPassed.{run-passed, run-fine, run-gives}
-use Rattle.theorems.specs.Demand1.{firstBroken, isThere, ifThere, readRules, loadRules, runRules, pageRules, LoadRefuses, RunRefuses, PageRefuses, TotalRefuses, Demand1}
+use Rattle.theorems.specs.Demand1.{firstBroken, isThere, ifThere, readRules, loadRules, runRules, pageRules, numberRules, LoadRefuses, RunRefuses, PageRefuses, TotalRefuses}
+use Rattle.theorems.specs.Demand1.{NumberRefuses, Demand1}
 
 -- ── the proof: tests follow a table ─────────────────────────────────────────────────────────
 
@@ -217,6 +219,17 @@ module _ (terms schema script : List ℕ) where
   total-refuses (refused n) (refuses e h) q = record { number = rw q e; answers = λ z. absurd (h (e ∙ z)) }
   total-refuses (passed x) (passes e) q = record { number = rw q (sym e); answers = λ z. (totalOf (x .root), rw q refl) }
 
+-- ── the proof: number ───────────────────────────────────────────────────────────────────────
+
+number-follows : (text : List ℕ) → Follows (numberCall text) (numberRules text)
+unfolding numberCall ifThere
+number-follows text =
+    there 16 (λ e. omega (arith, e)) (numeralOf text) λ n e. rw e (no-more (given 17 (termOf n)) (there 17 (λ e. omega (arith, e)) (termOf n) (λ t k. end)))
+
+number-refuses : (text : List ℕ) (r : Result Term) → Follows r (numberRules text) → numberCall text ≡ r → NumberRefuses text
+number-refuses text (refused n) (refuses e h) q = record { number = rw q e; answers = λ z. absurd (h (e ∙ z)) }
+number-refuses text (passed t) (passes e) q = record { number = rw q (sym e); answers = λ z. (t, q) }
+
 -- ── the theorem ─────────────────────────────────────────────────────────────────────────────
 
 pub demand-1 : Demand1
@@ -227,4 +240,5 @@ demand-1 = record {
   total = λ terms schema script.
       let r = readTests terms schema script in
       total-refuses terms schema script r (no-more r (read-follows terms schema script passed [] (λ listed S root e₂ e₄ e₆. end))) refl;
+  number = λ text. number-refuses text (numberCall text) (number-follows text) refl;
 }

@@ -8,13 +8,15 @@ use lib.Dec.{T, eqb}
 use lib.ListN.{length}
 use lib.IntN.{ℤ}
 use Rattle.definitions.specs.Bytes.{onward}
+use Rattle.definitions.specs.Terms.{Term}
 use Rattle.definitions.specs.Outcome.{ok, _>>=_}
+use Rattle.definitions.specs.Result.{Result, refused, passed}
 use Rattle.definitions.specs.Alphabet.{isAlphabet}
-use Rattle.definitions.specs.Calls.{Lent, lengthsFit, load, soundIn, pageCall, total}
-use Rattle.definitions.specs.Numbers.{loadNumber, runNumber, pageNumber, totalNumber}
-use Rattle.definitions.specs.Limits.{savedWidth, runReportWidth, pageReportWidth, totalReportWidth}
-use Rattle.definitions.specs.Exports.{savedFrom, runReport, pageReport, totalReport, savedAfter}
-use Rattle.definitions.specs.Exports.{loadExport, RunExport, runOn, runExport, pageOn, pageExport, ranExport, totalExport}
+use Rattle.definitions.specs.Calls.{Lent, lengthsFit, load, soundIn, pageCall, total, numberCall}
+use Rattle.definitions.specs.Numbers.{loadNumber, runNumber, pageNumber, totalNumber, resultNumber}
+use Rattle.definitions.specs.Limits.{savedWidth, runReportWidth, pageReportWidth, totalReportWidth, numberRecordWidth}
+use Rattle.definitions.specs.Exports.{savedFrom, runReport, pageReport, totalReport, savedAfter, recordAfter}
+use Rattle.definitions.specs.Exports.{loadExport, RunExport, runOn, runExport, pageOn, pageExport, ranExport, totalExport, numberExport}
 use Rattle.definitions.specs.declared.SavedRun.{SavedRun}
 use Rattle.definitions.specs.declared.RunAnswer.{RunAnswer}
 use Rattle.definitions.specs.declared.PageAnswer.{PageAnswer}
@@ -25,7 +27,7 @@ use Rattle.definitions.specs.declared.TotalAnswer.the-variants as TotalAnswers
 use Rattle.laws.proofs.Tests.{andLeft, isTrue, trueIs}
 use Rattle.theorems.specs.Demand1.{firstBroken, isThere, loadRules, runRules, pageRules}
 use Rattle.theorems.proofs.Demand1.{demand-1}
-use Rattle.theorems.specs.ExportRefusals.{buffersFit, loadBroken, LoadRefuses, RunRefuses, PageRefuses, TotalRefuses, ExportRefusals}
+use Rattle.theorems.specs.ExportRefusals.{buffersFit, loadBroken, LoadRefuses, RunRefuses, PageRefuses, TotalRefuses, NumberRefuses, ExportRefusals}
 
 -- ── the proof ───────────────────────────────────────────────────────────────────────────────
 
@@ -172,6 +174,22 @@ module _ (terms schema script report : List ℕ) where
         keeps = rw (e, totalExport) (λ h. total-report-kept (total terms schema script) (λ z. h (sym (d .number) ∙ z)));
       }
 
+module _ (text lent : List ℕ) where
+  record-kept : (r : Result Term) → (resultNumber r ≡ 0 → ⊥) → recordAfter lent r ≡ lent
+  unfolding recordAfter
+  record-kept (refused n) h = refl
+  record-kept (passed t) h = absurd (h refl)
+
+  number-refuses : (b : Bool) → eqb (length lent) numberRecordWidth ≡ b → NumberRefuses text lent
+  unfolding numberExport firstBroken
+  number-refuses false e = record { number = rw (e, numberExport) refl; keeps = λ h. rw (e, numberExport) refl }
+  number-refuses true e =
+      let d = demand-1 .number text in
+      record {
+        number = rw (e, numberExport) (d .number);
+        keeps = rw (e, numberExport) (λ h. record-kept (numberCall text) (λ z. h (sym (d .number) ∙ z)));
+      }
+
 -- ── the theorem ─────────────────────────────────────────────────────────────────────────────
 
 pub export-refusals : ExportRefusals
@@ -180,4 +198,5 @@ export-refusals = record {
   run = λ l saved budget now report. run-refuses l saved budget now report (buffersFit l saved report runReportWidth) (isAlphabet (l .ranks)) refl refl;
   page = λ l saved g page report. page-refuses l saved g page report (buffersFit l saved report pageReportWidth) (isAlphabet (l .ranks)) refl refl;
   total = λ terms schema script report. total-refuses terms schema script report (eqb (length report) totalReportWidth) refl;
+  number = λ text lent. number-refuses text lent (eqb (length lent) numberRecordWidth) refl;
 }

@@ -19,3 +19,6 @@ pub mod OneOrder
 pub mod Truths
 pub mod DemandsApply
 pub mod Alphabets
+pub mod NumeralForms
+pub mod PrintedDigits
+pub mod NumberTexts

@@ -24,9 +24,10 @@ use Rattle.definitions.specs.Scope.{inScope}
 use Rattle.definitions.specs.Typing.{writtenTypes, typings, above}
 use Rattle.definitions.specs.Outcome.{ok}
 use Rattle.definitions.specs.Machine.{withProperties, taken, withPage, inLimits}
-use Rattle.definitions.specs.Result.{given}
-use Rattle.definitions.specs.Calls.{constantsOf, sizesFit, Lent, lengthsFit, load, Sound, soundIn, runCall, isGraph, pageIn, pageCall, total}
-use Rattle.definitions.specs.Numbers.{loadNumber, runNumber, pageNumber, totalNumber}
+use Rattle.definitions.specs.Result.{passed, given}
+use Rattle.definitions.specs.Numerals.{numeralOf, termOf}
+use Rattle.definitions.specs.Calls.{constantsOf, sizesFit, Lent, lengthsFit, load, Sound, soundIn, runCall, isGraph, pageIn, pageCall, total, numberCall}
+use Rattle.definitions.specs.Numbers.{loadNumber, runNumber, pageNumber, totalNumber, resultNumber}
 use Rattle.definitions.specs.declared.SavedRun.{SavedRun}
 use Rattle.definitions.specs.declared.RunState.{RunState}
 use Rattle.definitions.specs.declared.Ran.{Ran}
@@ -105,6 +106,13 @@ pageRules lengths ranks found g page =
     ∷ (14, ifThere found (λ x. ifThere triples (λ rs. inLimits (withPage g (taken (x .checked .schema) g rs (x .state .store)) (x .state .store)))))
     ∷ []  -- 14: terms, quads or graphs would pass their limits
 
+-- A number: 16, 17.
+abbrev pub numberRules : (text : List ℕ) → List (ℕ × Bool)
+numberRules text =
+    (16, isThere (numeralOf text))  -- text not of this form or length
+    ∷ (17, ifThere (numeralOf text) (λ n. isThere (termOf n)))  -- value outside the kind's limits or no whole count of millionths
+    ∷ []
+
 -- ── the calls ───────────────────────────────────────────────────────────────────────────────
 
 -- the first rule broken by what a call is handed, 0 where none is
@@ -120,6 +128,9 @@ pageBroken l saved g page = firstBroken (pageRules (lengthsFit l) (l .ranks) (so
 -- the total: 2 to 7
 abbrev pub totalBroken : (terms schema script : List ℕ) → ℕ
 totalBroken terms schema script = firstBroken (readRules terms schema script)
+
+abbrev pub numberBroken : (text : List ℕ) → ℕ
+numberBroken text = firstBroken (numberRules text)
 
 pub record LoadRefuses (l : Lent) : Type 0 where
   -- the call gives the number of the first rule broken
@@ -144,13 +155,18 @@ pub record PageRefuses (l : Lent) (saved : SavedRun) (graph : ℕ) (page : List 
   pub answers : pageBroken l saved graph page ≡ 0
       → (skipped : ℕ) × (pageCall l saved graph page .returned .answer ≡ PageAnswers.Taken skipped)
 
--- the total is lent nothing that it writes
+-- the total and the number are lent nothing that they write
 pub record TotalRefuses (terms schema script : List ℕ) : Type 0 where
   pub number : totalNumber (total terms schema script) ≡ totalBroken terms schema script
   pub answers : totalBroken terms schema script ≡ 0 → (n : ℕ) × (total terms schema script ≡ TotalAnswers.Total n)
+
+pub record NumberRefuses (text : List ℕ) : Type 0 where
+  pub number : resultNumber (numberCall text) ≡ numberBroken text
+  pub answers : numberBroken text ≡ 0 → (t : Term) × (numberCall text ≡ passed t)
 
 pub record Demand1 : Type 0 where
   pub load : (l : Lent) → LoadRefuses l
   pub run : (l : Lent) (saved : SavedRun) (budget : ℕ) (now : ℤ) → RunRefuses l saved budget now
   pub page : (l : Lent) (saved : SavedRun) (graph : ℕ) (page : List ℕ) → PageRefuses l saved graph page
   pub total : (terms schema script : List ℕ) → TotalRefuses terms schema script
+  pub number : (text : List ℕ) → NumberRefuses text

@@ -1,5 +1,5 @@
--- Demand 1 at the C interface, where the saved run and the report are lent as bytes too and count as lent tables: the same tables of rules, and on a
--- refusal every lent buffer keeps its bytes.
+-- Demand 1 at the C interface, where the saved run and the report, or a record, are lent as bytes too and count as lent tables: the same tables of rules,
+-- and on a refusal every lent buffer keeps its bytes.
 use Prim.Native.Nat.{ℕ}
 use mathlib.Core.Path.{_≡_}
 use mathlib.Core.List.{List, _∷_}
@@ -11,9 +11,9 @@ use lib.IntN.{ℤ}
 use Rattle.definitions.specs.Bytes.{onward}
 use Rattle.definitions.specs.Outcome.{ok}
 use Rattle.definitions.specs.Calls.{Lent, lengthsFit, load, Sound, soundIn}
-use Rattle.definitions.specs.Limits.{savedWidth, runReportWidth, pageReportWidth, totalReportWidth}
-use Rattle.definitions.specs.Exports.{savedFrom, loadExport, RunExport, runExport, pageExport, totalExport}
-use Rattle.theorems.specs.Demand1.{firstBroken, readRules, loadRules, runRules, pageRules}
+use Rattle.definitions.specs.Limits.{savedWidth, runReportWidth, pageReportWidth, totalReportWidth, numberRecordWidth}
+use Rattle.definitions.specs.Exports.{savedFrom, loadExport, RunExport, runExport, pageExport, totalExport, numberExport}
+use Rattle.theorems.specs.Demand1.{firstBroken, readRules, loadRules, runRules, pageRules, numberRules}
 
 -- bytes that no saved run has are unsound
 abbrev pub soundBytes : Lent → (saved : List ℕ) → Option Sound
@@ -36,6 +36,9 @@ pageBroken l saved g page report = firstBroken (pageRules (buffersFit l saved re
 abbrev pub totalBroken : (terms schema script report : List ℕ) → ℕ
 totalBroken terms schema script report = firstBroken ((1, eqb (length report) totalReportWidth) ∷ readRules terms schema script)
 
+abbrev pub numberBroken : (text lent : List ℕ) → ℕ
+numberBroken text lent = firstBroken ((1, eqb (length lent) numberRecordWidth) ∷ numberRules text)
+
 pub record LoadRefuses (l : Lent) (saved : List ℕ) : Type 0 where
   pub number : loadExport l saved .number ≡ loadBroken l saved
   pub keeps : (loadBroken l saved ≡ 0 → ⊥) → let r = loadExport l saved in
@@ -56,8 +59,13 @@ pub record TotalRefuses (terms schema script report : List ℕ) : Type 0 where
   pub number : totalExport terms schema script report .number ≡ totalBroken terms schema script report
   pub keeps : (totalBroken terms schema script report ≡ 0 → ⊥) → totalExport terms schema script report .report ≡ report
 
+pub record NumberRefuses (text lent : List ℕ) : Type 0 where
+  pub number : numberExport text lent .number ≡ numberBroken text lent
+  pub keeps : (numberBroken text lent ≡ 0 → ⊥) → numberExport text lent .«record» ≡ lent
+
 pub record ExportRefusals : Type 0 where
   pub load : (l : Lent) (saved : List ℕ) → LoadRefuses l saved
   pub run : (l : Lent) (saved : List ℕ) (budget : ℕ) (now : ℤ) (report : List ℕ) → RunRefuses l saved budget now report
   pub page : (l : Lent) (saved : List ℕ) (graph : ℕ) (page report : List ℕ) → PageRefuses l saved graph page report
   pub total : (terms schema script report : List ℕ) → TotalRefuses terms schema script report
+  pub number : (text lent : List ℕ) → NumberRefuses text lent

@@ -11,3 +11,4 @@ pub mod ExactSteps
 pub mod OneOrder
 pub mod Truths
 pub mod Alphabets
+pub mod NumberTexts

@@ -20,11 +20,12 @@ use Rattle.definitions.specs.Values.{Value as Meant, whole, millionths, numberI
 use Rattle.laws.proofs.NoFault.{ok-is, no-fault}
 use Rattle.laws.proofs.Tests.{andMake, andLeft, andRight}
 use Rattle.laws.proofs.Options.{some-is, some-not-none, provided-holds}
+use Rattle.laws.proofs.Bytes.{at-most}
 use Rattle.values.specs.declared.Value.{Value}
 use Rattle.values.specs.Meaning.{meaning, where?, numberOf, Field, Good, Gives}
 use Rattle.values.specs.Means.{Holds}
 use Rattle.values.specs.NumberKinds.{held, numbered, inKind, commonKind, countedIn}
-use Rattle.values.proofs.SignedLaws.{at-most, mag-abs, abs-scaled}
+use Rattle.values.proofs.SignedLaws.{mag-abs, abs-scaled}
 use Rattle.values.proofs.KindLaws.{View, view, as-integer, as-decimal, as-dateTime, as-string, as-uri}
 
 -- ── limits ──────────────────────────────────────────────────────────────────────────────────

@@ -3,24 +3,18 @@ use Prim.Native.Nat.{ℕ, zero, suc, _+_, _*_, _-_, _^_, _<_, _≤_}
 use mathlib.Core.Bool.{Bool, true, false, cond}
 use mathlib.Core.Path.{_≡_, refl, sym, ap, ap₂, _∙_, subst}
 use native.Mathlib.Omega.{arith}
-use lib.Dec.{T, ltb, leb, eqb, leb→le}
+use lib.Dec.{T, ltb, eqb}
 use lib.IntN.{ℤ, pos, negsuc, natAbs, negℤ, _+ℤ_, _-ℤ_, _*ℤ_}
-use lib.Signed.{mag, leZ, ltZ}
+use lib.Signed.{mag, ltZ}
 use borrow.Author.Tests.{ltb-true, eqb-true, eqb-false, eq-eqb, ne-eqb}
 use mir.Syntax.{w64}
 use mir.Val.{SFits, toZ, ofZ}
 use mir.Facts.{toZ-ofZ}
 use Rattle.definitions.specs.Limits.{integerLimit, decimalLimit}
 use Rattle.definitions.specs.Terms.{withinLimits, isInteger, isDecimal, sameNumber}
-use Rattle.laws.proofs.Tests.{andLeft, andRight}
+use Rattle.laws.proofs.Bytes.{at-most}
 
 -- ── sizes ───────────────────────────────────────────────────────────────────────────────────
-
-pub at-most : (limit : ℕ) (n : ℤ) → T (withinLimits limit limit n) → natAbs n ≤ limit
-unfolding withinLimits
-at-most limit (pos n) h = leb→le n limit (andRight (leZ (negℤ (pos limit)) (pos n)) (leb n limit) h)
-at-most zero (negsuc n) h = absurd h
-at-most (suc limit) (negsuc n) h = let u = leb→le n limit (andLeft (leb n limit) true h) in omega arith
 
 pub mag-abs : (n : ℤ) → mag n ≤ natAbs n
 mag-abs (pos n) = omega arith

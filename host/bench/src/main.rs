@@ -10,6 +10,7 @@ mod calls;
 mod case;
 mod filters;
 mod names;
+mod numbers;
 mod stock;
 mod texts;
 
@@ -19,7 +20,7 @@ use compare::call::{Answer, Call, Engine, Station};
 use std::error::Error;
 use std::time::{Duration, Instant};
 use texts::Texts;
-use willetcoffer::limits::BUDGET_LIMIT;
+use willetcoffer::limits::{BUDGET_LIMIT, NUMBER_RECORD_WIDTH};
 use willetcoffer::{BadTerm, RunReport, State};
 
 /// The table.
@@ -33,27 +34,33 @@ struct Bench {
 }
 
 impl Bench {
-    /// Times a call on copies of the station, the engines taking turns; the least time of each and the answer, which must
-    /// be the same.
-    fn time(&self, station: &Station, call: &Call) -> ([Duration; 2], Answer) {
+    /// The least time of each engine, which take turns, and what their work gives, which must be the same.
+    fn least<T: PartialEq>(&self, work: impl Fn(&dyn Engine) -> (Duration, T)) -> ([Duration; 2], T) {
         let mut least = [Duration::MAX; 2];
-        let mut first: Option<(Answer, Station)> = None;
+        let mut first = None;
         let start = Instant::now();
         let mut rounds = 0;
         while rounds < 7 || (rounds < 2001 && start.elapsed() < self.patience) {
             for (engine, least) in self.engines.iter().zip(&mut least) {
-                let mut copy = station.clone();
-                let begin = Instant::now();
-                let answer = copy.call(&**engine, call);
-                *least = begin.elapsed().min(*least);
-                let result = (answer, copy);
+                let (time, result) = work(&**engine);
+                *least = time.min(*least);
                 assert!(first.as_ref().is_none_or(|first| *first == result), "the engines disagree");
                 first.get_or_insert(result);
             }
             rounds += 1;
         }
-        let (answer, _) = first.expect("each workload is timed");
-        (least, answer)
+        (least, first.expect("each workload is timed"))
+    }
+
+    /// Times a call on copies of the station.
+    fn time(&self, station: &Station, call: &Call) -> ([Duration; 2], Answer) {
+        let (times, (answer, _)) = self.least(|engine| {
+            let mut copy = station.clone();
+            let begin = Instant::now();
+            let answer = copy.call(engine, call);
+            (begin.elapsed(), (answer, copy))
+        });
+        (times, answer)
     }
 
     fn row(&self, name: &str, size: &str, station: &Station, call: &Call) {
@@ -69,15 +76,25 @@ impl Bench {
             }
             _ => None,
         };
-        let micros = |time: &Duration| time.as_secs_f64() * 1e6;
-        let mut line = format!("{name:34} {size:>10}");
-        line += &answers.map_or(format!("{:>8}", "-"), |n| format!("{n:>8}"));
-        for time in &times {
-            line += &format!("{:>12.1}", micros(time));
-            line +=
-                &answers.map_or(format!("{:>10}", "-"), |n| format!("{:>10.2}", micros(time) / f64::from(n.max(1))));
+        print_row(name, size, answers, times);
+    }
+
+    /// Texts of numbers, read one after the other; each is an answer.
+    fn numbers(&self) {
+        for (name, texts) in numbers::workloads() {
+            if !name.contains(&self.only) {
+                continue;
+            }
+            let (times, (codes, _)) = self.least(|engine| {
+                let mut records = vec![[0; NUMBER_RECORD_WIDTH]; texts.len()];
+                let begin = Instant::now();
+                let read = texts.iter().zip(&mut records).map(|(text, record)| engine.number(text.as_bytes(), record));
+                let codes: Vec<u32> = read.collect();
+                (begin.elapsed(), (codes, records))
+            });
+            assert!(codes.iter().all(|code| *code == 0), "{name}");
+            print_row(name, &format!("{} texts", texts.len()), Some(texts.len() as u32), times);
         }
-        println!("{line}{:>8.2}", micros(&times[1]) / micros(&times[0]));
     }
 
     /// Single calls at the limits.
@@ -165,6 +182,17 @@ impl Bench {
     }
 }
 
+fn print_row(name: &str, size: &str, answers: Option<u32>, times: [Duration; 2]) {
+    let micros = |time: &Duration| time.as_secs_f64() * 1e6;
+    let mut line = format!("{name:34} {size:>10}");
+    line += &answers.map_or(format!("{:>8}", "-"), |n| format!("{n:>8}"));
+    for time in &times {
+        line += &format!("{:>12.1}", micros(time));
+        line += &answers.map_or(format!("{:>10}", "-"), |n| format!("{:>10.2}", micros(time) / f64::from(n.max(1))));
+    }
+    println!("{line}{:>8.2}", micros(&times[1]) / micros(&times[0]));
+}
+
 fn main() -> Result<(), Box<dyn Error>> {
     let engines: [Box<dyn Engine>; 2] = [Box::new(fast()), Box::new(Archive)];
     let mut head = format!("{:34} {:>10}{:>8}", "workload", "size", "answers");
@@ -181,5 +209,6 @@ fn main() -> Result<(), Box<dyn Error>> {
         [] => {}
     }
     bench.calls(&reference)?;
+    bench.numbers();
     Ok(bench.searches(&reference)?)
 }

@@ -3,6 +3,7 @@
 pub mod archive;
 pub mod engine;
 pub mod evaluator;
+pub mod number;
 pub mod printer;
 pub mod program;
 mod station;

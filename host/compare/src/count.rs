@@ -2,6 +2,7 @@
 
 mod coverage;
 pub mod kinds;
+mod numbers;
 pub mod texts;
 
 pub use coverage::Coverage;

@@ -3,6 +3,7 @@
 pub mod damage;
 pub mod first;
 pub mod next;
+pub mod numbers;
 pub mod odd;
 pub mod pages;
 pub mod pool;

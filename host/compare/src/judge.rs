@@ -1,5 +1,6 @@
 //! Judging: what two engines owe each other on one call, and what either of them promises.
 
+pub mod numbers;
 mod old;
 pub mod ranks;
 mod stores;
@@ -41,6 +42,12 @@ pub enum Breach {
     Total,
     /// Two stations with the same terms by number and the same quads have other bytes.
     Stores,
+    /// A text was not read as what it was written for.
+    Written,
+    /// A record that no reading of its text gives: no number's, or one of the other kind.
+    Record,
+    /// The text that str gives for a number that was read is read otherwise.
+    Again,
     /// What the type printers wrote differs.
     Printer,
     /// What an evaluator of tuples wrote is not what the definitions give.

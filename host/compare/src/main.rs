@@ -1,4 +1,4 @@
-//! `compare --cases N --seed S`: random cases for two engines. The work is the library's; here stand the options and the report.
+//! `compare --cases N --numbers N --seed S`: random cases and texts of numbers for two engines. The work is the library's; here stand the options and the report.
 #![forbid(unsafe_code)]
 
 use compare::call::archive::Archive;
@@ -9,13 +9,15 @@ use compare::call::Engine;
 use compare::count::Coverage;
 use compare::run::{Compare, Outcome, Plan};
 use std::process::ExitCode;
-use std::time::Instant;
+use std::time::{Duration, Instant};
 
 const HELP: &str = "compare [options]
   --cases N            how many cases (50000)
+  --numbers N          how many texts of numbers after them (20000)
   --seed S             their seed (1)
   --from I             the index of the first (0)
   --case S:I           one case again, with all its calls
+  --number S:I         one text of a number again
   --engines A,B        two of second, plain, archive (second,archive)
   --printer PATH       a type printer to compare on some cases
   --printer-every K    which ones: each K-th (20)
@@ -24,7 +26,7 @@ const HELP: &str = "compare [options]
   --differences N      go on until so many differences (1)
   --trace              say each case's index before it begins, on standard error, to find one that does not return";
 
-/// From so many cases on, what was met too rarely fails.
+/// From so many cases, or texts of numbers, on, what was met too rarely fails.
 const LONG: u64 = 20_000;
 
 /// Which cases a program is given where nothing is said: each so-manieth.
@@ -37,34 +39,42 @@ struct Options {
     evaluator: Evaluator,
 }
 
+fn number(text: &str) -> Result<u64, String> {
+    text.parse().map_err(|_| format!("{text} is no number"))
+}
+
+/// Makes a plan of the one case or text of a number that is to be made again.
+fn again(plan: &mut Plan, option: &str, text: &str) -> Result<(), String> {
+    let (seed, index) = text.split_once(':').ok_or(format!("{option} wants SEED:INDEX"))?;
+    (plan.seed, plan.from, plan.printed) = (number(seed)?, number(index)?, true);
+    (plan.cases, plan.numbers) = if option == "--case" { (1, 0) } else { (0, 1) };
+    Ok(())
+}
+
 fn options() -> Result<Options, String> {
-    let mut plan = Plan { seed: 1, from: 0, cases: 50_000, printed: false, differences: 1, trace: false };
+    let (cases, numbers) = (50_000, LONG);
+    let mut plan = Plan { seed: 1, from: 0, cases, numbers, printed: false, differences: 1, trace: false };
     let mut engines = ["second", "archive"].map(String::from);
     let (mut printer, mut evaluator) = ((None, EVERY), (None, EVERY));
     let mut arguments = std::env::args().skip(1);
     while let Some(argument) = arguments.next() {
         let mut value = || arguments.next().ok_or(format!("{argument} wants a value"));
-        let number = |text: String| text.parse::<u64>().map_err(|_| format!("{text} is no number"));
         match argument.as_str() {
-            "--cases" => plan.cases = number(value()?)?,
-            "--seed" => plan.seed = number(value()?)?,
-            "--from" => plan.from = number(value()?)?,
-            "--case" => {
-                let text = value()?;
-                let (seed, index) = text.split_once(':').ok_or("--case wants SEED:INDEX")?;
-                (plan.seed, plan.from) = (number(seed.into())?, number(index.into())?);
-                (plan.cases, plan.printed) = (1, true);
-            }
+            "--cases" => plan.cases = number(&value()?)?,
+            "--numbers" => plan.numbers = number(&value()?)?,
+            "--seed" => plan.seed = number(&value()?)?,
+            "--from" => plan.from = number(&value()?)?,
+            "--case" | "--number" => again(&mut plan, &argument, &value()?)?,
             "--engines" => {
                 let names: Vec<String> = value()?.split(',').map(String::from).collect();
                 engines = names.try_into().map_err(|_| "--engines wants two")?;
             }
             "--printer" => printer.0 = Some(value()?.into()),
-            "--printer-every" => printer.1 = number(value()?)?,
+            "--printer-every" => printer.1 = number(&value()?)?,
             "--evaluator" => evaluator.0 = Some(value()?.into()),
-            "--evaluator-every" => evaluator.1 = number(value()?)?,
+            "--evaluator-every" => evaluator.1 = number(&value()?)?,
             "--trace" => plan.trace = true,
-            "--differences" => plan.differences = number(value()?)? as usize,
+            "--differences" => plan.differences = number(&value()?)? as usize,
             _ => return Err(HELP.to_string()),
         }
     }
@@ -81,43 +91,53 @@ fn engine(name: &str) -> Result<Box<dyn Engine>, String> {
     }
 }
 
-/// Prints how many cases of which engines differed, and their slowest calls.
-fn report(plan: &Plan, engines: [&dyn Engine; 2], outcome: &Outcome, start: Instant) {
-    let [a, b] = engines.map(|engine| engine.name());
-    let seconds = start.elapsed().as_secs_f64();
-    let (cases, seed, differences) = (plan.cases, plan.seed, outcome.differences);
-    println!("{cases} cases from seed {seed}, {a} against {b}: {differences} differences in {seconds:.1} s");
-    for (name, (time, index)) in [a, b].into_iter().zip(outcome.slowest) {
+/// Prints how many cases and texts of which engines differed, and the slowest calls of the cases.
+fn report(plan: &Plan, engines: [&dyn Engine; 2], outcome: &Outcome, numbers: usize, times: [Duration; 2]) {
+    let names = engines.map(|engine| engine.name());
+    let seed = plan.seed;
+    let counts = [(plan.cases, "cases", outcome.differences), (plan.numbers, "texts of numbers", numbers)];
+    for ((count, what, differences), time) in counts.into_iter().zip(times).filter(|((count, ..), _)| *count > 0) {
+        let (against, seconds) = (names.join(" against "), time.as_secs_f64());
+        println!("{count} {what} from seed {seed}, {against}: {differences} differences in {seconds:.1} s");
+    }
+    for (name, (time, index)) in names.into_iter().zip(outcome.slowest).filter(|_| plan.cases > 0) {
         println!("slowest call of {name}: {:.1} ms in case {seed}:{index}", time.as_secs_f64() * 1e3);
     }
+}
+
+/// Whether all that is required of so many was met often enough, or they are few; what was not is said.
+fn met(missing: &[String], count: u64, printed: bool) -> bool {
+    let long = count >= LONG;
+    if count > 0 && !missing.is_empty() && !printed {
+        let word = if long { "MET TOO RARELY" } else { "met too rarely for a long run" };
+        println!("{word}: {}", missing.join("; "));
+    }
+    missing.is_empty() || !long
 }
 
 /// Whether nothing differed and, in a long run, everything was met often enough.
 fn compare() -> Result<bool, String> {
     let Options { plan, engines: [a, b], printer, evaluator } = options()?;
     let (a, b) = (engine(&a)?, engine(&b)?);
-    let start = Instant::now();
     let mut compare = Compare { engines: [&*a, &*b], printer, evaluator, coverage: Coverage::default() };
-    let outcome = compare.run(&plan);
+    let (start, outcome) = (Instant::now(), compare.run(&plan));
+    let (between, numbers) = (Instant::now(), compare.numbers(&plan));
+    let times = [between - start, between.elapsed()];
     let Compare { mut coverage, printer, evaluator, engines } = compare;
-    for (name, count) in a.counts().into_iter().chain(b.counts()) {
+    for (name, count) in a.counts().into_iter().chain(b.counts()).filter(|_| plan.cases > 0) {
         coverage.add_many("by definition", name, count);
     }
     print!("{}", coverage.table());
-    let missing = coverage.missing(plan.cases);
-    let long = plan.cases >= LONG;
-    if !missing.is_empty() && !plan.printed {
-        let word = if long { "MET TOO RARELY" } else { "met too rarely for a long run" };
-        println!("{word}: {}", missing.join("; "));
-    }
-    report(&plan, engines, &outcome, start);
+    let all_met = met(&coverage.missing(plan.cases), plan.cases, plan.printed)
+        & met(&coverage.missing_of_numbers(), plan.numbers, plan.printed);
+    report(&plan, engines, &outcome, numbers, times);
     if let Some(printer) = &printer {
         println!("the type printer saw {} of them", printer.seen);
     }
     if evaluator.program.is_some() {
         println!("the evaluator saw {} tuples", evaluator.tuples);
     }
-    Ok(outcome.differences == 0 && (missing.is_empty() || !long))
+    Ok(outcome.differences + numbers == 0 && all_met)
 }
 
 fn main() -> ExitCode {

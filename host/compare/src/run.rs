@@ -1,4 +1,6 @@
-//! Case after case: differences printed, each with a smaller case that shows it too.
+//! Case after case, and text after text: differences printed, each with a smaller case or text that shows it too.
+
+mod numbers;
 
 use crate::before;
 use crate::call::evaluator::Evaluator;
@@ -12,7 +14,7 @@ use crate::shrink::{shrink, Patience};
 use std::panic::{catch_unwind, AssertUnwindSafe};
 use std::time::Duration;
 
-/// Which cases, and when to stop.
+/// Which cases and texts of numbers, and when to stop.
 #[derive(Clone, Debug)]
 pub struct Plan {
     /// Their seed.
@@ -21,9 +23,11 @@ pub struct Plan {
     pub from: u64,
     /// How many.
     pub cases: u64,
+    /// How many texts of numbers.
+    pub numbers: u64,
     /// Whether each call is printed.
     pub printed: bool,
-    /// Go on until so many differences.
+    /// Go on until so many differences, of cases and of texts each.
     pub differences: usize,
     /// Whether each case's index is said before it begins.
     pub trace: bool,
@@ -150,10 +154,15 @@ fn card_in_words(replay: &Replay) -> String {
     format!("card {}\n", bytes.join(" "))
 }
 
-/// Runs a case; an engine that panics is a difference too.
+/// Runs a case.
 fn guarded(case: &mut Case) -> Result<(), Difference> {
-    let run = AssertUnwindSafe(|| case.run());
-    catch_unwind(run).unwrap_or_else(|_| Err(Difference::new(Breach::Panic, "an engine panicked".to_string())))
+    unless_panicked(|| case.run())
+}
+
+/// An engine that panics is a difference too.
+fn unless_panicked<T>(work: impl FnOnce() -> Result<T, Difference>) -> Result<T, Difference> {
+    let panicked = || Difference::new(Breach::Panic, "an engine panicked".to_string());
+    catch_unwind(AssertUnwindSafe(work)).unwrap_or_else(|_| Err(panicked()))
 }
 
 /// Without a word about panics: while a case is cut down, an engine may panic over and over.

@@ -1,6 +1,9 @@
 //! Shrinking: a case that shows a difference is cut down, piece by piece, while it still shows one of the same sort.
 
+mod text;
 pub mod tree;
+
+pub use text::shrink_text;
 
 use crate::call::Call;
 use crate::records::{self, numbered};

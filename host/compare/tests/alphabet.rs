@@ -259,6 +259,10 @@ impl Engine for Remembers {
         station.ranks = ranks;
         code
     }
+
+    fn number(&self, text: &[u8], record: &mut [u8]) -> u32 {
+        fast().number(text, record)
+    }
 }
 
 #[test]

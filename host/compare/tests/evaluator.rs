@@ -141,6 +141,10 @@ impl Engine for Lines {
         fast().call(station, call, report)
     }
 
+    fn number(&self, text: &[u8], record: &mut [u8]) -> u32 {
+        fast().number(text, record)
+    }
+
     fn evaluate(&self, input: &[u8]) -> Option<String> {
         fast().evaluate(input).map(self.0)
     }

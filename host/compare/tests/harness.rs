@@ -278,6 +278,10 @@ impl Engine for Wrong {
             Call::Total { .. } => self.total(station, call, report),
         }
     }
+
+    fn number(&self, text: &[u8], record: &mut [u8]) -> u32 {
+        fast().number(text, record)
+    }
 }
 
 impl Wrong {

@@ -3,8 +3,11 @@
 
 use crate::check::{check, read, Typer};
 use crate::eval::{Fault, Quad, Store};
-use crate::limits::{BUDGET, PAGE_REPORT, QUAD_TABLE, RUN_REPORT, SAVED, SLOT, TERM_TABLE, TOTAL_REPORT};
+use crate::limits::{
+    BUDGET, NUMBER_RECORD, PAGE_REPORT, QUAD_TABLE, RUN_REPORT, SAVED, SLOT, TERM_TABLE, TOTAL_REPORT,
+};
 use crate::machine::{Machine, State, World};
+use crate::number::{self, Reading};
 use crate::order::{self, Order};
 use crate::rank::{self, Alphabet, Ranks};
 use crate::refusal::{demand, refuse, Refusal};
@@ -16,7 +19,7 @@ use crate::term::is_second;
 use crate::terms::Terms;
 use crate::{arcs, assignments, page as pages};
 
-/// An engine: how it works out types, keeps quads in order, takes ranks and finds answers.
+/// An engine: how it works out types, keeps quads in order, takes ranks, reads numbers and finds answers.
 #[derive(Clone, Copy)]
 pub struct Engine<'a> {
     /// How types are worked out.
@@ -25,6 +28,8 @@ pub struct Engine<'a> {
     pub order: Order,
     /// How ranks are tested and followed.
     pub alphabet: Alphabet,
+    /// How the texts of numbers are read.
+    pub reading: Reading,
     /// How answers are found.
     pub search: &'a dyn Search,
 }
@@ -68,12 +73,14 @@ pub(crate) fn faulted(fault: Fault) -> Refusal {
 impl Engine<'_> {
     /// The fast engine.
     pub const fn fast() -> Engine<'static> {
-        Engine { typer: arcs::solve, order: order::FAST, alphabet: rank::FAST, search: &Seek }
+        let (order, alphabet, reading) = (order::FAST, rank::FAST, number::fast);
+        Engine { typer: arcs::solve, order, alphabet, reading, search: &Seek }
     }
 
     /// The engine by the definitions.
     pub const fn plain() -> Engine<'static> {
-        Engine { typer: assignments::solve, order: order::PLAIN, alphabet: rank::PLAIN, search: &Naive }
+        let (order, alphabet, reading) = (order::PLAIN, rank::PLAIN, number::plain);
+        Engine { typer: assignments::solve, order, alphabet, reading, search: &Naive }
     }
 
     /// Refusal 21, straight after 1: whether each rank stands once.
@@ -166,6 +173,13 @@ impl Engine<'_> {
         let report = lent::<TOTAL_REPORT>(report)?;
         let (_, _, script) = read(terms, schema, script)?;
         *report = (script.total().unwrap_or(0) as u32).to_le_bytes();
+        Ok(())
+    }
+
+    /// Reads the text of a number: writes the record of its term. It is lent neither card nor tables.
+    pub fn number(&self, text: &[u8], record: &mut [u8]) -> Outcome {
+        let record = lent::<NUMBER_RECORD>(record)?;
+        record.copy_from_slice(&(self.reading)(text)?.record());
         Ok(())
     }
 }

@@ -12,9 +12,10 @@
 //! | first answer of a block | [`search::Naive`]: every tuple, all parts evaluated | [`seek::Seek`]: driven by the patterns |
 //! | ranks, and the order of strings | [`rank::PLAIN`]: each rank counted, texts taken apart | [`rank::FAST`]: a set of bits, the first difference |
 //! | order of the quads | [`order::PLAIN`]: each before all after it | [`order::FAST`]: a quad as one number |
+//! | the number of a text | [`number::plain`]: by the form, in whole numbers of any size | [`number::fast`]: one pass, each digit at its place |
 //! | outcome and count of a tuple | [`count`]: all parts evaluated, then counted by their outcomes | [`early`]: one walk that leaves parts out |
 //!
-//! An [`Engine`] holds a typer, an order, an alphabet and a search; [`Engine::fast`] and [`Engine::plain`] are the two that the comparison uses. The
+//! An [`Engine`] holds a typer, an order, an alphabet, a reading of numbers and a search; [`Engine::fast`] and [`Engine::plain`] are the two that the comparison uses. The
 //! calls take and give the bytes of the C interface; each returns nothing, or its refusal.
 //!
 //! It shares no code with the rest of the workspace: limits, offsets and records stand here in its own words, so that a slip
@@ -37,6 +38,7 @@ pub mod lang;
 pub mod limits;
 pub mod machine;
 pub mod note;
+pub mod number;
 pub mod order;
 pub mod page;
 pub mod pattern;
@@ -57,6 +59,7 @@ pub mod terms;
 pub mod truth;
 pub mod types;
 pub mod value;
+pub mod whole;
 pub mod write;
 
 pub use calls::Engine;

@@ -1,4 +1,4 @@
-//! The limits and widths of document 01, as document 02's Ask 6 has them, each named once.
+//! The limits and widths of documents 01 and 02, each named once.
 
 /// Bytes of URI text and of string text in a record.
 pub const TEXT: usize = 96;
@@ -44,6 +44,10 @@ pub const RUN_REPORT: usize = 8;
 pub const PAGE_REPORT: usize = 4;
 /// Bytes of a total call's report.
 pub const TOTAL_REPORT: usize = 4;
+/// Bytes of a number's text, at most.
+pub const NUMBER_TEXT: usize = 40;
+/// Bytes of a number's record: kind and count.
+pub const NUMBER_RECORD: usize = 9;
 /// Steps of one run call, at most.
 pub const BUDGET: u64 = 60_000;
 /// Bytes of a page, at most.

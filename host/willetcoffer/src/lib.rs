@@ -34,6 +34,8 @@
 //! # Ok::<(), Box<dyn std::error::Error>>(())
 //! ```
 //!
+//! A number that a maker prints, `126.4` or `0.999e2`, is read as a term by [`number()`], exactly.
+//!
 //! Strings are sorted by the [`ranks`] that are lent with the tables: the built-in ones, or a club's own.
 //!
 //! What is behind a call is proved, for every input: [`raw`] is the boundary to it, and the only place in this workspace with
@@ -52,12 +54,14 @@ pub mod script;
 pub mod term;
 
 mod card;
+mod number;
 mod refusal;
 mod report;
 mod tables;
 mod types;
 
 pub use card::Card;
+pub use number::number;
 pub use refusal::Refusal;
 pub use report::{PageReport, RunReport, State};
 pub use saved::{SavedRun, StackItem};

@@ -57,6 +57,8 @@ pub const PAIR_LIMIT: usize = 4;
 pub const BUDGET_LIMIT: u64 = 60_000;
 /// Bytes of a page, at most.
 pub const PAGE_LIMIT: usize = 65_536;
+/// Bytes of a number's text, at most.
+pub const NUMBER_TEXT_LIMIT: usize = 40;
 /// Largest amount of an integer.
 pub const INTEGER_LIMIT: i64 = 1_000_000_000_000;
 /// Largest amount of a decimal, in millionths.
@@ -72,6 +74,8 @@ pub const RANKS_WIDTH: usize = 95;
 pub const TERM_TABLE_WIDTH: usize = TERM_LIMIT * SLOT_WIDTH;
 /// Bytes of the quad table.
 pub const QUAD_TABLE_WIDTH: usize = QUAD_LIMIT * QUAD_WIDTH;
+/// Bytes of the record that a number call writes: kind and count.
+pub const NUMBER_RECORD_WIDTH: usize = 1 + NUMBER_WIDTH;
 /// Bytes of a schema of all its entries.
 pub const SCHEMA_WIDTH: usize = ENTRY_LIMIT * ENTRY_WIDTH;
 /// Bytes of the type printer's input, at most.

@@ -1,7 +1,7 @@
 //! The calls over buffers of any length, each giving 0 or the number of its refusal: what the C interface is, with slices.
 //!
-//! [`Card`] has the same calls with buffers that always fit. All that is `unsafe` in this workspace stands
-//! here.
+//! [`Card`] has the same calls with buffers that always fit, and [`number`](crate::number()) stands by itself. All that is
+//! `unsafe` in this workspace stands here.
 
 use crate::card::Card;
 
@@ -78,6 +78,8 @@ extern "C" {
         report: *mut u8,
         report_length: usize,
     ) -> u32;
+
+    fn willetcoffer_number(text: *const u8, text_length: usize, record: *mut u8, record_length: usize) -> u32;
 }
 
 /// The tables of a call that writes them; ranks are only read.
@@ -196,4 +198,10 @@ pub fn total(card: &Card, report: &mut [u8]) -> u32 {
             report.len(),
         )
     }
+}
+
+/// Reads the text of a number: on 0 the record is written, else nothing is.
+pub fn number(text: &[u8], record: &mut [u8]) -> u32 {
+    // SAFETY: as in `load`.
+    unsafe { willetcoffer_number(text.as_ptr(), text.len(), record.as_mut_ptr(), record.len()) }
 }

@@ -42,6 +42,10 @@ pub enum Refusal {
     Page,
     /// 14: terms, quads or graphs would pass their limits.
     Room,
+    /// 16: a text that has not the form or the length of a number's.
+    NumberText,
+    /// 17: a number outside the limits of its kind, or no whole count of millionths.
+    NumberValue,
     /// 21: lent ranks that are not each rank from 0 to 94 once.
     Ranks,
     /// A number that this version of the library does not know.
@@ -49,7 +53,7 @@ pub enum Refusal {
 }
 
 /// Each refusal with its number and its condition.
-const TABLE: [(u32, Refusal, &str); 15] = [
+const TABLE: [(u32, Refusal, &str); 17] = [
     (1, Refusal::Length, "a lent buffer of another length"),
     (2, Refusal::TermRecord, "bad term record"),
     (3, Refusal::TermTwice, "a term listed twice"),
@@ -64,6 +68,8 @@ const TABLE: [(u32, Refusal, &str); 15] = [
     (12, Refusal::PageGraph, "page graph no URI of the table"),
     (13, Refusal::Page, "page over its limit, or a bad record in it"),
     (14, Refusal::Room, "terms, quads or graphs would pass their limits"),
+    (16, Refusal::NumberText, "text not of a number's form or length"),
+    (17, Refusal::NumberValue, "number outside its kind's limits, or no whole count of millionths"),
     (21, Refusal::Ranks, "ranks that are not each rank from 0 to 94 once"),
 ];
 

@@ -2,12 +2,9 @@
 
 use std::error::Error;
 use std::fmt;
-use willetcoffer::limits::{DECIMAL_LIMIT, INTEGER_LIMIT};
+use willetcoffer::limits::{DECIMAL_LIMIT, INTEGER_LIMIT, NUMBER_TEXT_LIMIT};
 use willetcoffer::term::{MILLION, PLACES};
-use willetcoffer::Term;
-
-/// The longest text that is read as a number; a text of a record may be longer.
-const LONGEST: usize = 40;
+use willetcoffer::{Refusal, Term};
 
 /// Why a text is no number.
 #[derive(Clone, Copy, PartialEq, Eq, Debug)]
@@ -27,7 +24,10 @@ impl fmt::Display for NumberError {
     fn fmt(&self, f: &mut fmt::Formatter<'_>) -> fmt::Result {
         match self {
             NumberError::Form => {
-                write!(f, "a number is a sign, digits, a point with digits and an exponent, up to {LONGEST} bytes")
+                write!(
+                    f,
+                    "a number is a sign, digits, a point with digits and an exponent, up to {NUMBER_TEXT_LIMIT} bytes"
+                )
             }
             NumberError::Outside { decimal: false } => write!(f, "an integer is at most {INTEGER_LIMIT} either way"),
             NumberError::Outside { decimal: true } => {
@@ -40,66 +40,27 @@ impl fmt::Display for NumberError {
 
 impl Error for NumberError {}
 
-/// The pieces of a number's text.
-struct Pieces {
-    negative: bool,
-    /// All digits, before and after the point.
-    digits: String,
-    /// The value is the digits times ten to this.
-    exponent: i32,
-    decimal: bool,
+/// Whether a text that has the form has a digit other than 0 behind the place of millionths.
+fn is_inexact(text: &str) -> bool {
+    let (digits, exponent) = text.split_once(['e', 'E']).unwrap_or((text, "0"));
+    let (whole, fraction) = digits.split_once('.').unwrap_or((digits, ""));
+    let all = [whole, fraction].concat();
+    let last = all.len() - all.trim_end_matches('0').len();
+    exponent.parse().unwrap_or(0) + last as i32 - (fraction.len() as i32) < -(PLACES as i32)
 }
 
-/// Takes the digits that a text begins with.
-fn digits(text: &str) -> (&str, &str) {
-    text.split_at(text.find(|c: char| !c.is_ascii_digit()).unwrap_or(text.len()))
-}
-
-fn sign(text: &str) -> (bool, &str) {
-    match text.strip_prefix('-') {
-        Some(rest) => (true, rest),
-        None => (false, text.strip_prefix('+').unwrap_or(text)),
+/// What is wrong with a text that the engine refuses.
+fn reason(text: &str, refusal: Refusal) -> NumberError {
+    match refusal {
+        Refusal::NumberValue if is_inexact(text) => NumberError::Inexact,
+        Refusal::NumberValue => NumberError::Outside { decimal: text.contains(['.', 'e', 'E']) },
+        _ => NumberError::Form,
     }
 }
 
-fn exponent(text: &str) -> Option<i32> {
-    let (negative, rest) = sign(text);
-    let (digits, rest) = digits(rest);
-    let amount: i32 = digits.parse().ok()?;
-    (rest.is_empty() && digits.len() <= 2).then_some(if negative { -amount } else { amount })
-}
-
-fn pieces(text: &str) -> Option<Pieces> {
-    let (negative, rest) = sign(text);
-    let (whole, rest) = digits(rest);
-    let (fraction, rest) = match rest.strip_prefix('.') {
-        Some(rest) => Some(digits(rest)).filter(|(fraction, _)| !fraction.is_empty())?,
-        None => ("", rest),
-    };
-    let power = match rest.strip_prefix(['e', 'E']) {
-        Some(text) => Some(exponent(text)?),
-        None => rest.is_empty().then_some(None)?,
-    };
-    let good = !whole.is_empty() && text.len() <= LONGEST;
-    good.then(|| Pieces {
-        negative,
-        digits: [whole, fraction].concat(),
-        exponent: power.unwrap_or(0) - fraction.len() as i32,
-        decimal: power.is_some() || !fraction.is_empty(),
-    })
-}
-
-/// The digits times ten to a power that is not negative; none where that is more than 19 digits.
-fn scaled(digits: &str, power: i32) -> Option<i64> {
-    let zeros = usize::try_from(power).ok()?;
-    let length = digits.len() + zeros;
-    (length < 20).then(|| format!("{digits}{}", "0".repeat(zeros)).parse().ok())?
-}
-
-/// Reads a number: an optional sign, digits, optionally a point with digits after it, optionally e or E with an optional sign
-/// and one or two digits. With neither point nor exponent it is an integer, otherwise a decimal, exactly.
-///
-/// One day a call of the proved engine takes the place of this function; the rules are that call's.
+/// Reads a number as the engine does ([`willetcoffer::number()`]): an optional sign, digits, optionally a point with digits after it,
+/// optionally e or E with an optional sign and one or two digits. With neither point nor exponent it is an integer, otherwise a decimal,
+/// exactly.
 ///
 /// ```
 /// use terms::{number, NumberError};
@@ -109,20 +70,7 @@ fn scaled(digits: &str, power: i32) -> Option<i64> {
 /// assert_eq!(number("1e-7"), Err(NumberError::Inexact));
 /// ```
 pub fn number(text: &str) -> Result<Term, NumberError> {
-    let Pieces { negative, digits, exponent, decimal } = pieces(text).ok_or(NumberError::Form)?;
-    let outside = NumberError::Outside { decimal };
-    let significant = digits.trim_start_matches('0');
-    let short = significant.trim_end_matches('0');
-    if short.is_empty() {
-        return if decimal { Term::decimal(0) } else { Term::integer(0) }.map_err(|_| outside);
-    }
-    let power = exponent + (significant.len() - short.len()) as i32 + if decimal { PLACES as i32 } else { 0 };
-    if power < 0 {
-        return Err(NumberError::Inexact);
-    }
-    let amount = scaled(short, power).ok_or(outside)?;
-    let value = if negative { -amount } else { amount };
-    if decimal { Term::decimal(value) } else { Term::integer(value) }.map_err(|_| outside)
+    willetcoffer::number(text).map_err(|refusal| reason(text, refusal))
 }
 
 #[cfg(test)]
@@ -167,5 +115,10 @@ mod tests {
         assert_eq!(number("1e13"), Err(NumberError::Outside { decimal: true }));
         assert_eq!(number("9e99"), Err(NumberError::Outside { decimal: true }));
         assert_eq!(number("0.0000001"), Err(NumberError::Inexact));
+        assert_eq!(number("10000000e-13"), Ok(Term::decimal(1).expect("a millionth")));
+        assert_eq!(number("10000001e-13"), Err(NumberError::Inexact));
+        assert_eq!(number("-0.010E-5"), Err(NumberError::Inexact));
+        // Both at once.
+        assert_eq!(number("1000000000000.0000001"), Err(NumberError::Inexact));
     }
 }

@@ -24,4 +24,8 @@ impl Engine for Archive {
             Call::Total { .. } => raw::total(card, report),
         }
     }
+
+    fn number(&self, text: &[u8], record: &mut [u8]) -> u32 {
+        raw::number(text, record)
+    }
 }

@@ -9,6 +9,7 @@ use second::edge::{take_looks, Look};
 use second::eval::{Evaluate, Fault};
 use second::evaluator::{evaluate_with, Ways};
 use second::note::{take_notes, Note};
+use second::number::{self, Reading};
 use second::order::{self, Order};
 use second::printer::print_with;
 use second::rank::{self, Alphabet};
@@ -30,6 +31,9 @@ pub trait Engine {
 
     /// Makes a call with the station's buffers and this report; gives 0 or the number of its refusal.
     fn call(&self, station: &mut Station, call: &Call, report: &mut [u8]) -> u32;
+
+    /// Reads the text of a number into this record; gives 0 or the number of its refusal.
+    fn number(&self, text: &[u8], record: &mut [u8]) -> u32;
 
     /// What its type printer writes, if it has one that can be called.
     fn print(&self, _input: &[u8]) -> Option<String> {
@@ -70,6 +74,7 @@ pub struct Second<S> {
     search: S,
     order: Order,
     alphabet: Alphabet,
+    reading: Reading,
     evaluate: Evaluate,
     why: Cell<&'static str>,
     notes: RefCell<Vec<Note>>,
@@ -77,11 +82,13 @@ pub struct Second<S> {
 }
 
 /// An engine with these parts: how types are worked out in loads and by the printer, and in the other calls; and how
-/// answers are found. It keeps quads in order and takes ranks as the fast engine does, and evaluates tuples by giving up early.
+/// answers are found. It keeps quads in order, takes ranks and reads numbers as the fast engine does, and evaluates tuples by giving up
+/// early.
 pub fn with<S>(name: &'static str, typers: [second::check::Typer; 2], search: S) -> Second<S> {
     let (why, notes, looks) = (Cell::new(""), RefCell::default(), RefCell::default());
-    let (order, alphabet, evaluate) = (order::FAST, rank::FAST, early::evaluate);
-    Second { name, typers, search, order, alphabet, evaluate, why, notes, looks }
+    let (order, alphabet, reading, evaluate): (_, _, Reading, Evaluate) =
+        (order::FAST, rank::FAST, number::fast, early::evaluate);
+    Second { name, typers, search, order, alphabet, reading, evaluate, why, notes, looks }
 }
 
 /// The fast engine.
@@ -115,7 +122,7 @@ fn counted(script: &Script, terms: &Terms) -> Result<Env, Refusal> {
 /// The engine by the definitions, its search bounded by [`Bounded`].
 pub fn plain() -> Second<Bounded> {
     let plain = with("plain", [counted, assignments::solve_again], Bounded::default());
-    plain.ordering(order::PLAIN).ranking(rank::PLAIN).evaluating(count::evaluate)
+    plain.ordering(order::PLAIN).ranking(rank::PLAIN).reading(number::plain).evaluating(count::evaluate)
 }
 
 impl<S> Second<S> {
@@ -129,6 +136,11 @@ impl<S> Second<S> {
         Second { alphabet, ..self }
     }
 
+    /// The same, numbers read in this way.
+    pub fn reading(self, reading: Reading) -> Second<S> {
+        Second { reading, ..self }
+    }
+
     /// The same, tuples evaluated in this way.
     pub fn evaluating(self, evaluate: Evaluate) -> Second<S> {
         Second { evaluate, ..self }
@@ -137,8 +149,8 @@ impl<S> Second<S> {
 
 impl<S: Search + Counts> Second<S> {
     fn engine(&self, again: bool) -> second::Engine<'_> {
-        let typer = self.typers[usize::from(again)];
-        second::Engine { typer, order: self.order, alphabet: self.alphabet, search: &self.search }
+        let Second { order, alphabet, reading, .. } = *self;
+        second::Engine { typer: self.typers[usize::from(again)], order, alphabet, reading, search: &self.search }
     }
 
     fn code(&self, outcome: Result<(), Refusal>) -> u32 {
@@ -174,6 +186,10 @@ impl<S: Search + Counts> Engine for Second<S> {
         self.notes.replace(take_notes());
         self.looks.replace(take_looks());
         code
+    }
+
+    fn number(&self, text: &[u8], record: &mut [u8]) -> u32 {
+        self.code(self.engine(false).number(text, record))
     }
 
     fn print(&self, input: &[u8]) -> Option<String> {

@@ -13,7 +13,7 @@ pub struct Coverage {
 }
 
 /// How often each of what is required is to be met.
-const ENOUGH: u64 = 100;
+pub(super) const ENOUGH: u64 = 100;
 /// What a call notes, a store in another order and a store that a page leaves again are to be met by one call for so many cases: each
 /// 1,000 times in the gate's 50,000.
 const CASES_FOR_ONE: u64 = 50;
@@ -153,7 +153,12 @@ impl Coverage {
         if OF_TUPLES.map(|line| self.get("evaluator", line)).iter().sum::<u64>() >= TUPLES {
             all.extend(required_of_tuples());
         }
-        let few = all.into_iter().filter(|(section, key, enough)| self.get(section, key) < *enough);
+        self.few(all.into_iter())
+    }
+
+    /// What of these was met less often than it has to be.
+    pub(super) fn few(&self, all: impl Iterator<Item = (&'static str, String, u64)>) -> Vec<String> {
+        let few = all.filter(|(section, key, enough)| self.get(section, key) < *enough);
         few.map(|(section, key, enough)| format!("{section} {key}: {} of {enough}", self.get(section, &key))).collect()
     }
 

@@ -26,6 +26,10 @@ impl Engine for Wrong {
         }
         code
     }
+
+    fn number(&self, text: &[u8], record: &mut [u8]) -> u32 {
+        fast().number(text, record)
+    }
 }
 
 /// How a call is made.
@@ -41,5 +45,9 @@ impl Engine for Other {
 
     fn call(&self, station: &mut Station, call: &Call, report: &mut [u8]) -> u32 {
         (self.0)(station, call, report)
+    }
+
+    fn number(&self, text: &[u8], record: &mut [u8]) -> u32 {
+        fast().number(text, record)
     }
 }

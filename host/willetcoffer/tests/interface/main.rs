@@ -45,7 +45,7 @@ fn widths_limits_and_offsets_of_the_library() {
 }
 
 /// The refusals' names in the shared data, with their numbers.
-const REFUSALS: [(&str, i128); 15] = [
+const REFUSALS: [(&str, i128); 17] = [
     ("WRONG_LENGTH", 1),
     ("BAD_TERM", 2),
     ("TERM_TWICE", 3),
@@ -60,6 +60,8 @@ const REFUSALS: [(&str, i128); 15] = [
     ("NO_GRAPH", 12),
     ("BAD_PAGE", 13),
     ("NO_ROOM", 14),
+    ("BAD_NUMBER_TEXT", 16),
+    ("NO_SUCH_NUMBER", 17),
     ("BAD_RANKS", 21),
 ];
 
@@ -192,7 +194,7 @@ fn refusals_of_each_call() {
         let call = pair[1].split('(').next().unwrap_or_default();
         assert_eq!(named, refusals_from(call, &definitions), "{call}");
     }
-    assert!(parts.len() > 4);
+    assert!(parts.len() > 5);
 }
 
 /// The table of the saved run in the header's comment: each row begins where the last one ended.
@@ -232,7 +234,7 @@ fn built_in_ranks() {
 #[test]
 fn declarations() {
     let exports = exported(&read("crates/exports/src/lib.rt"));
-    assert!(exports.len() >= 4, "the exports were read: {exports:?}");
+    assert!(exports.len() >= 5, "the exports were read: {exports:?}");
     assert_eq!(in_c(&read(HEADER)), exports);
     assert_eq!(in_rust(&read("host/willetcoffer/src/raw.rs")), exports);
 }

@@ -18,6 +18,9 @@ enum-told c = search needs
 returns : tie.Need-returns
 returns c = run-refused _ (c .enum-told .given .1)
 
+cast-write-number : tie.Need-cast-write-number
+cast-write-number c = search needs
+
 sub-write-number : tie.Need-sub-write-number
 sub-write-number c = search needs
 
@@ -80,6 +83,7 @@ write-run-report-spec =
     enum-known-answer
     enum-told
     returns
+    cast-write-number
     sub-write-number
     part-write-number-start
     part-write-number-end

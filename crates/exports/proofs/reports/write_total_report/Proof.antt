@@ -15,6 +15,9 @@ enum-told c = search needs
 returns : tie.Need-returns
 returns c = total-refused _ (c .enum-told .given .1)
 
+cast-write-number : tie.Need-cast-write-number
+cast-write-number c = search needs
+
 write-number-requires : tie.Need-write-number-requires
 write-number-requires c κs = search needs
 
@@ -30,4 +33,4 @@ returns-2 c =
 pub write-total-report-spec : {M : Type 1} → statement M
 write-total-report-spec =
     tie.close
-    (tie.spec enum-known-answer enum-told returns write-number-requires same-length returns-2)
+    (tie.spec enum-known-answer enum-told returns cast-write-number write-number-requires same-length returns-2)

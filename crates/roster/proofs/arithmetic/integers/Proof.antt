@@ -1,8 +1,8 @@
--- `roster::numbers::integers` meets its contract, by arithmetic.
+-- `roster::arithmetic::integers` meets its contract, by arithmetic.
 use Prim.Native.Nat.{_-_, _≤_}
 use borrow.Author.Needs.{needs}
-use Rattle.roster.proofs.numbers.integers.Statement.{statement}
-use Rattle.roster.proofs.numbers.integers.Tie as tie
+use Rattle.roster.proofs.arithmetic.integers.Statement.{statement}
+use Rattle.roster.proofs.arithmetic.integers.Tie as tie
 
 abbrev Inv-loop : tie.InvT-loop
 Inv-loop i₀ i = i ≤ 8

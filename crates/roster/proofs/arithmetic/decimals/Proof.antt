@@ -1,8 +1,8 @@
--- `roster::numbers::decimals` meets its contract, by arithmetic.
+-- `roster::arithmetic::decimals` meets its contract, by arithmetic.
 use Prim.Native.Nat.{_-_, _≤_}
 use borrow.Author.Needs.{needs}
-use Rattle.roster.proofs.numbers.decimals.Statement.{statement}
-use Rattle.roster.proofs.numbers.decimals.Tie as tie
+use Rattle.roster.proofs.arithmetic.decimals.Statement.{statement}
+use Rattle.roster.proofs.arithmetic.decimals.Tie as tie
 
 abbrev Inv-loop : tie.InvT-loop
 Inv-loop i₀ i = i ≤ 15

@@ -1,0 +1,4 @@
+mod PartLaws
+mod AmountLaws
+mod TermLaws
+mod NumberLaws
