@@ -34,10 +34,14 @@ typedef struct {
     size_t page_length;
 } Station;
 
-typedef enum { LOAD, RUN, PAGE, TOTAL, CALLS } Call;
+/* CALLS of them are lent a card; the number call is lent a text alone. */
+typedef enum { LOAD, RUN, PAGE, TOTAL, CALLS, NUMBER = CALLS } Call;
 
 static Card card;
 static Station station;
+static const char *text;
+static size_t text_length;
+static uint8_t record[WILLETCOFFER_NUMBER_RECORD_WIDTH];
 
 /* ---- one call on a painted stack ------------------------------------------------------------------------------------- */
 
@@ -64,6 +68,8 @@ static uint32_t make(const Job *j) {
         return willetcoffer_page(ranks, WILLETCOFFER_RANKS_WIDTH, card.terms, card.terms_length, card.schema, card.schema_length, card.script,
             card.script_length, station.term_table, table, station.quad_table, quads, station.saved, saved, j->graph, station.page,
             station.page_length, station.report, j->report_length);
+    case NUMBER:
+        return willetcoffer_number((const uint8_t *)text, text_length, record, sizeof record - !j->report_length);
     default:
         return willetcoffer_total(card.terms, card.terms_length, card.schema, card.schema_length, card.script, card.script_length, station.report,
             j->report_length);
@@ -209,6 +215,12 @@ static size_t fill_store(void) {
     return most;
 }
 
+static void measure_number(const char *name, const char *written, size_t report_length, uint32_t expected) {
+    text = written;
+    text_length = strlen(written);
+    printf("%s: number %zu\n", name, used(NUMBER, report_length, 0, expected));
+}
+
 static void measure_full(const char *name) {
     size_t bytes[CALLS];
     bytes[TOTAL] = good(TOTAL, 0);
@@ -235,5 +247,8 @@ int main(void) {
     measure_full("deepest found");
     sequences();
     printf("sequences: total %zu\n", good(TOTAL, 0));
+    measure_number("refused with 1", "0", 0, WILLETCOFFER_REFUSED_LENGTH);
+    measure_number("a digit", "0", 1, 0);
+    measure_number("40 bytes", "-0000000000000000000000000000000.999e+02", 1, 0);
     return 0;
 }
