@@ -8,6 +8,7 @@
  *     willetcoffer_run(..)       until the report says wanted, waiting or ended
  *     willetcoffer_page(..)      for a wanted graph, and whenever a page has changed
  *     willetcoffer_total(..)     whenever a display wants to know how long the script takes
+ *     willetcoffer_suggest(..)   where a load was refused with 9, for one written type that would do
  *     willetcoffer_number(..)    for a number as its maker prints it, on the way to a term or a page record
  *
  * Load, run and page are lent ranks too, the order in which a club sorts its texts; a club that has none of its own lends
@@ -56,6 +57,8 @@ extern "C" {
 #define WILLETCOFFER_PAGE_REPORT_WIDTH 4
 /* The report of a total call; see willetcoffer_total. */
 #define WILLETCOFFER_TOTAL_REPORT_WIDTH 4
+/* The report of a suggest call; see willetcoffer_suggest. */
+#define WILLETCOFFER_SUGGEST_REPORT_WIDTH 4
 /* The record that a number call writes; see willetcoffer_number. */
 #define WILLETCOFFER_NUMBER_RECORD_WIDTH 9
 
@@ -166,6 +169,12 @@ static const uint8_t willetcoffer_built_in_ranks[WILLETCOFFER_RANKS_WIDTH] = {
 #define WILLETCOFFER_STATE_WANTED 1          /* the page of the reported graph is wanted */
 #define WILLETCOFFER_STATE_WAITING 2         /* a once block has no answer yet; a page may bring one */
 #define WILLETCOFFER_STATE_SPENT 3           /* as many steps as the budget, and the script can go on */
+
+/* ---- what a suggest call says, byte 0 of its report ------------------------------------------------------------------------- */
+
+#define WILLETCOFFER_SUGGESTION_ACCEPTED 0   /* the script is accepted as it is */
+#define WILLETCOFFER_SUGGESTION_WRITTEN 1    /* the reported type, written at the reported variable, would do */
+#define WILLETCOFFER_SUGGESTION_NONE 2       /* no single written type would do */
 
 /* ---- refusals ------------------------------------------------------------------------------------------------------------- */
 
@@ -281,6 +290,27 @@ uint32_t willetcoffer_page(
  * Refusals: 1 to 7, in this order. Types are not asked, so it answers for a card that a load refuses with 8 or 9 too.
  */
 uint32_t willetcoffer_total(
+    const uint8_t *terms, size_t terms_length,
+    const uint8_t *schema, size_t schema_length,
+    const uint8_t *script, size_t script_length,
+    uint8_t *report, size_t report_length);
+
+/*
+ * Names the single written type that would do for a script that a load refuses with 9. A variable is open where a pair binds it with
+ * written type 0. Named is the lowest open variable for which there is such a type, and for it the lowest code: that code in the place
+ * of the pair's 0, with nothing else changed, lets the card load, and no lower variable or code does. None is named only where none
+ * would do.
+ *
+ *   terms, schema, script       the card
+ *   report      written:
+ *                 at 0, 1 byte   WILLETCOFFER_SUGGESTION_*
+ *                 at 1, 1 byte   the variable, else zero
+ *                 at 2, 1 byte   the type's code, WILLETCOFFER_TYPE_*, else zero
+ *                 at 3, 1 byte   zero
+ *
+ * Refusals: 1 to 8, in this order. A card that a load refuses with 9 gets its answer here, and so does one that loads.
+ */
+uint32_t willetcoffer_suggest(
     const uint8_t *terms, size_t terms_length,
     const uint8_t *schema, size_t schema_length,
     const uint8_t *script, size_t script_length,

@@ -35,7 +35,7 @@ typedef struct {
 } Station;
 
 /* CALLS of them are lent a card; the number call is lent a text alone. */
-typedef enum { LOAD, RUN, PAGE, TOTAL, CALLS, NUMBER = CALLS } Call;
+typedef enum { LOAD, RUN, PAGE, TOTAL, SUGGEST, CALLS, NUMBER = CALLS } Call;
 
 static Card card;
 static Station station;
@@ -68,6 +68,9 @@ static uint32_t make(const Job *j) {
         return willetcoffer_page(ranks, WILLETCOFFER_RANKS_WIDTH, card.terms, card.terms_length, card.schema, card.schema_length, card.script,
             card.script_length, station.term_table, table, station.quad_table, quads, station.saved, saved, j->graph, station.page,
             station.page_length, station.report, j->report_length);
+    case SUGGEST:
+        return willetcoffer_suggest(card.terms, card.terms_length, card.schema, card.schema_length, card.script, card.script_length, station.report,
+            j->report_length);
     case NUMBER:
         return willetcoffer_number((const uint8_t *)text, text_length, record, sizeof record - !j->report_length);
     default:
@@ -192,10 +195,18 @@ static void sequences(void) {
     card.script_length = 2 * WILLETCOFFER_DEPTH_LIMIT - 1;
 }
 
+/* An open variable that is used nowhere, so that a suggest call tries types. */
+static void undecided(void) {
+    const uint8_t head[1 + WILLETCOFFER_BLOCK_WIDTH + 1] = { 0x73, 0, 1, 0, 0, 0, 0, 0, 0, 0, 0, 0x65 };
+    memcpy(card.script, head, sizeof head);
+    card.script[sizeof head] = 0x71;
+    card.script_length = sizeof head + 1;
+}
+
 /* ---- the table -------------------------------------------------------------------------------------------------------------- */
 
 static void print_row(const char *name, const size_t bytes[CALLS]) {
-    printf("%s: load %zu, run %zu, page %zu, total %zu\n", name, bytes[LOAD], bytes[RUN], bytes[PAGE], bytes[TOTAL]);
+    printf("%s: load %zu, run %zu, page %zu, total %zu, suggest %zu\n", name, bytes[LOAD], bytes[RUN], bytes[PAGE], bytes[TOTAL], bytes[SUGGEST]);
 }
 
 static size_t good(Call call, size_t graph) {
@@ -224,6 +235,7 @@ static void measure_number(const char *name, const char *written, size_t report_
 static void measure_full(const char *name) {
     size_t bytes[CALLS];
     bytes[TOTAL] = good(TOTAL, 0);
+    bytes[SUGGEST] = good(SUGGEST, 0);
     bytes[LOAD] = good(LOAD, 0);
     bytes[PAGE] = fill_store();
     bytes[RUN] = good(RUN, 0);
@@ -245,6 +257,8 @@ int main(void) {
     measure_full("full tables");
     deepest();
     measure_full("deepest found");
+    undecided();
+    printf("undecided: suggest %zu\n", good(SUGGEST, 0));
     sequences();
     printf("sequences: total %zu\n", good(TOTAL, 0));
     measure_number("refused with 1", "0", 0, WILLETCOFFER_REFUSED_LENGTH);

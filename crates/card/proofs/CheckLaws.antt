@@ -2,40 +2,30 @@
 use Prim.Native.Nat.{ℕ, _*_, _≤_}
 use native.Mathlib.Omega.{arith}
 use mathlib.Core.Path.{_≡_, refl, sym, ap, subst, _∙_}
-use mathlib.Core.List.{List, map, _++_}
-use mathlib.Core.Bool.{true}
+use mathlib.Core.List.{List}
 use mathlib.Core.Option.{some}
-use lib.ListN.{length, take, drop, length-map, length-append}
-use lib.Seq.{take-append-seam}
-use Rattle.definitions.specs.Limits.{termLimit, entryLimit}
+use lib.ListN.{length, take}
+use Rattle.definitions.specs.Limits.{entryLimit}
 use Rattle.definitions.specs.Types.{Ty}
-use Rattle.definitions.specs.Terms.{readSchema}
 use Rattle.definitions.specs.Tree.{Script}
 use Rattle.definitions.specs.Reading.{parsed}
 use Rattle.definitions.specs.Typing.{Verdict, noTyping, noGreatest, greatest, writtenTypes, verdict}
-use Rattle.definitions.specs.Saved.{termsIn}
 use Rattle.definitions.specs.Result.{Result, refused, passed, _>>=_}
 use Rattle.definitions.specs.Calls.{Checked, constantsOf, typesOf, check, reported}
 use Rattle.laws.proofs.Check.{Passed, schema-fits}
 use Rattle.laws.proofs.Results.{passed-is, not-refused, bind-refused, bind-passed}
-use Rattle.laws.specs.ReadAnswers.{isSome}
 use Rattle.definitions.specs.Limits.{entryWidth}
-use Rattle.table.specs.Table.{HoldsTerms, HeldTerms}
 use Rattle.records.proofs.EntryLaws.{schema-length}
-use Rattle.records.proofs.NumberingLaws.{held-terms, held-holds}
 use Rattle.facts.specs.Codes.{sortsIn}
 use Rattle.facts.specs.Answers.{answerOf}
 use Rattle.facts.specs.declared.Answer.{Answer}
-use Rattle.typing.proofs.Constants.{worked-out}
-use Rattle.card.specs.Leasts.{codeOf, leastCodes}
 use Rattle.definitions.specs.Calls.{Parsed, readTests, typeTests}
-use Rattle.table.specs.Hashes.{HashedEntries}
-use Rattle.card.specs.Check.{numberOf, ReadyOf, refusedCard, cardOf, TablesOf}
+use Rattle.card.specs.Check.{numberOf, CodedOf, refusedCard, cardOf, TablesOf}
 use Rattle.card.specs.declared.refusals.Card.{Card}
 use Rattle.card.specs.declared.refusals.Ready.{Ready}
-use Rattle.card.proofs.RefusalNumbers.{NotZero, refused-number, passed-number, bind-not-zero}
-use Rattle.card.proofs.ReadyLaws.{read-not-zero, Reads, reads-of}
-use Rattle.laws.proofs.Check.{ReadPassed, read-passed}
+use Rattle.card.proofs.RefusalNumbers.{NotZero, refused-number, bind-not-zero}
+use Rattle.card.proofs.ReadyLaws.{read-not-zero}
+use Rattle.card.proofs.CodedLaws.{parse, parse-coded, of-terms}
 
 -- ── the bytes of a schema that passes ───────────────────────────────────────────────────────
 
@@ -96,88 +86,31 @@ module _ (terms schema script : List ℕ) (r : Ready) (er : r .refusal ≡ numbe
   unfolding check
   read-refused h = bind-refused typeTests (refused-number (readTests terms schema script) er h)
 
-  module _ (z : r .refusal ≡ 0) {table : List ℕ} (ht : (x : Parsed) → readTests terms schema script ≡ passed x → ReadyOf x schema table r) where
-    abbrev count : ℕ
-    count = r .count
+  module _ (z : r .refusal ≡ 0) {table leasts : List ℕ} (hc : (x : Parsed) → readTests terms schema script ≡ passed x → CodedOf x schema table leasts r) where
+    abbrev x : Parsed
+    x = parse terms schema script r er z hc .0
 
-    found : (x : Parsed) × (readTests terms schema script ≡ passed x)
-    found = passed-number (readTests terms schema script) (read-not-zero terms schema script) er z
-
-    ready : ReadyOf (found .0) schema table r
-    ready = ht (found .0) (found .1)
-
-    passes : ReadPassed terms schema script (found .0)
-    passes = read-passed terms schema script (found .0) (found .1)
-
-    reads : Reads schema (found .0)
-    reads = reads-of terms schema script (found .0) passes
-
-    held : HeldTerms table count (found .0 .terms)
-    held = record { is = ready .slots; valid = reads .valid; count = sym (ready .count); few = omega (arith, reads .few, ready .count) }
-
-    pub holds : HoldsTerms table count
-    holds = held-holds _ _ _ held
-
-    pub schema-reads : isSome (readSchema schema) ≡ true
-    schema-reads = rw (passes .entries)
-
-    pub schema-hashed : HashedEntries schema (r .entries)
-    schema-hashed = ready .entries
-
-    pub leasts-room : (old : List ℕ) → length old ≡ termLimit → count ≤ length old
-    leasts-room old e = omega (arith, e, held .few)
-
-    types-left : check terms schema script ≡ typed (found .0) (verdict (constantsOf (found .0 .schema) (found .0 .terms)) (writtenTypes (found .0 .root)) (found .0 .root))
+    types-left : check terms schema script ≡ typed x (verdict (constantsOf (x .schema) (x .terms)) (writtenTypes (x .root)) (x .root))
     unfolding check typed typeTests
-    types-left = bind-passed typeTests (found .1)
+    types-left = bind-passed typeTests (parse terms schema script r er z hc .1)
 
-    codes : List ℕ
-    codes = map (codeOf (found .0 .schema)) (found .0 .terms)
+    module _ {a : Answer} (ea : (root : Script) → parsed (length (take (r .count) leasts)) script ≡ some root
+        → a ≡ answerOf (writtenTypes root) (verdict (sortsIn (take (r .count) leasts)) (writtenTypes root) root)) where
+      answer : a ≡ answerOf (writtenTypes (x .root)) (verdict (constantsOf (x .schema) (x .terms)) (writtenTypes (x .root)) (x .root))
+      answer = of-terms terms schema script r er z hc (λ constants root. answerOf (writtenTypes root) (verdict constants (writtenTypes root) root)) ea
 
-    codes-length : length codes ≡ count
-    unfolding codes
-    codes-length = length-map (found .0 .terms) (codeOf (found .0 .schema)) ∙ sym (ready .count)
+      pub types-refused : (a .refusal ≡ 0 → ⊥) → check terms schema script ≡ refused (a .refusal)
+      types-refused h = types-left ∙ typed-refused x _ a answer h
 
-    module _ (old : List ℕ) {leasts : List ℕ} (el : leasts ≡ leastCodes (readSchema schema) (termsIn table) ++ drop count old) where
-      codes-first : leasts ≡ codes ++ drop count old
-      unfolding codes leastCodes
-      codes-first = el ∙ rw (passes .entries, held-terms _ _ _ held)
-
-      -- the codes stand in front
-      pub codes-fit : count ≤ length leasts
-      codes-fit = omega (arith, codes-length, ap length codes-first, length-append codes (drop count old))
-
-      sorts : take count leasts ≡ codes
-      sorts = ap (λ (l : List ℕ). take count l) codes-first ∙ ap (λ (n : ℕ). take n (codes ++ drop count old)) (sym codes-length) ∙ take-append-seam codes (drop count old)
-
-      pub sorts-length : count ≡ length (take count leasts)
-      sorts-length = sym (ap length sorts ∙ codes-length)
-
-      parses : parsed (length (take count leasts)) script ≡ some (found .0 .root)
-      parses = ap (λ (n : ℕ). parsed n script) (sym sorts-length ∙ sym (sym (ready .count))) ∙ passes .parses
-
-      pub script-reads : isSome (parsed (length (take count leasts)) script) ≡ true
-      script-reads = rw parses
-
-      module _ {a : Answer} (ea : (root : Script) → parsed (length (take count leasts)) script ≡ some root
-          → a ≡ answerOf (writtenTypes root) (verdict (sortsIn (take count leasts)) (writtenTypes root) root)) where
-        answer : a ≡ answerOf (writtenTypes (found .0 .root)) (verdict (constantsOf (found .0 .schema) (found .0 .terms)) (writtenTypes (found .0 .root)) (found .0 .root))
-        unfolding codes codeOf
-        answer = worked-out (found .0 .schema) (found .0 .terms) sorts script ea (found .0 .root) (passes .parses)
-
-        pub types-refused : (a .refusal ≡ 0 → ⊥) → check terms schema script ≡ refused (a .refusal)
-        types-refused h = types-left ∙ typed-refused (found .0) _ a answer h
-
-        pub types-found : a .refusal ≡ 0
-            → (record { refusal = 0; count = count; types = a .types; entries = r .entries } ≡ cardOf (check terms schema script) (r .entries))
-            × ((c : Checked) → check terms schema script ≡ passed c → TablesOf c schema table leasts (r .entries))
-        unfolding codes
-        types-found h =
-            let t = typed-passed (found .0) _ a answer h in
-            let c = made (found .0) (t .0) in
-            let e : check terms schema script ≡ passed c = types-left ∙ t .1 in
-            let d : TablesOf c schema table leasts (r .entries) =
-            record { slots = held .is; codes = ap (λ (n : ℕ). take n leasts) (sym (ready .count)) ∙ sorts; hashes = schema-hashed } in (
-              sym (ap (λ (m : Result Checked). cardOf m (r .entries)) e ∙ card-is c count (sym (ready .count)) (a .types) (r .entries) (t .2)),
-              λ c′ p. subst (λ (z : Checked). TablesOf z schema table leasts (r .entries)) (passed-is (sym e ∙ p)) d,
-            )
+      pub types-found : a .refusal ≡ 0
+          → (record { refusal = 0; count = r .count; types = a .types; entries = r .entries } ≡ cardOf (check terms schema script) (r .entries))
+          × ((c : Checked) → check terms schema script ≡ passed c → TablesOf c schema table leasts (r .entries))
+      types-found h =
+          let t = typed-passed x _ a answer h in
+          let c = made x (t .0) in
+          let e : check terms schema script ≡ passed c = types-left ∙ t .1 in
+          let k = parse-coded terms schema script r er z hc in
+          let d : TablesOf c schema table leasts (r .entries) = record { slots = k .ready .slots; codes = k .codes; hashes = k .ready .entries } in (
+            sym (ap (λ (m : Result Checked). cardOf m (r .entries)) e ∙ card-is c (r .count) (sym (k .ready .count)) (a .types) (r .entries) (t .2)),
+            λ c′ p. subst (λ (z : Checked). TablesOf z schema table leasts (r .entries)) (passed-is (sym e ∙ p)) d,
+          )

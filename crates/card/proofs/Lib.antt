@@ -3,4 +3,5 @@ pub mod CardLaws
 pub mod ScriptLaws
 pub mod LeastLaws
 pub mod ReadyLaws
+pub mod CodedLaws
 pub mod CheckLaws

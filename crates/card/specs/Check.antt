@@ -24,6 +24,11 @@ pub record ReadyOf (x : Parsed) (schema table : List ℕ) (r : Ready) : Type 0 w
   pub slots : table ≡ termTable (x .terms)
   pub entries : HashedEntries schema (r .entries)
 
+-- and the codes of the terms' least types in front of the other working table
+pub record CodedOf (x : Parsed) (schema table leasts : List ℕ) (r : Ready) : Type 0 where
+  pub ready : ReadyOf x schema table r
+  pub codes : take (length (x .terms)) leasts ≡ map (codeOf (x .schema)) (x .terms)
+
 abbrev pub refusedCard : ℕ → (entries : List ℕ) → Card
 refusedCard n entries = record { refusal = n; count = 0; types = replicate variableLimit 0; entries = entries }
 

@@ -12,7 +12,7 @@ ghost use Rattle.definitions.specs.Calls.{recordTests, scriptTests, Parsed, rea
 ghost use Rattle.laws.specs.ReadAnswers.{isSome};
 ghost use Rattle.table.specs.Hashes.{HashedEntries};
 ghost use Rattle.records.specs.Listing.{listedOf};
-ghost use Rattle.card.specs.Check.{numberOf, ReadyOf, refusedCard, cardOf, TablesOf};
+ghost use Rattle.card.specs.Check.{numberOf, ReadyOf, CodedOf, refusedCard, cardOf, TablesOf};
 use crate::leasts::least_codes;
 use definitions::BAD_ENTRY;
 use definitions::BAD_SCRIPT;
@@ -149,6 +149,31 @@ pub fn read_card(terms: &[u8], schema: &[u8], script: &[u8], table: &mut [u8]) -
     ready
 }
 
+// Refusals 2 to 7, or how many terms loading numbers, with these in one working table and the codes of their least types in
+// the other. Ruled out: the codes of the listed terms alone; a card that is refused handed on as ready.
+pub fn ready_card(
+    terms: &[u8],
+    schema: &[u8],
+    script: &[u8],
+    table: &mut [u8],
+    leasts: &mut [u8],
+) -> Ready
+    requires { ⌜ now table ≡ replicate termTableWidth 0 ⌝ }
+    requires { ⌜ length (now leasts) ≡ termLimit ⌝ }
+    ensures { λ r. ⌜ r .refusal ≡ numberOf (readTests (now (terms .entry)) (now (schema .entry)) (now (script .entry))) ⌝ }
+    ensures { λ r. ⌜ ((x : Parsed) → readTests (now (terms .entry)) (now (schema .entry)) (now (script .entry)) ≡ passed x
+        → CodedOf x (now (schema .entry)) (now (table .exit)) (now (leasts .exit)) r) ⌝ }
+{
+    let ready = read_card(terms, schema, script, table);
+    if ready.refusal != 0 {
+        return ready;
+    }
+    let count = ready.count;
+    let entries = ready.entries;
+    least_codes(table, 0, count, schema, &entries, leasts);
+    ready
+}
+
 // A refusal's number and zeros.
 fn refused_card(ready: Ready, refusal: u8) -> Card
     ensures { λ r. ⌜ r ≡ refusedCard refusal (ready .entries) ⌝ }
@@ -177,13 +202,12 @@ pub fn check_card(
     ensures { λ r. ⌜ ((c : Checked) → check (now (terms .entry)) (now (schema .entry)) (now (script .entry)) ≡ passed c
         → TablesOf c (now (schema .entry)) (now (table .exit)) (now (leasts .exit)) (r .entries)) ⌝ }
 {
-    let ready = read_card(terms, schema, script, table);
+    let ready = ready_card(terms, schema, script, table, leasts);
     if ready.refusal != 0 {
         return refused_card(ready, ready.refusal);
     }
     let count = ready.count;
     let entries = ready.entries;
-    least_codes(table, 0, count, schema, &entries, leasts);
     let answer = work_out(script, &leasts[..count]);
     if answer.refusal != 0 {
         return refused_card(ready, answer.refusal);

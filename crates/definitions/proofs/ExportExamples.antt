@@ -6,8 +6,10 @@ use lib.IntN.{pos}
 use lib.ListN.{replicate, set, take}
 use Rattle.definitions.specs.Outcome.{ok}
 use Rattle.definitions.specs.Calls.{Lent}
-use Rattle.definitions.specs.Exports.{LoadExport, loadExport, runExport, totalExport}
-use Rattle.definitions.specs.Limits.{savedWidth, runReportWidth, totalReportWidth}
+use Rattle.definitions.specs.Ascii.{ascii}
+use Rattle.definitions.specs.Exports.{LoadExport, loadExport, runExport, totalExport, suggestExport}
+use Rattle.definitions.specs.Limits.{textWidth, savedWidth, runReportWidth, totalReportWidth, suggestReportWidth}
+use Rattle.definitions.specs.Bytes.{filled}
 use Rattle.definitions.proofs.Opened.{opened}
 use Rattle.definitions.proofs.Season.{card, withTables}
 
@@ -71,3 +73,47 @@ totals :
     ∷ []
 unfolding twoScripts openVariable totalLent opened
 totals = refl
+
+-- ── suggest ─────────────────────────────────────────────────────────────────────────────────
+
+-- document 02's `$p $o` with `p:speed $o`, $g and $s written as anyURI
+speedSchema : List ℕ
+speedSchema = 0x21 ∷ filled textWidth (ascii "p:speed") ++ (3 ∷ [])
+
+patternOn : (property : List ℕ) → List ℕ
+patternOn p = 0x61 ∷ 0x31 ∷ 0 ∷ 0x31 ∷ 1 ∷ p ++ (0x31 ∷ 3 ∷ [])
+
+speedScript : List ℕ
+speedScript = 0x73 ∷ 0 ∷ 4 ∷ 0 ∷ 1 ∷ 1 ∷ 1 ∷ 2 ∷ 0 ∷ 3 ∷ 0 ∷ 0x62 ∷ patternOn (0x31 ∷ 2 ∷ []) ++ (patternOn (0x32 ∷ 0 ∷ 0 ∷ []) ++ (0x71 ∷ []))
+
+-- two variables that nothing uses
+twoOpen : List ℕ
+twoOpen = 0x73 ∷ 0 ∷ 2 ∷ 0 ∷ 0 ∷ 1 ∷ replicate 5 0 ++ (0x65 ∷ 0x71 ∷ [])
+
+-- from named a string
+namedString : List ℕ
+namedString = 0x73 ∷ 0 ∷ 1 ∷ 0 ∷ 2 ∷ replicate 6 0 ++ (0x65 ∷ 0x72 ∷ 0x31 ∷ 0 ∷ 0x71 ∷ [])
+
+suggestLent : List ℕ
+suggestLent = replicate suggestReportWidth 9
+
+-- variable 2, code 11; one variable that nothing uses, the lowest code; two of them; nothing to write; no typing; an empty script; a report a byte short
+suggestions :
+    suggestExport [] speedSchema speedScript suggestLent
+    ∷ suggestExport [] [] openVariable suggestLent
+    ∷ suggestExport [] [] twoOpen suggestLent
+    ∷ suggestExport [] [] (0x71 ∷ []) suggestLent
+    ∷ suggestExport [] [] namedString suggestLent
+    ∷ suggestExport [] [] [] suggestLent
+    ∷ suggestExport [] [] openVariable (take 3 suggestLent)
+    ∷ []
+    ≡ record { number = 0; report = 1 ∷ 2 ∷ 11 ∷ 0 ∷ [] }
+    ∷ record { number = 0; report = 1 ∷ 0 ∷ 1 ∷ 0 ∷ [] }
+    ∷ record { number = 0; report = 2 ∷ 0 ∷ 0 ∷ 0 ∷ [] }
+    ∷ record { number = 0; report = 0 ∷ 0 ∷ 0 ∷ 0 ∷ [] }
+    ∷ record { number = 8; report = suggestLent }
+    ∷ record { number = 6; report = suggestLent }
+    ∷ record { number = 1; report = 9 ∷ 9 ∷ 9 ∷ [] }
+    ∷ []
+unfolding speedSchema patternOn speedScript openVariable twoOpen namedString suggestLent opened
+suggestions = refl

@@ -1,5 +1,6 @@
 -- One name for each file of specs/ that opens its definitions, and one that opens all: for closed examples, which compute.
 -- Written by tools/opened.py.
+use Rattle.definitions.specs.Lists as Lists
 use Rattle.definitions.specs.Alphabet as Alphabet
 use Rattle.definitions.specs.Bytes as Bytes
 use Rattle.definitions.specs.Ascii as Ascii
@@ -9,6 +10,7 @@ use Rattle.definitions.specs.Reading as Reading
 use Rattle.definitions.specs.Scope as Scope
 use Rattle.definitions.specs.Total as Total
 use Rattle.definitions.specs.Typing as Typing
+use Rattle.definitions.specs.Suggest as Suggest
 use Rattle.definitions.specs.Calendar as Calendar
 use Rattle.definitions.specs.Outcome as Outcome
 use Rattle.definitions.specs.Truth as Truth
@@ -25,6 +27,10 @@ use Rattle.definitions.specs.Calls as Calls
 use Rattle.definitions.specs.CallList as CallList
 use Rattle.definitions.specs.Exports as Exports
 use Rattle.definitions.specs.Printer as Printer
+
+unfoldable pub openLists : Unit {0}
+unfolding Lists.find
+openLists = tt
 
 unfoldable pub openAlphabet : Unit {0}
 unfolding Alphabet.below Alphabet.occurs Alphabet.isAlphabet Alphabet.builtIn
@@ -65,6 +71,10 @@ unfoldable pub openTyping : Unit {0}
 unfolding Typing.nameHas Typing.exprHas Typing.condTyped Typing.propertyTyped Typing.queryTyped Typing.scriptTyped Typing.writtenIn Typing.writtenTypes Typing.eachWith
     Typing.assignments Typing.those Typing.typings Typing.above Typing.firstAbove Typing.judge Typing.verdict
 openTyping = tt
+
+unfoldable pub openSuggest : Unit {0}
+unfolding Suggest.lowestType Suggest.lowestIn Suggest.wouldDo Suggest.suggestion
+openSuggest = tt
 
 unfoldable pub openCalendar : Unit {0}
 unfolding Calendar.isLeap Calendar.yearLength Calendar.monthLengths Calendar.monthFrom Calendar.yearFrom Calendar.dateOf Calendar.digits Calendar.dateText Calendar.timeText
@@ -124,7 +134,8 @@ openResult = tt
 unfoldable pub openCalls : Unit {0}
 unfolding Calls.recordTests Calls.sizesFit Calls.scriptTests Calls.readTests Calls.constantsOf Calls.typesOf Calls.typeTests Calls.check Calls.reportedTypes Calls.tablesFit
     Calls.loadTests Calls.loadResult Calls.load Calls.checkedOf Calls.soundIn Calls.entryTests Calls.runIn Calls.runTests Calls.ranOf Calls.runResult Calls.runCall Calls.pageIn
-    Calls.takeIn Calls.pageTests Calls.pageResult Calls.pageCall Calls.totalResult Calls.total Calls.numberCall
+    Calls.takeIn Calls.pageTests Calls.pageResult Calls.pageCall Calls.totalResult Calls.total Calls.numberCall Calls.suggestAnswer Calls.suggestFor Calls.suggestResult
+    Calls.suggest
 openCalls = tt
 
 unfoldable pub openCallList : Unit {0}
@@ -133,7 +144,8 @@ openCallList = tt
 
 unfoldable pub openExports : Unit {0}
 unfolding Exports.words Exports.itemsBytes Exports.savedBytes Exports.wordsFrom Exports.itemsFrom Exports.itemsGood Exports.savedFrom Exports.runReport Exports.pageReport
-    Exports.totalReport Exports.recordAfter Exports.loadExport Exports.runExport Exports.pageExport Exports.totalExport Exports.numberExport
+    Exports.totalReport Exports.recordAfter Exports.suggestReport Exports.loadExport Exports.runExport Exports.pageExport Exports.totalExport Exports.numberExport
+    Exports.suggestExport
 openExports = tt
 
 unfoldable pub openPrinter : Unit {0}
@@ -142,6 +154,6 @@ unfolding Printer.entryBody Printer.endFrom Printer.termsEnd Printer.schemaEnd P
 openPrinter = tt
 
 unfoldable pub opened : Unit {0}
-unfolding openAlphabet openBytes openAscii openTerms openText openReading openScope openTotal openTyping openCalendar openOutcome openTruth openValues openNumerals openEvaluate
-    openEvaluated openSearch openMachine openSaved openSound openResult openCalls openCallList openExports openPrinter
+unfolding openLists openAlphabet openBytes openAscii openTerms openText openReading openScope openTotal openTyping openSuggest openCalendar openOutcome openTruth openValues
+    openNumerals openEvaluate openEvaluated openSearch openMachine openSaved openSound openResult openCalls openCallList openExports openPrinter
 opened = tt

@@ -18,6 +18,7 @@ use Rattle.definitions.specs.Scope.{inScope}
 use Rattle.definitions.specs.Total.{totalOf}
 use Rattle.definitions.specs.Numerals.{numeralOf, termOf}
 use Rattle.definitions.specs.Typing.{Written, unbound, undecided, fixed, writtenTypes, typeAt, Verdict, noTyping, noGreatest, greatest, verdict}
+use Rattle.definitions.specs.Suggest.{Suggestion, suggestion}
 use Rattle.definitions.specs.Outcome as Outcomes
 use Rattle.definitions.specs.Outcome.{Outcome, ok}
 use Rattle.definitions.specs.Machine.{State, Run, run, lastOf, loaded, withProperties, Taken, taken, withPage, inLimits}
@@ -30,10 +31,12 @@ use Rattle.definitions.specs.declared.Loaded.{Loaded}
 use Rattle.definitions.specs.declared.Ran.{Ran}
 use Rattle.definitions.specs.declared.Paged.{Paged}
 use Rattle.definitions.specs.declared.TotalAnswer.{TotalAnswer}
+use Rattle.definitions.specs.declared.SuggestAnswer.{SuggestAnswer}
 use Rattle.definitions.specs.declared.LoadAnswer.the-variants as LoadAnswers
 use Rattle.definitions.specs.declared.RunAnswer.the-variants as RunAnswers
 use Rattle.definitions.specs.declared.PageAnswer.the-variants as PageAnswers
 use Rattle.definitions.specs.declared.TotalAnswer.the-variants as TotalAnswers
+use Rattle.definitions.specs.declared.SuggestAnswer.the-variants as SuggestAnswers
 
 -- ── terms, schema and script: 2 to 9 ────────────────────────────────────────────────────────
 
@@ -307,3 +310,25 @@ unfoldable pub numberCall : (text : List ℕ) → Result Term
 numberCall text = do
   n ← given 16 (numeralOf text)
   given 17 (termOf n)
+
+-- ── suggest: 2 to 8, and at the C interface 1 for its report ────────────────────────────────
+
+unfoldable pub suggestAnswer : Option Suggestion → SuggestAnswer
+suggestAnswer none = SuggestAnswers.NoSingle
+suggestAnswer (some w) = SuggestAnswers.Named (w .variable) (typeCode (w .type))
+
+-- in the place of refusal 9 the type to write
+unfoldable pub suggestFor : (constants : ℕ → Sort) → List Written → Script → SuggestAnswer
+suggestFor constants ws s =
+    elim (verdict constants ws s) [
+      | noTyping ↦ SuggestAnswers.Refused 8
+      | noGreatest ↦ suggestAnswer (suggestion constants ws s)
+      | greatest Γ ↦ SuggestAnswers.Accepted
+    ]
+
+unfoldable pub suggestResult : Result Parsed → SuggestAnswer
+suggestResult (refused n) = SuggestAnswers.Refused n
+suggestResult (passed x) = suggestFor (constantsOf (x .schema) (x .terms)) (writtenTypes (x .root)) (x .root)
+
+unfoldable pub suggest : (terms schema script : List ℕ) → SuggestAnswer
+suggest terms schema script = suggestResult (readTests terms schema script)

@@ -8,7 +8,7 @@ use lib.IntN.{ℤ}
 use lib.ListN.{length}
 use Rattle.definitions.specs.Limits.{variableLimit, graphLimit, depthLimit, pairLimit}
 use Rattle.definitions.specs.Limits.{typesOffset, boundOffset, bindingsOffset, fetchedOffset, itemsOffset, itemWidth, savedWidth}
-use Rattle.definitions.specs.Limits.{runReportWidth, pageReportWidth, totalReportWidth, numberRecordWidth}
+use Rattle.definitions.specs.Limits.{runReportWidth, pageReportWidth, totalReportWidth, numberRecordWidth, suggestReportWidth}
 use Rattle.definitions.specs.Lists.{every}
 use Rattle.definitions.specs.Alphabet.{isAlphabet}
 use Rattle.definitions.specs.Bytes.{byte, word, littleBytes, part, provided}
@@ -16,17 +16,19 @@ use Rattle.definitions.specs.Terms.{Term, recordOf}
 use Rattle.definitions.specs.Outcome.{Outcome, ok, _>>=_}
 use Rattle.definitions.specs.Result.{Result, refused, passed}
 use Rattle.definitions.specs.Saved.{zeroItem}
-use Rattle.definitions.specs.Calls.{Lent, lengthsFit, load, runCall, PageResult, pageCall, total, numberCall}
-use Rattle.definitions.specs.Numbers.{loadNumber, runNumber, pageNumber, totalNumber, resultNumber, stateNumber, wantedGraph}
+use Rattle.definitions.specs.Calls.{Lent, lengthsFit, load, runCall, PageResult, pageCall, total, numberCall, suggest}
+use Rattle.definitions.specs.Numbers.{loadNumber, runNumber, pageNumber, totalNumber, resultNumber, stateNumber, wantedGraph, suggestNumber}
 use Rattle.definitions.specs.declared.SavedItem.{SavedItem}
 use Rattle.definitions.specs.declared.SavedRun.{SavedRun}
 use Rattle.definitions.specs.declared.Ran.{Ran}
 use Rattle.definitions.specs.declared.RunAnswer.{RunAnswer}
 use Rattle.definitions.specs.declared.PageAnswer.{PageAnswer}
 use Rattle.definitions.specs.declared.TotalAnswer.{TotalAnswer}
+use Rattle.definitions.specs.declared.SuggestAnswer.{SuggestAnswer}
 use Rattle.definitions.specs.declared.RunAnswer.the-variants as RunAnswers
 use Rattle.definitions.specs.declared.PageAnswer.the-variants as PageAnswers
 use Rattle.definitions.specs.declared.TotalAnswer.the-variants as TotalAnswers
+use Rattle.definitions.specs.declared.SuggestAnswer.the-variants as SuggestAnswers
 
 -- ── the saved run as bytes ────────────────────────────────────────────────────────────────
 
@@ -112,6 +114,13 @@ unfoldable pub recordAfter : List ℕ → Result Term → List ℕ
 recordAfter lent (refused n) = lent
 recordAfter lent (passed t) = recordOf t
 
+-- 0 accepted as it is, 1 a type is named, 2 no single one would do; the variable and the code, both zero unless one is named; zero
+unfoldable pub suggestReport : List ℕ → SuggestAnswer → List ℕ
+suggestReport report SuggestAnswers.Accepted = 0 ∷ 0 ∷ 0 ∷ 0 ∷ []
+suggestReport report (SuggestAnswers.Named x code) = 1 ∷ x ∷ code ∷ 0 ∷ []
+suggestReport report SuggestAnswers.NoSingle = 2 ∷ 0 ∷ 0 ∷ 0 ∷ []
+suggestReport report (SuggestAnswers.Refused n) = report
+
 -- ── the calls: the number returned, and every lent buffer at the end ────────────────────────
 
 pub record LoadExport : Type 0 where
@@ -139,6 +148,10 @@ pub record TotalExport : Type 0 where
 pub record NumberExport : Type 0 where
   pub number : ℕ
   pub «record» : List ℕ
+
+pub record SuggestExport : Type 0 where
+  pub number : ℕ
+  pub report : List ℕ
 
 -- the saved run's bytes where nothing was refused, else those that were lent
 abbrev pub savedAfter : (number : ℕ) → SavedRun → (lent : List ℕ) → List ℕ
@@ -219,4 +232,12 @@ numberExport text lent =
     elim (eqb (length lent) numberRecordWidth) [
       | true ↦ record { number = resultNumber r; «record» = recordAfter lent r }
       | false ↦ record { number = 1; «record» = lent }
+    ]
+
+unfoldable pub suggestExport : (terms schema script report : List ℕ) → SuggestExport
+suggestExport terms schema script report =
+    let answer = suggest terms schema script in
+    elim (eqb (length report) suggestReportWidth) [
+      | true ↦ record { number = suggestNumber answer; report = suggestReport report answer }
+      | false ↦ record { number = 1; report = report }
     ]

@@ -11,6 +11,7 @@ pub mod Reading
 pub mod Scope
 pub mod Total
 pub mod Typing
+pub mod Suggest
 pub mod Calendar
 pub mod Outcome
 pub mod Truth

@@ -1,5 +1,5 @@
 -- Document 01's number for every case of an enum answer, the graph that a wanted one carries, and the term that a number's text reads as. What else an answer
--- carries stands in the reports (`Exports.runReport`, `Exports.pageReport`, `Exports.totalReport`).
+-- carries stands in the reports (`Exports.runReport`, `Exports.pageReport`, `Exports.totalReport`, `Exports.suggestReport`).
 use Prim.Native.Nat.{ℕ}
 use Rattle.definitions.specs.Bytes.{signed}
 use Rattle.definitions.specs.Terms.{Term}
@@ -11,11 +11,13 @@ use Rattle.definitions.specs.declared.RunAnswer.{RunAnswer}
 use Rattle.definitions.specs.declared.PageAnswer.{PageAnswer}
 use Rattle.definitions.specs.declared.TotalAnswer.{TotalAnswer}
 use Rattle.definitions.specs.declared.NumberAnswer.{NumberAnswer}
+use Rattle.definitions.specs.declared.SuggestAnswer.{SuggestAnswer}
 use Rattle.definitions.specs.declared.LoadAnswer.the-variants as LoadAnswers
 use Rattle.definitions.specs.declared.RunAnswer.the-variants as RunAnswers
 use Rattle.definitions.specs.declared.PageAnswer.the-variants as PageAnswers
 use Rattle.definitions.specs.declared.TotalAnswer.the-variants as TotalAnswers
 use Rattle.definitions.specs.declared.NumberAnswer.the-variants as NumberAnswers
+use Rattle.definitions.specs.declared.SuggestAnswer.the-variants as SuggestAnswers
 
 -- 0, or the refusal's number
 abbrev pub loadNumber : LoadAnswer → ℕ
@@ -43,6 +45,12 @@ abbrev pub termRead : NumberAnswer → Result Term
 termRead (NumberAnswers.Integer n) = passed (Term.integer (signed n))
 termRead (NumberAnswers.Decimal n) = passed (Term.decimal (signed n))
 termRead (NumberAnswers.Refused n) = refused n
+
+abbrev pub suggestNumber : SuggestAnswer → ℕ
+suggestNumber SuggestAnswers.Accepted = 0
+suggestNumber (SuggestAnswers.Named x code) = 0
+suggestNumber SuggestAnswers.NoSingle = 0
+suggestNumber (SuggestAnswers.Refused n) = n
 
 -- the state of a run, and the wanted graph's term number
 abbrev pub stateNumber : RunState → ℕ

@@ -74,6 +74,11 @@ pub data Written : Type 0 where
   unbound undecided : Written
   fixed : Ty → Written
 
+abbrev pub isOpen : Written → Bool
+isOpen unbound = false
+isOpen undecided = true
+isOpen (fixed τ) = false
+
 abbrev pub annotated : Option Ty → Written
 annotated none = undecided
 annotated (some τ) = fixed τ

@@ -114,6 +114,8 @@ pub const PAGE_REPORT_WIDTH: usize = 4;
 
 pub const TOTAL_REPORT_WIDTH: usize = 4;
 
+pub const SUGGEST_REPORT_WIDTH: usize = 4;
+
 // The refusals, by document 01's numbers.
 pub const WRONG_LENGTH: u8 = 1;
 
@@ -201,7 +203,7 @@ pub enum RunState {
 }
 
 // The answers of the calls: a refusal's number, or the result: steps and state of a run, the skipped count of a page, the total of
-// a script, the integer or the millionths that a text reads as, in two's complement.
+// a script, the integer or the millionths that a text reads as, in two's complement, a variable and the code of the type to write at it.
 pub enum LoadAnswer {
     Accepted,
     Refused(u8),
@@ -225,6 +227,13 @@ pub enum TotalAnswer {
 pub enum NumberAnswer {
     Integer(u64),
     Decimal(u64),
+    Refused(u8),
+}
+
+pub enum SuggestAnswer {
+    Accepted,
+    Named(u8, u8),
+    NoSingle,
     Refused(u8),
 }
 

@@ -5,4 +5,3 @@ pub mod PassedLaws
 pub mod PageLaws
 pub mod TakeLaws
 pub mod RunLaws
-pub mod TotalLaws

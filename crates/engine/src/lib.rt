@@ -1,5 +1,4 @@
-// The calls: load, run, page and total.
+// The calls on a store: load, run and page.
 pub mod load; // load.rt: the load call
 pub mod page; // page.rt: the page call
 pub mod run; // run.rt: the run call
-pub mod total; // total.rt: the total call

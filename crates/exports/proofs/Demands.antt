@@ -14,10 +14,12 @@ use Rattle.engine.proofs.run.run.Statement as run-call
 use Rattle.engine.proofs.run.run.Met as run-met
 use Rattle.engine.proofs.page.page.Statement as page-call
 use Rattle.engine.proofs.page.page.Met as page-met
-use Rattle.engine.proofs.total.total.Statement as total-call
-use Rattle.engine.proofs.total.total.Met as total-met
+use Rattle.card_calls.proofs.total.total.Statement as total-call
+use Rattle.card_calls.proofs.total.total.Met as total-met
 use Rattle.numbers.proofs.read_number.Statement as number-call
 use Rattle.numbers.proofs.read_number.Met as number-met
+use Rattle.card_calls.proofs.suggest.suggest.Statement as suggest-call
+use Rattle.card_calls.proofs.suggest.suggest.Met as suggest-met
 use Rattle.exports.proofs.willetcoffer_load.Statement as load-export
 use Rattle.exports.proofs.willetcoffer_load.Met as load-export-met
 use Rattle.exports.proofs.willetcoffer_run.Statement as run-export
@@ -28,6 +30,8 @@ use Rattle.exports.proofs.willetcoffer_total.Statement as total-export
 use Rattle.exports.proofs.willetcoffer_total.Met as total-export-met
 use Rattle.exports.proofs.willetcoffer_number.Statement as number-export
 use Rattle.exports.proofs.willetcoffer_number.Met as number-export-met
+use Rattle.exports.proofs.willetcoffer_suggest.Statement as suggest-export
+use Rattle.exports.proofs.willetcoffer_suggest.Met as suggest-export-met
 use Rattle.theorems.specs.Hosts.{HostCall}
 use Rattle.theorems.specs.Demand1.{Demand1}
 use Rattle.theorems.specs.Demand2.{Demand2}
@@ -39,6 +43,7 @@ use Rattle.theorems.specs.OneOrder.{OneOrder}
 use Rattle.theorems.specs.Truths.{Truths}
 use Rattle.theorems.specs.Alphabets.{Alphabets}
 use Rattle.theorems.specs.NumberTexts.{NumberTexts}
+use Rattle.theorems.specs.OneType.{OneTypes}
 use Rattle.theorems.proofs.Demand1.{demand-1}
 use Rattle.theorems.proofs.Demand2.{demand-2}
 use Rattle.theorems.proofs.Demand3.{demand-3}
@@ -49,6 +54,7 @@ use Rattle.theorems.proofs.OneOrder.{one-order-of-quads}
 use Rattle.theorems.proofs.Truths.{truths}
 use Rattle.theorems.proofs.Alphabets.{alphabets}
 use Rattle.theorems.proofs.NumberTexts.{number-texts}
+use Rattle.theorems.proofs.OneType.{one-types}
 
 pub record Demands (M : Type 1) : Type 2 where
   -- the code of each call does what the call's definition says
@@ -57,12 +63,14 @@ pub record Demands (M : Type 1) : Type 2 where
   pub pages : page-call.statement M
   pub totals : total-call.statement M
   pub numbers : number-call.statement M
+  pub suggestions : suggest-call.statement M
   -- and that of each export what the definition on bytes says
   pub loadExports : load-export.statement M
   pub runExports : run-export.statement M
   pub pageExports : page-export.statement M
   pub totalExports : total-export.statement M
   pub numberExports : number-export.statement M
+  pub suggestExports : suggest-export.statement M
   -- refusals, of the calls and at the C interface
   pub first : Demand1
   pub firstOnBytes : ExportRefusals
@@ -82,6 +90,8 @@ pub record Demands (M : Type 1) : Type 2 where
   pub alphabets : Alphabets
   -- Ask 1: which texts are numbers, and that str's texts read back
   pub numberTexts : NumberTexts
+  -- Ask 13: the type that is named would do, and no lower one; none is named only if none would do
+  pub oneTypes : OneTypes
 
 pub demands : {M : Type 1} → Demands M
 demands =
@@ -91,11 +101,13 @@ demands =
       pages = page-met.met;
       totals = total-met.met;
       numbers = number-met.met;
+      suggestions = suggest-met.met;
       loadExports = load-export-met.met;
       runExports = run-export-met.met;
       pageExports = page-export-met.met;
       totalExports = total-export-met.met;
       numberExports = number-export-met.met;
+      suggestExports = suggest-export-met.met;
       first = demand-1;
       firstOnBytes = export-refusals;
       second = demand-2;
@@ -106,4 +118,5 @@ demands =
       oneOrder = one-order-of-quads;
       alphabets = alphabets;
       numberTexts = number-texts;
+      oneTypes = one-types;
     }

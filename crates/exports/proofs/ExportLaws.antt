@@ -10,17 +10,18 @@ use borrow.Author.Tests.{eq-eqb, ne-eqb, not-true, not-false}
 use Rattle.definitions.specs.Terms.{Term}
 use Rattle.definitions.specs.Outcome.{ok, _>>=_}
 use Rattle.definitions.specs.Result.{Result}
-use Rattle.definitions.specs.Calls.{Lent, lengthsOf, load, runCall, pageCall, total, numberCall}
+use Rattle.definitions.specs.Calls.{Lent, lengthsOf, load, runCall, pageCall, total, numberCall, suggest}
 use Rattle.definitions.specs.Alphabet.{isAlphabet}
-use Rattle.definitions.specs.Numbers.{loadNumber, runNumber, pageNumber, totalNumber, resultNumber}
-use Rattle.definitions.specs.Limits.{savedWidth, runReportWidth, pageReportWidth, totalReportWidth, numberRecordWidth}
-use Rattle.definitions.specs.Exports.{savedFrom, savedAfter, runReport, pageReport, totalReport, recordAfter}
-use Rattle.definitions.specs.Exports.{loadExport, refusedRun, ranExport, runExport, refusedPage, pagedExport, pageExport, totalExport, numberExport}
+use Rattle.definitions.specs.Numbers.{loadNumber, runNumber, pageNumber, totalNumber, resultNumber, suggestNumber}
+use Rattle.definitions.specs.Limits.{savedWidth, runReportWidth, pageReportWidth, totalReportWidth, numberRecordWidth, suggestReportWidth}
+use Rattle.definitions.specs.Exports.{savedFrom, savedAfter, runReport, pageReport, totalReport, recordAfter, suggestReport}
+use Rattle.definitions.specs.Exports.{loadExport, refusedRun, ranExport, runExport, refusedPage, pagedExport, pageExport, totalExport, numberExport, suggestExport}
 use Rattle.definitions.specs.declared.SavedRun.{SavedRun}
 use Rattle.definitions.specs.declared.Loaded.{Loaded}
 use Rattle.definitions.specs.declared.Ran.{Ran}
 use Rattle.definitions.specs.declared.Paged.{Paged}
 use Rattle.definitions.specs.declared.TotalAnswer.{TotalAnswer}
+use Rattle.definitions.specs.declared.SuggestAnswer.{SuggestAnswer}
 use Rattle.laws.proofs.SoundIn.{entry-ranks}
 use Rattle.entry.specs.Entry.{unreadNumber}
 use Rattle.engine.proofs.RunLaws as RunLaws
@@ -153,3 +154,18 @@ module _ (text lent : List ℕ) where
       let m = number ∙ ap resultNumber e in
       let k = written ∙ ap (recordAfter lent) e in
       rw (numberExport, eq-eqb (length lent) numberRecordWidth h) (λ i. record { number = sym m i; «record» = sym k i })
+
+-- ── suggest ─────────────────────────────────────────────────────────────────────────────────
+
+module _ (terms schema script report : List ℕ) where
+  pub suggest-length : (length report ≡ suggestReportWidth → ⊥) → suggestExport terms schema script report ≡ record { number = 1; report = report }
+  unfolding suggestExport
+  suggest-length h = rw (suggestExport, ne-eqb (length report) suggestReportWidth h)
+
+  pub suggest-done : {answer : SuggestAnswer} {p : List ℕ} {n : ℕ} → length report ≡ suggestReportWidth → answer ≡ suggest terms schema script
+      → p ≡ suggestReport report answer → n ≡ suggestNumber answer → suggestExport terms schema script report ≡ record { number = n; report = p }
+  unfolding suggestExport
+  suggest-done h e written number =
+      let m = number ∙ ap suggestNumber e in
+      let k = written ∙ ap (suggestReport report) e in
+      rw (suggestExport, eq-eqb (length report) suggestReportWidth h) (λ i. record { number = sym m i; report = sym k i })

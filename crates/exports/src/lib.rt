@@ -1,14 +1,14 @@
-// The C interface: the calls as other programs link them, over the saved run as bytes and back, and the reports.
+// The C interface: the calls as other programs link them, over the saved run as bytes and back.
 pub mod handing; // handing.rt: what load, run and page have in common
-pub mod reports;
 
 ghost use mathlib.Core.Path.{_≡_};
 ghost use Rattle.definitions.specs.Outcome.{ok};
-ghost use Rattle.definitions.specs.Exports.{loadExport, runExport, pageExport, totalExport, numberExport};
+ghost use Rattle.definitions.specs.Exports.{loadExport, runExport, pageExport, totalExport, numberExport, suggestExport};
 use definitions::NUMBER_RECORD_WIDTH;
 use definitions::PAGE_REPORT_WIDTH;
 use definitions::RUN_REPORT_WIDTH;
 use definitions::SAVED_WIDTH;
+use definitions::SUGGEST_REPORT_WIDTH;
 use definitions::TOTAL_REPORT_WIDTH;
 use layout::reading;
 
@@ -195,13 +195,13 @@ pub extern "C" fn willetcoffer_total(
     if report.len() != TOTAL_REPORT_WIDTH {
         return 1;
     }
-    let answer = engine::total::total(terms, schema, script);
+    let answer = card_calls::total::total(terms, schema, script);
     reports::write_total_report(answer, report);
     reports::total_number(answer)
 }
 
 // Number: 1 for its record, then 16, 17.
-// Ruled out: a record of any length taken; a record written on a refusal.
+// Ruled out: a record of any length taken; a decimal's record with the kind of an integer.
 #[no_mangle]
 pub extern "C" fn willetcoffer_number(text: &[u8], record: &mut [u8]) -> u32
     ensures { λ r. ⌜ numberExport (now (text .entry)) (now («record» .entry)) ≡ record { number = r; «record» = now («record» .exit) } ⌝ }
@@ -212,4 +212,24 @@ pub extern "C" fn willetcoffer_number(text: &[u8], record: &mut [u8]) -> u32
     let answer = numbers::read_number(text);
     reports::write_term(answer, record);
     reports::refusal_number(answer)
+}
+
+// Suggest: 1 for its report, then 2 to 8.
+// Ruled out: a suggestion that takes a report of any length; one that returns 0 for a refused card.
+#[no_mangle]
+pub extern "C" fn willetcoffer_suggest(
+    terms: &[u8],
+    schema: &[u8],
+    script: &[u8],
+    report: &mut [u8],
+) -> u32
+    ensures { λ r. ⌜ suggestExport (now (terms .entry)) (now (schema .entry)) (now (script .entry)) (now (report .entry))
+        ≡ record { number = r; report = now (report .exit) } ⌝ }
+{
+    if report.len() != SUGGEST_REPORT_WIDTH {
+        return 1;
+    }
+    let answer = card_calls::suggest::suggest(terms, schema, script);
+    reports::write_suggest_report(answer, report);
+    reports::suggest_number(answer)
 }

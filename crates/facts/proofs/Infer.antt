@@ -13,19 +13,19 @@ use Rattle.definitions.specs.Types.{Datatype, anyURI, decimal, dateTime, intege
 use Rattle.definitions.specs.Terms.{Sort}
 use Rattle.definitions.specs.Tree.{Name, var, const, Script}
 use Rattle.definitions.specs.Scope.{variables}
-use Rattle.definitions.specs.Typing.{Written, unbound, undecided, fixed, typeAt, Verdict, noTyping, noGreatest, greatest, verdict}
-use Rattle.laws.proofs.Variables.{at-variable}
+use Rattle.definitions.specs.Typing.{Written, unbound, undecided, fixed, isOpen, typeAt, above, Verdict, noTyping, noGreatest, greatest, verdict}
+use Rattle.laws.proofs.Variables.{at-variable, made-is}
 use Rattle.laws.proofs.Tests.{andLeft, andRight, andMake, notBoth, trueIs, falseIs, by-test}
-use Rattle.laws.proofs.Order.{leq-refl}
+use Rattle.laws.proofs.Order.{leq-refl, leq-trans, leq-antisym, same-type}
 use Rattle.laws.proofs.TestEquations.{passes-if}
 use Rattle.laws.proofs.Ranges.{split}
 use Rattle.laws.specs.Typings.{Allowed as AllowedBy, Fits, IsTyping, IsGreatest, Says}
 use Rattle.laws.proofs.Typings.{fits-length, fits-at, fits-of, above-at, above-of, verdict-is}
 use Rattle.facts.specs.Demands.{scriptDemands}
 use Rattle.facts.specs.declared.noting.Tables.{Tables}
-use Rattle.facts.specs.Tables.{familyLimit, ownNode, rangeNode, edgeAt, fresh, writtenPlace, place, allNoted}
+use Rattle.facts.specs.Tables.{familyLimit, ownNode, rangeNode, edgeAt, writtenPlace, place}
 use Rattle.laws.specs.Lists.{flag}
-use Rattle.facts.specs.Infer.{allBelow, isOpen, chosen, ofFamily, made, root, apart, settled, tight, decided, best, bestTypes, readOff, infer}
+use Rattle.facts.specs.Infer.{allBelow, chosen, ofFamily, made, root, apart, settled, tight, decided, best, bestTypes, readOff, tablesOf, infer}
 use Rattle.facts.proofs.Demands.{nameType, script-met}
 use Rattle.facts.proofs.Tables.{Environment, Satisfies, Open, Sound}
 use Rattle.facts.proofs.NotingLaws.{typeIn, tables-sound, tables-say}
@@ -143,16 +143,19 @@ pub type-of : (f : ℕ → Ty) (x : ℕ) → x < variableLimit → typeAt (map f
 type-of f x l = at-variable f (plain anyURI) x l
 
 -- of a typing
-abbrev ofTyping : List Ty → Environment
+abbrev pub ofTyping : List Ty → Environment
 ofTyping Γ = record { type = typeAt Γ; spare = λ x. anyURI }
 
-module _ (constants : ℕ → Sort) (ws : List Written) (per-variable : length ws ≡ variableLimit) where
+module _ (ws : List Written) (per-variable : length ws ≡ variableLimit) where
   -- types for the open variables make a type for each variable
-  abbrev typingOf : (ℕ → Ty) → List Ty
+  abbrev pub typingOf : (ℕ → Ty) → List Ty
   typingOf f = map (λ x. chosen (getD ws x unbound) (f x)) variables
 
-  typing-at : (f : ℕ → Ty) (x : ℕ) → x < variableLimit → typeAt (typingOf f) x ≡ chosen (getD ws x unbound) (f x)
+  pub typing-at : (f : ℕ → Ty) (x : ℕ) → x < variableLimit → typeAt (typingOf f) x ≡ chosen (getD ws x unbound) (f x)
   typing-at f x l = type-of (λ x. chosen (getD ws x unbound) (f x)) x l
+
+  pub typing-open : (f : ℕ → Ty) (x : ℕ) → Open ws x → typeAt (typingOf f) x ≡ f x
+  typing-open f x o = typing-at f x (o .0) ∙ ap (λ w. chosen w (f x)) (o .1)
 
   typing-fits : (f : ℕ → Ty) → Fits ws (typingOf f)
   typing-fits f =
@@ -164,6 +167,107 @@ module _ (constants : ℕ → Sort) (ws : List Written) (per-variable : length w
       fits undecided τ = tt
       fits (fixed σ) τ = refl
 
+  -- types that fit are made of those of the open variables
+  chosen-is : (w : Written) (σ τ : Ty) → AllowedBy w σ → (w ≡ undecided → τ ≡ σ) → chosen w τ ≡ σ
+  chosen-is unbound σ τ a e = sym a
+  chosen-is undecided σ τ a e = e refl
+  chosen-is (fixed ρ) σ τ a e = sym a
+
+  typing-is : (f : ℕ → Ty) (Γ : List Ty) → Fits ws Γ → ((x : ℕ) → Open ws x → f x ≡ typeAt Γ x) → typingOf f ≡ Γ
+  typing-is f Γ fit h =
+      made-is (plain anyURI) (λ x. chosen (getD ws x unbound) (f x)) Γ (fits-length ws Γ fit ∙ per-variable)
+      (λ x l. chosen-is (getD ws x unbound) (typeAt Γ x) (f x) (fits-at ws Γ fit x) (λ e. h x (l, e)))
+
+  -- types that fit are above others that do, where those of the open variables are
+  allowed-leq : (w : Written) (σ τ : Ty) → AllowedBy w σ → AllowedBy w τ → (w ≡ undecided → T (leq σ τ)) → T (leq σ τ)
+  allowed-leq unbound σ τ a b h = subst (λ ρ. T (leq σ ρ)) (a ∙ sym b) (leq-refl σ)
+  allowed-leq undecided σ τ a b h = h refl
+  allowed-leq (fixed ρ) σ τ a b h = subst (λ ρ. T (leq σ ρ)) (a ∙ sym b) (leq-refl σ)
+
+  fits-above : (Γ Δ : List Ty) → Fits ws Γ → Fits ws Δ → ((x : ℕ) → Open ws x → T (leq (typeAt Δ x) (typeAt Γ x))) → T (above Γ Δ)
+  fits-above Γ Δ f g h =
+      above-of Γ Δ (fits-length ws Γ f ∙ sym (fits-length ws Δ g))
+      (λ x l. allowed-leq (getD ws x unbound) (typeAt Δ x) (typeAt Γ x) (fits-at ws Δ g x) (fits-at ws Γ f x)
+      (λ e. h x (omega (arith, fits-length ws Γ f), e)))
+
+-- ── what is read off tables ─────────────────────────────────────────────────────────────────
+
+-- tables stand for some typings: each of them satisfies the tables, and above types that satisfy them there is one
+pub record StandFor (ws : List Written) (t : Tables) (Is : List Ty → Type 0) : Type 0 where
+  pub sound : Sound ws t
+  pub fits : (Γ : List Ty) → Is Γ → Fits ws Γ
+  pub satisfies : (Γ : List Ty) → Is Γ → Satisfies (ofTyping Γ) t
+  pub over : (E : Environment) → Satisfies E t → (Γ : List Ty) × Is Γ × ((x : ℕ) → Open ws x → T (leq (E .type x) (typeAt Γ x)))
+
+module _ (ws : List Written) (per-variable : length ws ≡ variableLimit) (t : Tables) (Is : List Ty → Type 0) (h : StandFor ws t Is) where
+  none : T (not (apart t)) → (Γ : List Ty) → Is Γ → ⊥
+  none n Γ i = notBoth (apart t) (satisfied-apart t (h .sound) (ofTyping Γ) (h .satisfies Γ i)) n
+
+  module _ (good : T (apart t)) where
+    over-choice : (c : Choice) → Allowed t c → (Γ : List Ty) × Is Γ × ((x : ℕ) → Open ws x → T (leq (solution t c .type x) (typeAt Γ x)))
+    over-choice c a = h .over (solution t c) (solution-satisfies t (h .sound) good c a)
+
+    -- a greatest one leaves nothing open
+    greatest-over : (Γ : List Ty) → IsGreatest Is Γ → (c : Choice) → Allowed t c → (x : ℕ) → Open ws x → T (leq (solution t c .type x) (typeAt Γ x))
+    greatest-over Γ g c a x o =
+        let r = over-choice c a in
+        leq-trans (solution t c .type x) (typeAt (r .0) x) (typeAt Γ x) (r .2 x o) (above-at Γ (r .0) (g .1 (r .0) (r .1)) x)
+
+    greatest-decides : (Γ : List Ty) → IsGreatest Is Γ → T (decided t ws)
+    greatest-decides Γ g =
+        let s = h .satisfies Γ (g .0) in
+        decided-says t ws (h .sound) .1
+        (all-settled t (h .sound) good (ofTyping Γ) s (greatest-over Γ g), all-tight t (h .sound) good (ofTyping Γ) s (greatest-over Γ g))
+
+    -- with nothing open the best types are the greatest
+    module _ (all : T (decided t ws)) where
+      abbrev top : ℕ → Ty
+      top = solution t (greatestChoice t) .type
+
+      over-top : (Γ : List Ty) × Is Γ × ((x : ℕ) → Open ws x → T (leq (top x) (typeAt Γ x)))
+      over-top = over-choice (greatestChoice t) (greatest-allowed t (h .sound) good (decided-says t ws (h .sound) .0 all .1))
+
+      under-top : (Δ : List Ty) → Is Δ → (x : ℕ) → Open ws x → T (leq (typeAt Δ x) (top x))
+      under-top Δ i x o = greatest-above t (h .sound) good (ofTyping Δ) (h .satisfies Δ i) x (o .0) (decided-says t ws (h .sound) .0 all .0 x o)
+
+      top-greatest : IsGreatest Is (over-top .0)
+      top-greatest = (
+        over-top .1,
+        λ Δ i. fits-above ws per-variable (over-top .0) Δ (h .fits (over-top .0) (over-top .1)) (h .fits Δ i) (λ x o.
+            leq-trans (typeAt Δ x) (top x) (typeAt (over-top .0) x) (under-top Δ i x o) (over-top .2 x o)),
+      )
+
+      top-is : typingOf ws per-variable top ≡ over-top .0
+      top-is =
+          typing-is ws per-variable top (over-top .0) (h .fits (over-top .0) (over-top .1))
+          (λ x o. same-type (top x) (typeAt (over-top .0) x)
+          (leq-antisym (top x) (typeAt (over-top .0) x) (over-top .2 x o) (under-top (over-top .0) (over-top .1) x o)))
+
+      best-greatest : IsGreatest Is (bestTypes t ws)
+      unfolding bestTypes
+      best-greatest = subst (IsGreatest Is) (sym top-is ∙ ap (typingOf ws per-variable) (sym (best-is t))) top-greatest
+
+  pub read-off-says : Says Is (readOff t ws)
+  unfolding readOff
+  read-off-says = outer (apart t) refl
+    where
+      inner : T (apart t) → (b : Bool) → decided t ws ≡ b → Says Is (elim b as (λ c. Verdict) [ true ↦ greatest (bestTypes t ws) | false ↦ noGreatest ])
+      inner good true e = best-greatest good (trueIs (decided t ws) e)
+      inner good false e =
+          let some = over-choice good (ownGreatest t 3 (lit< tt)) (own-allowed t 3 (lit< tt)) in
+          ((some .0, some .1), λ Γ g. notBoth (decided t ws) (greatest-decides good Γ g) (falseIs (decided t ws) e))
+
+      outer : (b : Bool) → apart t ≡ b
+          → Says Is (elim b as (λ c. Verdict) [
+            | true ↦ elim (decided t ws) as (λ c. Verdict) [ true ↦ greatest (bestTypes t ws) | false ↦ noGreatest ]
+            | false ↦ noTyping
+          ])
+      outer true e = inner (trueIs (apart t) e) (decided t ws) refl
+      outer false e = none (falseIs (apart t) e)
+
+-- ── the theorem ─────────────────────────────────────────────────────────────────────────────
+
+module _ (constants : ℕ → Sort) (ws : List Written) (per-variable : length ws ≡ variableLimit) where
   -- the types of the names are those of their places
   typing-agrees : (Γ : List Ty) → Fits ws Γ → (n : Name) → nameType constants (typeAt Γ) n ≡ typeIn (ofTyping Γ) (place constants ws n)
   unfolding place
@@ -175,7 +279,7 @@ module _ (constants : ℕ → Sort) (ws : List Written) (per-variable : length w
       go (fixed τ) e = e
   typing-agrees Γ f (const c) = refl
 
-  types-agree : (E : Environment) (n : Name) → nameType constants (typeAt (typingOf (E .type))) n ≡ typeIn E (place constants ws n)
+  types-agree : (E : Environment) (n : Name) → nameType constants (typeAt (typingOf ws per-variable (E .type))) n ≡ typeIn E (place constants ws n)
   unfolding place
   types-agree E (var x) = go (split variableLimit x)
     where
@@ -184,103 +288,46 @@ module _ (constants : ℕ → Sort) (ws : List Written) (per-variable : length w
       same undecided = refl
       same (fixed τ) = refl
 
-      go : (variableLimit ≤ x) ⊎ (x < variableLimit) → typeAt (typingOf (E .type)) x ≡ typeIn E (writtenPlace x (getD ws x unbound))
+      go : (variableLimit ≤ x) ⊎ (x < variableLimit) → typeAt (typingOf ws per-variable (E .type)) x ≡ typeIn E (writtenPlace x (getD ws x unbound))
       go (inl l) =
-          List·getD-eq-default (typingOf (E .type)) (plain anyURI) {n = x} l
+          List·getD-eq-default (typingOf ws per-variable (E .type)) (plain anyURI) {n = x} l
           ∙ ap (λ w. typeIn E (writtenPlace x w)) (sym (List·getD-eq-default ws unbound {n = x} (omega arith)))
-      go (inr l) = typing-at (E .type) x l ∙ same (getD ws x unbound)
+      go (inr l) = typing-at ws per-variable (E .type) x l ∙ same (getD ws x unbound)
   types-agree E (const c) = refl
-
--- ── the theorem ─────────────────────────────────────────────────────────────────────────────
 
 module _ (constants : ℕ → Sort) (ws : List Written) (per-variable : length ws ≡ variableLimit) (s : Script) where
   abbrev t : Tables
-  t = allNoted constants ws (scriptDemands s) fresh
+  t = tablesOf constants ws s
 
-  sound : Sound ws t
-  sound = tables-sound constants ws per-variable (scriptDemands s)
-
-  abbrev typing : List Ty → Type 0
-  typing Γ = IsTyping constants ws s Γ
-
-  abbrev types : (ℕ → Ty) → List Ty
-  types f = typingOf constants ws per-variable f
+  pub script-sound : Sound ws t
+  script-sound = tables-sound constants ws per-variable (scriptDemands s)
 
   -- a typing satisfies the tables, and types that satisfy them make a typing
-  typing-satisfies : (Γ : List Ty) → typing Γ → Satisfies (ofTyping Γ) t
+  pub typing-satisfies : (Γ : List Ty) → IsTyping constants ws s Γ → Satisfies (ofTyping Γ) t
   typing-satisfies Γ h =
       tables-say constants ws per-variable (scriptDemands s) (typeAt Γ) (ofTyping Γ) (typing-agrees constants ws per-variable Γ (h .0)) .1
       (subst T (script-met constants (typeAt Γ) s) (h .1))
 
-  satisfied-typing : (E : Environment) → Satisfies E t → typing (types (E .type))
+  pub satisfied-typing : (E : Environment) → Satisfies E t → IsTyping constants ws s (typingOf ws per-variable (E .type))
   satisfied-typing E h =
-      let Γ = types (E .type) in
+      let Γ = typingOf ws per-variable (E .type) in
       let m = tables-say constants ws per-variable (scriptDemands s) (typeAt Γ) E (types-agree constants ws per-variable E) .0 h in
-      (typing-fits constants ws per-variable (E .type), subst T (sym (script-met constants (typeAt Γ) s)) m)
+      (typing-fits ws per-variable (E .type), subst T (sym (script-met constants (typeAt Γ) s)) m)
 
-  none : T (not (apart t)) → (Γ : List Ty) → typing Γ → ⊥
-  none n Γ h = notBoth (apart t) (satisfied-apart t sound (ofTyping Γ) (typing-satisfies Γ h)) n
-
-  module _ (good : T (apart t)) where
-    choice-typing : (c : Choice) → Allowed t c → typing (types (solution t c .type))
-    choice-typing c a = satisfied-typing (solution t c) (solution-satisfies t sound good c a)
-
-    -- a greatest typing leaves nothing open
-    greatest-over : (Γ : List Ty) → IsGreatest typing Γ → (c : Choice) → Allowed t c → (x : ℕ) → Open ws x → T (leq (solution t c .type x) (typeAt Γ x))
-    greatest-over Γ g c a x o =
-        let f = solution t c .type in
-        subst (λ τ. T (leq τ (typeAt Γ x))) (typing-at constants ws per-variable f x (o .0) ∙ ap (λ w. chosen w (f x)) (o .1))
-        (above-at Γ (types f) (g .1 (types f) (choice-typing c a)) x)
-
-    greatest-decides : (Γ : List Ty) → IsGreatest typing Γ → T (decided t ws)
-    greatest-decides Γ g =
-        let h = typing-satisfies Γ (g .0) in
-        decided-says t ws sound .1 (all-settled t sound good (ofTyping Γ) h (greatest-over Γ g), all-tight t sound good (ofTyping Γ) h (greatest-over Γ g))
-
-    -- with nothing open the best types are the greatest typing
-    module _ (all : T (decided t ws)) where
-      abbrev top : ℕ → Ty
-      top = solution t (greatestChoice t) .type
-
-      top-over : (Δ : List Ty) → typing Δ → (x : ℕ) → x < variableLimit → T (leq (typeAt Δ x) (typeAt (types top) x))
-      top-over Δ h x l =
-          subst (λ τ. T (leq (typeAt Δ x) τ)) (sym (typing-at constants ws per-variable top x l)) (go (getD ws x unbound) refl (fits-at ws Δ (h .0) x))
-        where
-          go : (w : Written) → getD ws x unbound ≡ w → AllowedBy w (typeAt Δ x) → T (leq (typeAt Δ x) (chosen w (top x)))
-          go unbound e f = subst (λ τ. T (leq (typeAt Δ x) τ)) f (leq-refl (typeAt Δ x))
-          go undecided e f = greatest-above t sound good (ofTyping Δ) (typing-satisfies Δ h) x l (decided-says t ws sound .0 all .0 x (l, e))
-          go (fixed σ) e f = subst (λ τ. T (leq (typeAt Δ x) τ)) f (leq-refl (typeAt Δ x))
-
-      top-greatest : IsGreatest typing (types top)
-      top-greatest = (
-        choice-typing (greatestChoice t) (greatest-allowed t sound good (decided-says t ws sound .0 all .1)),
-        λ Δ h. above-of (types top) Δ (sym (fits-length ws Δ (h .0) ∙ per-variable)) (top-over Δ h),
-      )
-
-      best-greatest : IsGreatest typing (bestTypes t ws)
-      unfolding bestTypes
-      best-greatest = subst (λ f. IsGreatest typing (types f)) (sym (best-is t)) top-greatest
-
-  read-off-says : Says typing (readOff t ws)
-  unfolding readOff
-  read-off-says = outer (apart t) refl
-    where
-      inner : T (apart t) → (b : Bool) → decided t ws ≡ b → Says typing (elim b as (λ c. Verdict) [ true ↦ greatest (bestTypes t ws) | false ↦ noGreatest ])
-      inner good true e = best-greatest good (trueIs (decided t ws) e)
-      inner good false e = (
-        (types (solution t (ownGreatest t 3 (lit< tt)) .type), choice-typing good (ownGreatest t 3 (lit< tt)) (own-allowed t 3 (lit< tt))),
-        λ Γ g. notBoth (decided t ws) (greatest-decides good Γ g) (falseIs (decided t ws) e),
-      )
-
-      outer : (b : Bool) → apart t ≡ b
-          → Says typing (elim b as (λ c. Verdict) [
-            | true ↦ elim (decided t ws) as (λ c. Verdict) [ true ↦ greatest (bestTypes t ws) | false ↦ noGreatest ]
-            | false ↦ noTyping
-          ])
-      outer true e = inner (trueIs (apart t) e) (decided t ws) refl
-      outer false e = none (falseIs (apart t) e)
+  script-stands : StandFor ws t (IsTyping constants ws s)
+  script-stands = record {
+    sound = script-sound;
+    fits = λ Γ i. i .0;
+    satisfies = typing-satisfies;
+    over = λ E h. (
+      typingOf ws per-variable (E .type),
+      satisfied-typing E h,
+      λ x o. subst (λ τ. T (leq (E .type x) τ)) (sym (typing-open ws per-variable (E .type) x o)) (leq-refl (E .type x)),
+    );
+  }
 
   -- for all constants, written types of the variables, and scripts
   pub infer-is-verdict : infer constants ws s ≡ verdict constants ws s
   unfolding infer
-  infer-is-verdict = sym (verdict-is constants ws s (readOff t ws) .1 read-off-says)
+  infer-is-verdict =
+      sym (verdict-is constants ws s (readOff t ws) .1 (read-off-says ws per-variable t (IsTyping constants ws s) script-stands))

@@ -31,17 +31,17 @@ use Rattle.facts.proofs.Tables.{adds-then, adds-as, adds-when, merged-j
 
 -- ── one thing noted ─────────────────────────────────────────────────────────────────────────
 
-own-below : {x : ℕ} → x < variableLimit → ownNode x < nodeLimit
+pub own-below : {x : ℕ} → x < variableLimit → ownNode x < nodeLimit
 own-below l = omega arith
 
-range-below : {x : ℕ} → x < variableLimit → rangeNode x < nodeLimit
+pub range-below : {x : ℕ} → x < variableLimit → rangeNode x < nodeLimit
 range-below l = omega arith
 
-node-below : (d : Datatype) → family d < nodeLimit
+pub node-below : (d : Datatype) → family d < nodeLimit
 node-below d = omega (arith, family-below d)
 
 module _ {ws : List Written} (t : Tables) (s : Sound ws t) where
-  at-most-adds : (x : ℕ) (d : Datatype) → x < variableLimit → Adds ws t (atMost x d t) (λ E. T (leqDatatype (ownOf E x) d))
+  pub at-most-adds : (x : ℕ) (d : Datatype) → x < variableLimit → Adds ws t (atMost x d t) (λ E. T (leqDatatype (ownOf E x) d))
   unfolding atMost
   at-most-adds x d l = adds-as (adds-then joins (adds-when (sameDatatype d integer) (withLow x) (joins .sound) low)) words
     where
@@ -66,7 +66,7 @@ module _ {ws : List Written} (t : Tables) (s : Sound ws t) where
         ),
       )
 
-  as-property-adds : (p : ℕ) → p < variableLimit → Adds ws t (asProperty p t) (λ E. Property E p)
+  pub as-property-adds : (p : ℕ) → p < variableLimit → Adds ws t (asProperty p t) (λ E. Property E p)
   unfolding asProperty
   as-property-adds p l = adds-as (adds-then joins (property-adds t₁ (joins .sound) p l joined)) words
     where
@@ -86,11 +86,11 @@ module _ {ws : List Written} (t : Tables) (s : Sound ws t) where
       words : (E : Environment) → ((value E (ownNode p) ≡ value E 0) × Property E p) ↔ Property E p
       words E = (λ h. h .1, λ h. (value-own E p l ∙ is-uri (E .type p) h ∙ sym (value-family E anyURI), h))
 
-  property-flagged : (p : ℕ) → p < variableLimit → T (flag (asProperty p t .property) p)
+  pub property-flagged : (p : ℕ) → p < variableLimit → T (flag (asProperty p t .property) p)
   unfolding asProperty
   property-flagged p l = property-flag (merged (ownNode p) 0 t) (merged-adds t s (ownNode p) 0 (own-below l) (omega arith) .sound) p l
 
-  at-least-adds : (p : ℕ) (d : Datatype) → p < variableLimit → Adds ws t (atLeast p d t) (λ E. Property E p × T (leqDatatype d (rangeOf E p)))
+  pub at-least-adds : (p : ℕ) (d : Datatype) → p < variableLimit → Adds ws t (atLeast p d t) (λ E. Property E p × T (leqDatatype d (rangeOf E p)))
   unfolding atLeast
   at-least-adds p d l = adds-as (adds-then noting (adds-then joins (adds-when (sameDatatype d decimal) (withHigh p) (joins .sound) high))) words
     where
@@ -147,7 +147,7 @@ module _ {ws : List Written} (t : Tables) (s : Sound ws t) where
         λ h. (h .0, (value-range E p ∙ sym (leq-family (ownOf E x) (rangeOf E p) (h .1)) ∙ sym (value-own E x (ox .0)), h .1)),
       )
 
-  impossible-adds : Adds ws t (impossible t) (λ E. ⊥)
+  pub impossible-adds : Adds ws t (impossible t) (λ E. ⊥)
   unfolding impossible
   impossible-adds = adds-as (merged-adds t s 0 1 (omega arith) (omega arith)) (λ E. (never E, λ h. absurd h))
     where

@@ -13,12 +13,12 @@ use borrow.Author.Tests.{ne-eqb}
 use Rattle.definitions.specs.Limits.{variableLimit}
 use Rattle.definitions.specs.Types.{Datatype, anyURI, string, decimal, dateTime, integer, Ty, datatypeCode, typeCode}
 use Rattle.definitions.specs.Scope.{variables}
-use Rattle.definitions.specs.Typing.{Written, unbound, undecided, fixed, Verdict, noTyping, noGreatest, greatest}
+use Rattle.definitions.specs.Typing.{Written, unbound, undecided, fixed, isOpen, Verdict, noTyping, noGreatest, greatest}
 use Rattle.definitions.specs.Calls.{reportedType, reportedTypes}
 use Rattle.facts.specs.declared.noting.Tables.{Tables}
 use Rattle.facts.specs.Tables.{familyLimit, ownNode, rangeNode, edgeAt}
 use Rattle.laws.specs.Lists.{flag}
-use Rattle.facts.specs.Infer.{allBelow, isOpen, chosen, ofFamily, root, apart, settled, tight, decided, best, bestTypes, readOff}
+use Rattle.facts.specs.Infer.{allBelow, chosen, ofFamily, root, apart, settled, tight, decided, best, bestTypes, readOff}
 use Rattle.codes.specs.TypeCodes.{datatypeOf, typeOf}
 use Rattle.facts.specs.Codes.{unboundCode, writtenAs, allWritten}
 use Rattle.facts.specs.Answers.{answerOf, reportedAt, reportedAll}
@@ -77,7 +77,7 @@ module _ (written : List ℕ) (x : ℕ) (per-variable : length written ≡ varia
   abbrev here : Written
   here = getD (allWritten written) x unbound
 
-  here-open : code ≡ 0 → here ≡ undecided
+  pub here-open : code ≡ 0 → here ≡ undecided
   unfolding writtenAs
   here-open e = written-here [] written x per-variable l ∙ ap writtenAs e
 
@@ -89,7 +89,7 @@ module _ (written : List ℕ) (x : ℕ) (per-variable : length written ≡ varia
   unfolding writtenAs
   here-fixed n m = written-here [] written x per-variable l ∙ rw (ne-eqb code 0 n, ne-eqb code unboundCode m) refl
 
-  here-written : (code ≡ 0 → ⊥) → isOpen here ≡ false
+  pub here-written : (code ≡ 0 → ⊥) → isOpen here ≡ false
   here-written n = go (ℕ-discrete code unboundCode)
     where
       go : Dec (code ≡ unboundCode) → isOpen here ≡ false

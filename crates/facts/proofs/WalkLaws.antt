@@ -277,20 +277,20 @@ module _ (leasts written : List ℕ) where
 
 -- what stands in a place as a property or as its object keeps the union-find together
 module _ (t : Tables) (h : Joined t) where
-  when-joined : (b : Bool) (f : Tables → Tables) (u : Tables) → Joined u → Joined (f u) → Joined (when b f u)
+  pub when-joined : (b : Bool) (f : Tables → Tables) (u : Tables) → Joined u → Joined (f u) → Joined (when b f u)
   when-joined true f u j k = k
   when-joined false f u j k = j
 
   property-joins : (p : ℕ) → p < variableLimit → Joined (asProperty p t)
   property-joins p l = property-joined p t h l refl
 
-  at-most-joins : (x : ℕ) (d : Datatype) → x < variableLimit → Joined (atMost x d t)
+  pub at-most-joins : (x : ℕ) (d : Datatype) → x < variableLimit → Joined (atMost x d t)
   unfolding atMost
   at-most-joins x d l =
       let j = merge-forest h {a = ownNode x} {b = family d} (omega arith) (omega (arith, family-below d)) in
       when-joined (sameDatatype d integer) (withLow x) (merged (ownNode x) (family d) t) j j
 
-  at-least-joins : (p : ℕ) (d : Datatype) → p < variableLimit → Joined (atLeast p d t)
+  pub at-least-joins : (p : ℕ) (d : Datatype) → p < variableLimit → Joined (atLeast p d t)
   unfolding atLeast
   at-least-joins p d l =
       let j = merge-forest (property-joins p l) {a = rangeNode p} {b = family d} (omega arith) (omega (arith, family-below d)) in
@@ -300,7 +300,7 @@ module _ (t : Tables) (h : Joined t) where
   unfolding edge
   edge-joins p x lp lx = merge-forest (property-joins p lp) {a = rangeNode p} {b = ownNode x} (omega arith) (omega arith)
 
-  impossible-joins : Joined (impossible t)
+  pub impossible-joins : Joined (impossible t)
   unfolding impossible
   impossible-joins = merge-forest h {a = 0} {b = 1} (omega arith) (omega arith)
 

@@ -9,7 +9,7 @@ use Rattle.definitions.specs.Types.{Datatype, anyURI, string, decimal, dateTime
 use Rattle.definitions.specs.Terms.{Sort}
 use Rattle.definitions.specs.Tree.{Script}
 use Rattle.definitions.specs.Scope.{variables}
-use Rattle.definitions.specs.Typing.{Written, unbound, undecided, fixed, Verdict, noTyping, noGreatest, greatest}
+use Rattle.definitions.specs.Typing.{Written, unbound, undecided, fixed, isOpen, Verdict, noTyping, noGreatest, greatest}
 use Rattle.facts.specs.Demands.{scriptDemands}
 use Rattle.facts.specs.UnionFind.{rootIn}
 use Rattle.facts.specs.declared.noting.Tables.{Tables}
@@ -20,11 +20,6 @@ use Rattle.laws.specs.Lists.{flag}
 unfoldable pub allBelow : ℕ → (ℕ → Bool) → Bool
 allBelow zero f = true
 allBelow (suc n) f = allBelow n f && f n
-
-abbrev pub isOpen : Written → Bool
-isOpen unbound = false
-isOpen undecided = true
-isOpen (fixed τ) = false
 
 -- the type of a variable, if the one given is worked out for an open one
 abbrev pub chosen : Written → Ty → Ty
@@ -76,5 +71,9 @@ module _ (t : Tables) where
   unfoldable pub readOff : List Written → Verdict
   readOff ws = elim apart [ true ↦ elim (decided ws) [ true ↦ greatest (bestTypes ws) | false ↦ noGreatest ] | false ↦ noTyping ]
 
+-- the tables of a script
+abbrev pub tablesOf : (ℕ → Sort) → List Written → Script → Tables
+tablesOf constants ws s = allNoted constants ws (scriptDemands s) fresh
+
 unfoldable pub infer : (ℕ → Sort) → List Written → Script → Verdict
-infer constants ws s = readOff (allNoted constants ws (scriptDemands s) fresh) ws
+infer constants ws s = readOff (tablesOf constants ws s) ws

@@ -1,7 +1,7 @@
 -- Demand 1, proved: each call's tests follow the table of its rules.
 use Prim.Native.Nat.{ℕ}
 use native.Mathlib.Omega.{arith}
-use mathlib.Core.Path.{_≡_, refl, sym, _∙_}
+use mathlib.Core.Path.{_≡_, refl, sym, ap, subst, _∙_}
 use mathlib.Core.List.{List, [], _∷_, _++_}
 use mathlib.Core.Bool.{Bool, true, false, not, _&&_, _||_}
 use mathlib.Core.Option.{Option, none, some}
@@ -19,7 +19,8 @@ use Rattle.definitions.specs.Reading.{parsed}
 use Rattle.definitions.specs.Scope.{inScope}
 use Rattle.definitions.specs.Total.{totalOf}
 use Rattle.definitions.specs.Numerals.{numeralOf, termOf}
-use Rattle.definitions.specs.Typing.{writtenTypes, typings, above, Verdict, greatest, firstAbove, judge, verdict}
+use Rattle.definitions.specs.Typing.{writtenTypes, typings, above, Verdict, greatest, firstAbove, judge, verdict, noTyping, noGreatest}
+use Rattle.definitions.specs.Suggest.{Suggestion, suggestion}
 use Rattle.definitions.specs.Outcome as Outcomes
 use Rattle.definitions.specs.Machine.{withProperties, taken, withPage, inLimits}
 use Rattle.definitions.specs.Result.{Result, refused, passed, _>>=_, _>>_, require, given}
@@ -27,12 +28,17 @@ use Rattle.definitions.specs.Calls.{recordTests, sizesFit, scriptTests, Parsed,
 use Rattle.definitions.specs.Calls.{Checked, constantsOf, typesOf, typeTests, check, Lent, lengthsFit, loadTests, loadResult, load, soundIn, entryTests}
 use Rattle.definitions.specs.Calls.{runIn, Running, runTests, ranOf, runResult, runCall}
 use Rattle.definitions.specs.Calls.{isGraph, pageIn, takeIn, Taking, pageTests, pageResult, pageCall, totalResult, total, numberCall}
+use Rattle.definitions.specs.Calls.{suggestAnswer, suggestFor, suggestResult, suggest}
+use Rattle.definitions.specs.Numbers.{suggestNumber}
 use Rattle.definitions.specs.declared.SavedRun.{SavedRun}
 use Rattle.definitions.specs.declared.RunAnswer.the-variants as RunAnswers
+use Rattle.definitions.specs.declared.SuggestAnswer.{SuggestAnswer}
+use Rattle.definitions.specs.declared.SuggestAnswer.the-variants as SuggestAnswers
 use Rattle.laws.proofs.Results.{by-bind, by-after}
 use Rattle.theorems.proofs.CallsPassed.{run-passed, run-fine, run-gives}
 use Rattle.theorems.specs.Demand1.{firstBroken, isThere, ifThere, readRules, loadRules, runRules, pageRules, numberRules, LoadRefuses, RunRefuses, PageRefuses, TotalRefuses}
-use Rattle.theorems.specs.Demand1.{NumberRefuses, Demand1}
+use Rattle.theorems.specs.Demand1.{suggestRules}
+use Rattle.theorems.specs.Demand1.{NumberRefuses, Demand1, LoadRefuses, RunRefuses, PageRefuses, TotalRefuses, SuggestRefuses}
 
 -- ── the proof: tests follow a table ─────────────────────────────────────────────────────────
 
@@ -230,6 +236,70 @@ number-refuses : (text : List ℕ) (r : Result Term) → Follows r (numberRules 
 number-refuses text (refused n) (refuses e h) q = record { number = rw q e; answers = λ z. absurd (h (e ∙ z)) }
 number-refuses text (passed t) (passes e) q = record { number = rw q (sym e); answers = λ z. (t, q) }
 
+-- ── the proof: suggest ──────────────────────────────────────────────────────────────────────
+
+follows-refused : {A : Type 0} {n : ℕ} {rules : List (ℕ × Bool)} → Follows {A = A} (refused n) rules → (n ≡ firstBroken rules) × (n ≡ 0 → ⊥)
+follows-refused (refuses e h) = (e, h)
+
+follows-passed : {A : Type 0} {a : A} {rules : List (ℕ × Bool)} → Follows (passed a) rules → firstBroken rules ≡ 0
+follows-passed (passes e) = e
+
+module _ (terms schema script : List ℕ) where
+  -- 8, over what was read
+  typed : Parsed → Result (Unit {0})
+  typed x = require 8 (not (isEmpty (typings (constantsOf (x .schema) (x .terms)) (writtenTypes (x .root)) (x .root)))) >> passed tt
+
+  suggest-follows : Follows (readTests terms schema script >>= typed) (suggestRules terms schema script)
+  unfolding typed onward ifThere
+  suggest-follows =
+      read-follows terms schema script typed _ λ listed S root e₂ e₄ e₆.
+      let ts = withProperties S listed in
+      rw (e₂, e₄, e₆) (rule 8 (λ e. omega (arith, e)) (not (isEmpty (typings (constantsOf S ts) (writtenTypes root) root))) end)
+
+  -- an answer that is no refusal
+  Answered : SuggestAnswer → Type 0
+  Answered a = (suggestNumber a ≡ 0) × ((n : ℕ) → a ≡ SuggestAnswers.Refused n → ⊥)
+
+  named-answered : (o : Option Suggestion) → Answered (suggestAnswer o)
+  unfolding Answered suggestAnswer
+  named-answered none = (refl, λ n e. let z : _≡_ {A = ℕ} 0 1 = cc in omega arith)
+  named-answered (some w) = (refl, λ n e. let z : _≡_ {A = ℕ} 0 1 = cc in omega arith)
+
+  abbrev told : Option Suggestion → Verdict → SuggestAnswer
+  told o v = elim v [ noTyping ↦ SuggestAnswers.Refused 8 | noGreatest ↦ suggestAnswer o | greatest Γ ↦ SuggestAnswers.Accepted ]
+
+  above-answered : (o : Option Suggestion) (Γs all : List (List Ty)) → Answered (told o (firstAbove Γs all))
+  unfolding firstAbove Answered
+  above-answered o [] all = named-answered o
+  above-answered o (Γ ∷ Γs) all = go (every (above Γ) all) (above-answered o Γs all)
+    where
+      go : (b : Bool) → Answered (told o (firstAbove Γs all)) → Answered (told o (elim b as (λ c. Verdict) [ true ↦ greatest Γ | false ↦ firstAbove Γs all ]))
+      go true h = (refl, λ n e. let z : _≡_ {A = ℕ} 0 1 = cc in omega arith)
+      go false h = h
+
+  suggest-refuses : (r : Result Parsed) → Follows (r >>= typed) (suggestRules terms schema script) → readTests terms schema script ≡ r → SuggestRefuses terms schema script
+  unfolding suggest suggestResult suggestFor verdict judge typed Answered require _>>=_ _>>_
+  suggest-refuses (refused n) (refuses e h) q = record { number = rw q e; answers = λ z. absurd (h (e ∙ z)) }
+  suggest-refuses (passed x) f q = go Γs refl f
+    where
+      Γs : List (List Ty)
+      Γs = typings (constantsOf (x .schema) (x .terms)) (writtenTypes (x .root)) (x .root)
+
+      best : Option Suggestion
+      best = suggestion (constantsOf (x .schema) (x .terms)) (writtenTypes (x .root)) (x .root)
+
+      says : (Δs : List (List Ty)) → Γs ≡ Δs → suggest terms schema script ≡ told best (judge Δs)
+      says Δs e = ap suggestResult q ∙ ap (λ (Δs : List (List Ty)). told best (judge Δs)) e
+
+      go : (Δs : List (List Ty)) → Γs ≡ Δs → Follows (typed x) (suggestRules terms schema script) → SuggestRefuses terms schema script
+      go [] e f =
+          let k = follows-refused (subst (λ (Δs : List (List Ty)). Follows (require 8 (not (isEmpty Δs)) >> passed tt) (suggestRules terms schema script)) e f) in
+          record { number = ap suggestNumber (says [] e) ∙ k .0; answers = λ z. absurd (k .1 (k .0 ∙ z)) }
+      go (Δ ∷ Δs) e f =
+          let k = follows-passed (subst (λ (Δs : List (List Ty)). Follows (require 8 (not (isEmpty Δs)) >> passed tt) (suggestRules terms schema script)) e f) in
+          let w = above-answered best (Δ ∷ Δs) (Δ ∷ Δs) in
+          record { number = ap suggestNumber (says (Δ ∷ Δs) e) ∙ (w .0 ∙ sym k); answers = λ z n r. w .1 n (sym (says (Δ ∷ Δs) e) ∙ r) }
+
 -- ── the theorem ─────────────────────────────────────────────────────────────────────────────
 
 pub demand-1 : Demand1
@@ -241,4 +311,5 @@ demand-1 = record {
       let r = readTests terms schema script in
       total-refuses terms schema script r (no-more r (read-follows terms schema script passed [] (λ listed S root e₂ e₄ e₆. end))) refl;
   number = λ text. number-refuses text (numberCall text) (number-follows text) refl;
+  suggest = λ terms schema script. suggest-refuses terms schema script (readTests terms schema script) (suggest-follows terms schema script) refl;
 }

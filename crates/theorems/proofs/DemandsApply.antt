@@ -1,10 +1,10 @@
 -- The demands are about something: a card as bytes is accepted, and a list of calls on bytes, some of them refused, runs it to its end.
--- By computation; then demand 3 is applied to it, and Ask 12 to a card like it.
+-- By computation; then demand 3 is applied to it, and Asks 12 and 13 to cards like it.
 use Prim.Native.Nat.{ℕ}
-use mathlib.Core.Path.{_≡_, refl}
+use mathlib.Core.Path.{_≡_, refl, subst}
 use mathlib.Core.Bool.{false}
 use mathlib.Core.Option as Option
-use mathlib.Core.List.{List, [], _∷_, map}
+use mathlib.Core.List.{List, [], _∷_, _++_, map}
 use lib.IntN.{pos}
 use lib.ListN.{replicate, set}
 use Rattle.definitions.specs.Ascii.{ascii}
@@ -14,13 +14,14 @@ use Rattle.definitions.specs.Tree.{var, const, Query, success, fromNamed, block
 use Rattle.definitions.specs.Outcome.{Outcome, ok, fault}
 use Rattle.definitions.specs.Saved.{noRun}
 use Rattle.definitions.specs.Alphabet.{builtIn}
-use Rattle.definitions.specs.Calls.{Lent, tablesFit, load}
+use Rattle.definitions.specs.Calls.{Lent, tablesFit, load, suggest}
 use Rattle.definitions.specs.CallList.{Answer, ran, paged}
 use Rattle.definitions.specs.Limits.{savedWidth}
 use Rattle.definitions.specs.declared.RunState.the-variants.{Ended, Wanted, Spent}
 use Rattle.definitions.specs.declared.LoadAnswer.the-variants as LoadAnswers
 use Rattle.definitions.specs.declared.RunAnswer.the-variants as RunAnswers
 use Rattle.definitions.specs.declared.PageAnswer.the-variants as PageAnswers
+use Rattle.definitions.specs.declared.SuggestAnswer.the-variants as SuggestAnswers
 use Rattle.definitions.proofs.Opened.{opened}
 use Rattle.definitions.proofs.Season.{card, uri, number}
 use Rattle.theorems.specs.Hosts.{asLeft, others, HostCall, running, paging, Handed, keptAfterLoad, engineCall, engineCalls}
@@ -31,6 +32,8 @@ use Rattle.theorems.specs.OnBytes.{ExportCall, Exported, bytesOf, export
 use Rattle.theorems.proofs.OnBytes.{on-bytes}
 use Rattle.theorems.specs.ExactSteps.{OnceLoad, ExactSteps}
 use Rattle.theorems.proofs.ExactSteps.{exact-steps}
+use Rattle.theorems.specs.OneType.{withCode, Accepts, Suggested}
+use Rattle.theorems.proofs.OneType.{one-types}
 
 -- `Season.card`: from named c:club, an each block; term 1 is c:club
 accepted : load card .returned .answer ≡ LoadAnswers.Accepted
@@ -121,3 +124,32 @@ once-load = record {
 
 exact : ExactSteps once (once-load .read .root)
 exact = exact-steps once once-load
+
+-- ── a script with a type to write ───────────────────────────────────────────────────────────
+
+-- a block of one open variable, which nothing uses
+unused : Lent
+unused = record {
+  ranks = card .ranks;
+  terms = [];
+  schema = [];
+  script = 0x73 ∷ 0 ∷ 1 ∷ replicate 8 0 ++ (0x65 ∷ 0x71 ∷ []);
+  termTable = card .termTable;
+  quadTable = card .quadTable;
+}
+
+refused-9 : load unused .returned .answer ≡ LoadAnswers.Refused 9
+unfolding unused card uri number opened
+refused-9 = refl
+
+named : suggest (unused .terms) (unused .schema) (unused .script) ≡ SuggestAnswers.Named 0 1
+unfolding unused opened
+named = refl
+
+-- with that type written the card is accepted
+would-do : (pair : ℕ) × Accepts (withCode unused pair 1)
+unfolding unused card opened
+would-do =
+    let k = one-types .one unused tt tt .suggested refused-9 in
+    let h = subst (Suggested unused (k .0 .root)) named (k .2) in
+    (h .pair, h .accepted)

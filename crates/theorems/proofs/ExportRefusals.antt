@@ -12,22 +12,24 @@ use Rattle.definitions.specs.Terms.{Term}
 use Rattle.definitions.specs.Outcome.{ok, _>>=_}
 use Rattle.definitions.specs.Result.{Result, refused, passed}
 use Rattle.definitions.specs.Alphabet.{isAlphabet}
-use Rattle.definitions.specs.Calls.{Lent, lengthsFit, load, soundIn, pageCall, total, numberCall}
-use Rattle.definitions.specs.Numbers.{loadNumber, runNumber, pageNumber, totalNumber, resultNumber}
-use Rattle.definitions.specs.Limits.{savedWidth, runReportWidth, pageReportWidth, totalReportWidth, numberRecordWidth}
-use Rattle.definitions.specs.Exports.{savedFrom, runReport, pageReport, totalReport, savedAfter, recordAfter}
-use Rattle.definitions.specs.Exports.{loadExport, RunExport, runOn, runExport, pageOn, pageExport, ranExport, totalExport, numberExport}
+use Rattle.definitions.specs.Calls.{Lent, lengthsFit, load, soundIn, pageCall, total, numberCall, suggest}
+use Rattle.definitions.specs.Numbers.{loadNumber, runNumber, pageNumber, totalNumber, resultNumber, suggestNumber}
+use Rattle.definitions.specs.Limits.{savedWidth, runReportWidth, pageReportWidth, totalReportWidth, numberRecordWidth, suggestReportWidth}
+use Rattle.definitions.specs.Exports.{savedFrom, runReport, pageReport, totalReport, savedAfter, recordAfter, suggestReport}
+use Rattle.definitions.specs.Exports.{loadExport, RunExport, runOn, runExport, pageOn, pageExport, ranExport, totalExport, numberExport, suggestExport}
 use Rattle.definitions.specs.declared.SavedRun.{SavedRun}
 use Rattle.definitions.specs.declared.RunAnswer.{RunAnswer}
 use Rattle.definitions.specs.declared.PageAnswer.{PageAnswer}
 use Rattle.definitions.specs.declared.TotalAnswer.{TotalAnswer}
+use Rattle.definitions.specs.declared.SuggestAnswer.{SuggestAnswer}
 use Rattle.definitions.specs.declared.RunAnswer.the-variants as RunAnswers
 use Rattle.definitions.specs.declared.PageAnswer.the-variants as PageAnswers
 use Rattle.definitions.specs.declared.TotalAnswer.the-variants as TotalAnswers
+use Rattle.definitions.specs.declared.SuggestAnswer.the-variants as SuggestAnswers
 use Rattle.laws.proofs.Tests.{andLeft, isTrue, trueIs}
 use Rattle.theorems.specs.Demand1.{firstBroken, isThere, loadRules, runRules, pageRules}
 use Rattle.theorems.proofs.Demand1.{demand-1}
-use Rattle.theorems.specs.ExportRefusals.{buffersFit, loadBroken, LoadRefuses, RunRefuses, PageRefuses, TotalRefuses, NumberRefuses, ExportRefusals}
+use Rattle.theorems.specs.ExportRefusals.{buffersFit, loadBroken, LoadRefuses, RunRefuses, PageRefuses, TotalRefuses, NumberRefuses, ExportRefusals, SuggestRefuses}
 
 -- ── the proof ───────────────────────────────────────────────────────────────────────────────
 
@@ -190,6 +192,24 @@ module _ (text lent : List ℕ) where
         keeps = rw (e, numberExport) (λ h. record-kept (numberCall text) (λ z. h (sym (d .number) ∙ z)));
       }
 
+module _ (terms schema script report : List ℕ) where
+  suggest-report-kept : (a : SuggestAnswer) → (suggestNumber a ≡ 0 → ⊥) → suggestReport report a ≡ report
+  unfolding suggestReport
+  suggest-report-kept SuggestAnswers.Accepted h = absurd (h refl)
+  suggest-report-kept (SuggestAnswers.Named x code) h = absurd (h refl)
+  suggest-report-kept SuggestAnswers.NoSingle h = absurd (h refl)
+  suggest-report-kept (SuggestAnswers.Refused n) h = refl
+
+  suggest-refuses : (b : Bool) → eqb (length report) suggestReportWidth ≡ b → SuggestRefuses terms schema script report
+  unfolding suggestExport firstBroken
+  suggest-refuses false e = record { number = rw (e, suggestExport) refl; keeps = λ h. rw (e, suggestExport) refl }
+  suggest-refuses true e =
+      let d = demand-1 .suggest terms schema script in
+      record {
+        number = rw (e, suggestExport) (d .number);
+        keeps = rw (e, suggestExport) (λ h. suggest-report-kept (suggest terms schema script) (λ z. h (sym (d .number) ∙ z)));
+      }
+
 -- ── the theorem ─────────────────────────────────────────────────────────────────────────────
 
 pub export-refusals : ExportRefusals
@@ -199,4 +219,5 @@ export-refusals = record {
   page = λ l saved g page report. page-refuses l saved g page report (buffersFit l saved report pageReportWidth) (isAlphabet (l .ranks)) refl refl;
   total = λ terms schema script report. total-refuses terms schema script report (eqb (length report) totalReportWidth) refl;
   number = λ text lent. number-refuses text lent (eqb (length lent) numberRecordWidth) refl;
+  suggest = λ terms schema script report. suggest-refuses terms schema script report (eqb (length report) suggestReportWidth) refl;
 }

@@ -1,3 +1,8 @@
+pub mod Locality
+pub mod Retyped
+pub mod Rewritten
+pub mod LowestFirst
+pub mod OneType
 pub mod Verdict
 pub mod Roster
 pub mod StepsLeft

@@ -17,6 +17,7 @@ use Rattle.definitions.specs.Limits.{budgetLimit}
 use Rattle.definitions.specs.Lists.{every, some?, distinct, isEmpty}
 use Rattle.definitions.specs.Alphabet.{isAlphabet}
 use Rattle.definitions.specs.Bytes.{onward}
+use Rattle.definitions.specs.Types.{Ty}
 use Rattle.definitions.specs.Terms.{Term, sameTerm, sameProperty, isDateTime, readTerms, readSchema}
 use Rattle.definitions.specs.Tree.{Script}
 use Rattle.definitions.specs.Reading.{parsed}
@@ -26,8 +27,8 @@ use Rattle.definitions.specs.Outcome.{ok}
 use Rattle.definitions.specs.Machine.{withProperties, taken, withPage, inLimits}
 use Rattle.definitions.specs.Result.{passed, given}
 use Rattle.definitions.specs.Numerals.{numeralOf, termOf}
-use Rattle.definitions.specs.Calls.{constantsOf, sizesFit, Lent, lengthsFit, load, Sound, soundIn, runCall, isGraph, pageIn, pageCall, total, numberCall}
-use Rattle.definitions.specs.Numbers.{loadNumber, runNumber, pageNumber, totalNumber, resultNumber}
+use Rattle.definitions.specs.Calls.{constantsOf, sizesFit, Lent, lengthsFit, load, Sound, soundIn, runCall, isGraph, pageIn, pageCall, total, numberCall, suggest}
+use Rattle.definitions.specs.Numbers.{loadNumber, runNumber, pageNumber, totalNumber, resultNumber, suggestNumber}
 use Rattle.definitions.specs.declared.SavedRun.{SavedRun}
 use Rattle.definitions.specs.declared.RunState.{RunState}
 use Rattle.definitions.specs.declared.Ran.{Ran}
@@ -35,6 +36,7 @@ use Rattle.definitions.specs.declared.LoadAnswer.the-variants as LoadAnswers
 use Rattle.definitions.specs.declared.RunAnswer.the-variants as RunAnswers
 use Rattle.definitions.specs.declared.PageAnswer.the-variants as PageAnswers
 use Rattle.definitions.specs.declared.TotalAnswer.the-variants as TotalAnswers
+use Rattle.definitions.specs.declared.SuggestAnswer.the-variants as SuggestAnswers
 
 -- ── rules in order ──────────────────────────────────────────────────────────────────────────
 
@@ -73,17 +75,26 @@ readRules terms schema script =
     ∷ (7, ifThere root inScope)  -- a variable unbound at its use, or bound by two pairs
     ∷ []
 
+-- the typings of a script, where it can be read
+abbrev pub typingsIn : (terms schema script : List ℕ) → Option (List (List Ty))
+typingsIn terms schema script =
+    onward (readSchema schema) (λ S. onward (numberedIn terms schema) (λ ts. onward (rootIn terms schema script) (λ c.
+    some (typings (constantsOf S ts) (writtenTypes c) c))))
+
 -- Loading checks 1, 21, and 2 to 9 in that order. (`lengths`: the lent tables have their lengths.)
 abbrev pub loadRules : (lengths : Bool) → Lent → List (ℕ × Bool)
 loadRules lengths l =
-    let all = onward (readSchema (l .schema)) (λ S. onward (numberedIn (l .terms) (l .schema)) (λ ts. onward (rootIn (l .terms) (l .schema) (l .script)) (λ c.
-    some (typings (constantsOf S ts) (writtenTypes c) c)))) in
+    let all = typingsIn (l .terms) (l .schema) (l .script) in
     (1, lengths)  -- ranks or a lent table of another length
     ∷ (21, isAlphabet (l .ranks))  -- ranks that are no alphabet
     ∷ readRules (l .terms) (l .schema) (l .script)
     ++ ((8, ifThere all (λ Γs. not (isEmpty Γs)))  -- no typing
     ∷ (9, ifThere all (λ Γs. some? (λ Γ. every (above Γ) Γs) Γs))  -- typings, none above the rest
     ∷ [])
+
+-- A suggestion: 2 to 8.
+abbrev pub suggestRules : (terms schema script : List ℕ) → List (ℕ × Bool)
+suggestRules terms schema script = readRules terms schema script ++ ((8, ifThere (typingsIn terms schema script) (λ Γs. not (isEmpty Γs))) ∷ [])
 
 -- Running: 1, 21, 10, 11. (`found`: the sound state that saved run and tables hold, if they do.)
 abbrev pub runRules : (lengths : Bool) → (ranks : List ℕ) → (found : Option Sound) → (budget : ℕ) → (now : ℤ) → List (ℕ × Bool)
@@ -132,6 +143,10 @@ totalBroken terms schema script = firstBroken (readRules terms schema script)
 abbrev pub numberBroken : (text : List ℕ) → ℕ
 numberBroken text = firstBroken (numberRules text)
 
+-- a suggestion: 2 to 8
+abbrev pub suggestBroken : (terms schema script : List ℕ) → ℕ
+suggestBroken terms schema script = firstBroken (suggestRules terms schema script)
+
 pub record LoadRefuses (l : Lent) : Type 0 where
   -- the call gives the number of the first rule broken
   pub number : loadNumber (load l .returned .answer) ≡ loadBroken l
@@ -164,9 +179,15 @@ pub record NumberRefuses (text : List ℕ) : Type 0 where
   pub number : resultNumber (numberCall text) ≡ numberBroken text
   pub answers : numberBroken text ≡ 0 → (t : Term) × (numberCall text ≡ passed t)
 
+-- nor is a suggestion
+pub record SuggestRefuses (terms schema script : List ℕ) : Type 0 where
+  pub number : suggestNumber (suggest terms schema script) ≡ suggestBroken terms schema script
+  pub answers : suggestBroken terms schema script ≡ 0 → (n : ℕ) → suggest terms schema script ≡ SuggestAnswers.Refused n → ⊥
+
 pub record Demand1 : Type 0 where
   pub load : (l : Lent) → LoadRefuses l
   pub run : (l : Lent) (saved : SavedRun) (budget : ℕ) (now : ℤ) → RunRefuses l saved budget now
   pub page : (l : Lent) (saved : SavedRun) (graph : ℕ) (page : List ℕ) → PageRefuses l saved graph page
   pub total : (terms schema script : List ℕ) → TotalRefuses terms schema script
   pub number : (text : List ℕ) → NumberRefuses text
+  pub suggest : (terms schema script : List ℕ) → SuggestRefuses terms schema script

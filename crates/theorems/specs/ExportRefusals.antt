@@ -11,9 +11,9 @@ use lib.IntN.{ℤ}
 use Rattle.definitions.specs.Bytes.{onward}
 use Rattle.definitions.specs.Outcome.{ok}
 use Rattle.definitions.specs.Calls.{Lent, lengthsFit, load, Sound, soundIn}
-use Rattle.definitions.specs.Limits.{savedWidth, runReportWidth, pageReportWidth, totalReportWidth, numberRecordWidth}
-use Rattle.definitions.specs.Exports.{savedFrom, loadExport, RunExport, runExport, pageExport, totalExport, numberExport}
-use Rattle.theorems.specs.Demand1.{firstBroken, readRules, loadRules, runRules, pageRules, numberRules}
+use Rattle.definitions.specs.Limits.{savedWidth, runReportWidth, pageReportWidth, totalReportWidth, numberRecordWidth, suggestReportWidth}
+use Rattle.definitions.specs.Exports.{savedFrom, loadExport, RunExport, runExport, pageExport, totalExport, numberExport, suggestExport}
+use Rattle.theorems.specs.Demand1.{firstBroken, readRules, loadRules, runRules, pageRules, numberRules, suggestRules}
 
 -- bytes that no saved run has are unsound
 abbrev pub soundBytes : Lent → (saved : List ℕ) → Option Sound
@@ -39,6 +39,9 @@ totalBroken terms schema script report = firstBroken ((1, eqb (length report) to
 abbrev pub numberBroken : (text lent : List ℕ) → ℕ
 numberBroken text lent = firstBroken ((1, eqb (length lent) numberRecordWidth) ∷ numberRules text)
 
+abbrev pub suggestBroken : (terms schema script report : List ℕ) → ℕ
+suggestBroken terms schema script report = firstBroken ((1, eqb (length report) suggestReportWidth) ∷ suggestRules terms schema script)
+
 pub record LoadRefuses (l : Lent) (saved : List ℕ) : Type 0 where
   pub number : loadExport l saved .number ≡ loadBroken l saved
   pub keeps : (loadBroken l saved ≡ 0 → ⊥) → let r = loadExport l saved in
@@ -63,9 +66,14 @@ pub record NumberRefuses (text lent : List ℕ) : Type 0 where
   pub number : numberExport text lent .number ≡ numberBroken text lent
   pub keeps : (numberBroken text lent ≡ 0 → ⊥) → numberExport text lent .«record» ≡ lent
 
+pub record SuggestRefuses (terms schema script report : List ℕ) : Type 0 where
+  pub number : suggestExport terms schema script report .number ≡ suggestBroken terms schema script report
+  pub keeps : (suggestBroken terms schema script report ≡ 0 → ⊥) → suggestExport terms schema script report .report ≡ report
+
 pub record ExportRefusals : Type 0 where
   pub load : (l : Lent) (saved : List ℕ) → LoadRefuses l saved
   pub run : (l : Lent) (saved : List ℕ) (budget : ℕ) (now : ℤ) (report : List ℕ) → RunRefuses l saved budget now report
   pub page : (l : Lent) (saved : List ℕ) (graph : ℕ) (page report : List ℕ) → PageRefuses l saved graph page report
   pub total : (terms schema script report : List ℕ) → TotalRefuses terms schema script report
   pub number : (text lent : List ℕ) → NumberRefuses text lent
+  pub suggest : (terms schema script report : List ℕ) → SuggestRefuses terms schema script report

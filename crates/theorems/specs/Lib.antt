@@ -12,3 +12,4 @@ pub mod OneOrder
 pub mod Truths
 pub mod Alphabets
 pub mod NumberTexts
+pub mod OneType

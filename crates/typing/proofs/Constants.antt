@@ -8,13 +8,10 @@ use Rattle.definitions.specs.Types.{Datatype, typeCode}
 use Rattle.definitions.specs.Terms.{Term, Schema, Sort, sortOf, datatypeIn}
 use Rattle.definitions.specs.Tree.{Script}
 use Rattle.definitions.specs.Reading.{parsed}
-use Rattle.definitions.specs.Typing.{verdict, writtenTypes}
 use Rattle.definitions.specs.Calls.{constantsOf}
 use Rattle.laws.specs.Sorts.{least}
-use Rattle.facts.specs.declared.Answer.{Answer}
 use Rattle.codes.specs.TypeCodes.{datatypeOf, typeOf}
 use Rattle.facts.specs.Codes.{sortAbove, sortsIn}
-use Rattle.facts.specs.Answers.{answerOf}
 use Rattle.codes.proofs.CodeLaws.{type-back}
 
 uri-back : (o : Option Datatype) → sortAbove (least (Sort.uri o)) ≡ Sort.uri o
@@ -50,10 +47,8 @@ module _ (S : Schema) where
     pub leasts-many : length leasts ≡ length terms
     leasts-many = ap length e ∙ length-map terms leastOf
 
-    -- what `work_out` ensures, over the terms
-    pub worked-out : (s : List ℕ) {r : Answer}
-        → ((root : Script) → parsed (length leasts) s ≡ some root → r ≡ answerOf (writtenTypes root) (verdict (sortsIn leasts) (writtenTypes root) root))
-        → (root : Script) → parsed (length terms) s ≡ some root → r ≡ answerOf (writtenTypes root) (verdict (constantsOf S terms) (writtenTypes root) root)
-    worked-out s h root p =
-        h root (ap (λ (n : ℕ). parsed n s) leasts-many ∙ p)
-        ∙ ap (λ (constants : ℕ → Sort). answerOf (writtenTypes root) (verdict constants (writtenTypes root) root)) sorts-are
+    -- what is ensured over the codes holds over the terms
+    pub over-terms : {R : Type 0} (f : (ℕ → Sort) → Script → R) (s : List ℕ) {r : R}
+        → ((root : Script) → parsed (length leasts) s ≡ some root → r ≡ f (sortsIn leasts) root)
+        → (root : Script) → parsed (length terms) s ≡ some root → r ≡ f (constantsOf S terms) root
+    over-terms f s h root p = h root (ap (λ (n : ℕ). parsed n s) leasts-many ∙ p) ∙ ap (λ (constants : ℕ → Sort). f constants root) sorts-are

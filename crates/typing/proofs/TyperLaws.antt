@@ -15,7 +15,7 @@ use Rattle.facts.specs.declared.Answer.{Answer}
 use Rattle.facts.specs.declared.noting.Tables.{Tables}
 use Rattle.facts.specs.Demands.{scriptDemands}
 use Rattle.facts.specs.Tables.{fresh, allNoted}
-use Rattle.facts.specs.Infer.{readOff, infer}
+use Rattle.facts.specs.Infer.{readOff, tablesOf, infer}
 use Rattle.facts.specs.Codes.{sortsIn, allWritten}
 use Rattle.facts.specs.Walk.{Joined, ScriptNoted}
 use Rattle.facts.specs.Answers.{answerOf}
@@ -29,16 +29,20 @@ fresh-joined e = subst Joined (sym e) (fresh-sound [] .forest)
 
 -- over the codes of the constants' least types and of the written types
 module _ (leasts s : List ℕ) (good : isSome (parsed (length leasts) s) ≡ true) where
-  pub typed : (written : List ℕ) {t u : Tables} {n : ℕ} {r : Answer} → length written ≡ variableLimit → t ≡ fresh
-      → Walked (ScriptNoted leasts written t u) (readScript s (length leasts) depthLimit 0) n → r ≡ answerOf (allWritten written) (readOff u (allWritten written))
+  -- what the walk noted, from fresh tables on
+  pub tables-noted : (written : List ℕ) {t u : Tables} {n : ℕ} → t ≡ fresh → Walked (ScriptNoted leasts written t u) (readScript s (length leasts) depthLimit 0) n
+      → (root : Script) → parsed (length leasts) s ≡ some root → u ≡ tablesOf (sortsIn leasts) (allWritten written) root
+  tables-noted written et w root p =
+      at-root (length leasts) s good w root p .tables ∙ ap (allNoted (sortsIn leasts) (allWritten written) (scriptDemands root)) et
+
+  pub typed : (written : List ℕ) {u : Tables} {r : Answer} → length written ≡ variableLimit
+      → ((root : Script) → parsed (length leasts) s ≡ some root → u ≡ tablesOf (sortsIn leasts) (allWritten written) root)
+      → r ≡ answerOf (allWritten written) (readOff u (allWritten written))
       → (root : Script) → parsed (length leasts) s ≡ some root → r ≡ answerOf (allWritten written) (verdict (sortsIn leasts) (allWritten written) root)
   unfolding infer
-  typed written {t} {u} per-variable et w er root p =
+  typed written per-variable eu er root p =
       let ws = allWritten written in
-      let h = at-root (length leasts) s good w root p in
-      er
-      ∙ ap (λ (t : Tables). answerOf ws (readOff t ws)) (h .tables ∙ ap (allNoted (sortsIn leasts) ws (scriptDemands root)) et)
-      ∙ ap (answerOf ws) (infer-is-verdict (sortsIn leasts) ws (written-length written per-variable) root)
+      er ∙ ap (λ (t : Tables). answerOf ws (readOff t ws)) (eu root p) ∙ ap (answerOf ws) (infer-is-verdict (sortsIn leasts) ws (written-length written per-variable) root)
 
   -- with the types that the script writes
   pub typed-as-written : (written : List ℕ) {r : Answer} → ((root : Script) → parsed (length leasts) s ≡ some root → allWritten written ≡ writtenTypes root)

@@ -10,6 +10,8 @@ ghost use Rattle.definitions.specs.Reading.{parsed};
 ghost use Rattle.definitions.specs.Typing.{writtenTypes, verdict};
 ghost use Rattle.laws.specs.ReadAnswers.{isSome};
 ghost use Rattle.facts.specs.Codes.{sortsIn, allWritten};
+ghost use Rattle.facts.specs.Infer.{tablesOf};
+ghost use Rattle.facts.specs.Walk.{Joined};
 ghost use Rattle.facts.specs.Answers.{answerOf};
 use crate::pairs;
 use crate::walk;
@@ -17,8 +19,22 @@ use facts::Answer;
 use facts::noting::Tables;
 use facts::readoff;
 
-// The types of a script whose written types stand beside it: `leasts` has the code of each term's least type, `written` a byte
+// The tables of a script whose written types stand beside it: `leasts` has the code of each term's least type, `written` a byte
 // for each variable.
+// Ruled out: the facts of the first block alone; tables in which nothing is noted.
+pub fn tables_of(script: &[u8], leasts: &[u8], written: &[u8]) -> Tables
+    requires { ⌜ isSome (parsed (length (now leasts)) (now script)) ≡ true ⌝ }
+    requires { ⌜ length (now written) ≡ variableLimit ⌝ }
+    ensures { λ r. ⌜ ((root : Script) → parsed (length (now (leasts .entry))) (now (script .entry)) ≡ some root → r
+        ≡ tablesOf (sortsIn (now (leasts .entry))) (allWritten (now (written .entry))) root) ⌝ }
+    ensures { λ r. ⌜ Joined r ⌝ }
+{
+    let fresh = Tables::fresh();
+    let walked = walk::type_script(script, leasts, written, 0, DEPTH_LIMIT, fresh);
+    walked.tables
+}
+
+// The types of that script.
 // Ruled out: no typing for every script; anyURI for every variable.
 pub fn type_of_script(script: &[u8], leasts: &[u8], written: &[u8]) -> Answer
     requires { ⌜ isSome (parsed (length (now leasts)) (now script)) ≡ true ⌝ }
@@ -26,10 +42,7 @@ pub fn type_of_script(script: &[u8], leasts: &[u8], written: &[u8]) -> Answer
     ensures { λ r. ⌜ ((root : Script) → parsed (length (now (leasts .entry))) (now (script .entry)) ≡ some root → r
         ≡ answerOf (allWritten (now (written .entry))) (verdict (sortsIn (now (leasts .entry))) (allWritten (now (written .entry))) root)) ⌝ }
 {
-    let fresh = Tables::fresh();
-    let walked = walk::type_script(script, leasts, written, 0, DEPTH_LIMIT, fresh);
-    let tables = walked.tables;
-    readoff::read_off(tables, written)
+    readoff::read_off(tables_of(script, leasts, written), written)
 }
 
 // The types of a script, with the written types of its own pairs.

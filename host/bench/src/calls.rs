@@ -9,7 +9,7 @@ use willetcoffer::script::*;
 use willetcoffer::{BadTerm, Card, Datatype, PageReport, Term};
 
 /// Patterns and filters joined as a balanced tree.
-fn joined(mut parts: Vec<Query>) -> Query {
+pub fn joined(mut parts: Vec<Query>) -> Query {
     while parts.len() > 1 {
         let pairs = parts.chunks(2).map(|pair| match pair {
             [a, b] => both(a.clone(), b.clone()),

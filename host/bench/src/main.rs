@@ -12,6 +12,7 @@ mod filters;
 mod names;
 mod numbers;
 mod stock;
+mod suggestions;
 mod texts;
 
 use compare::call::archive::Archive;
@@ -63,6 +64,15 @@ impl Bench {
         (times, answer)
     }
 
+    /// Times a call that is refused with this number.
+    fn refused_row(&self, name: &str, size: &str, station: &Station, call: &Call, refusal: u32) {
+        if name.contains(&self.only) {
+            let (times, answer) = self.time(station, call);
+            assert_eq!(answer.code, refusal, "{name}");
+            print_row(name, size, None, times);
+        }
+    }
+
     fn row(&self, name: &str, size: &str, station: &Station, call: &Call) {
         if !name.contains(&self.only) {
             return;
@@ -95,6 +105,17 @@ impl Bench {
             assert!(codes.iter().all(|code| *code == 0), "{name}");
             print_row(name, &format!("{} texts", texts.len()), Some(texts.len() as u32), times);
         }
+    }
+
+    /// Loads that are refused with 9, and the suggestions for them.
+    fn suggestions(&self) -> Result<(), BadTerm> {
+        for undecided in suggestions::ROWS {
+            let station = undecided.station()?;
+            let size = format!("{} bytes", station.card.script.len());
+            self.refused_row(&undecided.name("load refused with 9"), &size, &station, &Call::Load, 9);
+            self.row(&undecided.name("suggest"), &size, &station, &Call::suggest());
+        }
+        Ok(())
     }
 
     /// Single calls at the limits.
@@ -209,6 +230,7 @@ fn main() -> Result<(), Box<dyn Error>> {
         [] => {}
     }
     bench.calls(&reference)?;
+    bench.suggestions()?;
     bench.numbers();
     Ok(bench.searches(&reference)?)
 }

@@ -6,11 +6,12 @@ use crate::call::{Answer, Call, Engine, Made, Station};
 use crate::count::{Coverage, Met};
 use crate::draw::pool::Size;
 use crate::draw::Draw;
-use crate::judge::{judge, ranks, Breach, Difference, History, Once};
+use crate::judge::{judge, ranks, suggestions, Breach, Difference, History, Once};
+use crate::records::open_pairs;
 use crate::replay::{describe, describe_asked, Move, Replay, Tampering};
 use second::check::Loaded;
 use std::time::Duration;
-use willetcoffer::{SavedRun, State};
+use willetcoffer::{SavedRun, State, Suggestion};
 
 /// A case under way.
 pub struct Case<'a> {
@@ -123,11 +124,16 @@ impl<'a> Case<'a> {
             self.spoiled_call(Call::Load)?;
         }
         self.total()?;
+        self.suggest()?;
         if !loads {
             return Ok(());
         }
         if self.draw.rng.one_in(2) {
-            let call = if self.draw.rng.one_in(4) { Call::total() } else { Call::Load };
+            let call = match self.draw.rng.below(6) {
+                0 => Call::total(),
+                1 => Call::suggest(),
+                _ => Call::Load,
+            };
             self.odd_call(call)?;
         }
         for _ in 0..self.draw.rng.within(3, 10) {
@@ -160,6 +166,23 @@ impl<'a> Case<'a> {
                 self.coverage.total(&script);
             }
         }
+        Ok(())
+    }
+
+    /// Asks for a written type that would do, whether the script loads or not. One that is named is written into the script's bytes, and
+    /// that is loaded; the case goes on as if it had not been.
+    fn suggest(&mut self) -> Result<(), Difference> {
+        let call = self.draw.suggest_call();
+        let answer = self.call(&call, None)?;
+        let open = open_pairs(&self.station.card.script);
+        self.coverage.suggested(&call, &answer, &open);
+        let Some(Suggestion::Written { variable, written_type }) = answer.suggested() else { return Ok(()) };
+        let Some((_, place)) = open.into_iter().find(|(v, _)| *v == variable) else { return Ok(()) };
+        let kept = self.kept_back();
+        self.station.card.script[place] = written_type.code();
+        let loaded = self.changed_call("suggestion written", &kept.station, &Call::Load)?;
+        self.coverage.add("suggestion written", format!("{:02}", loaded.code));
+        self.put_back(kept);
         Ok(())
     }
 
@@ -207,7 +230,8 @@ impl<'a> Case<'a> {
         }
         let judged = judge(&made, tampering.is_some(), &mut self.history);
         let turned = || if self.turning { ranks::turned(&made, self.engines) } else { Ok(()) };
-        judged.and_then(|()| turned()).map_err(|difference| {
+        let held = || suggestions::held(&made, self.engines);
+        judged.and_then(|()| turned()).and_then(|()| held()).map_err(|difference| {
             let names = self.engines.map(|engine| engine.name());
             let what = format!("{} {label}: {} and {}: {}", call.name(), names[0], names[1], difference.what);
             Difference { what, ..difference }
@@ -224,7 +248,7 @@ impl<'a> Case<'a> {
         if answer.code == 0 && tampering.is_none() {
             self.draw.answered(call);
         }
-        // A total is told without the tables, which may be of another length.
+        // Totals and suggestions are told without the tables, which may be of another length.
         if answer.code == 0 && call.is_lent() {
             self.evaluate()?;
         }

@@ -19,7 +19,7 @@ use second::script::Script;
 use willetcoffer::limits::RANKS_WIDTH;
 use willetcoffer::page::records;
 use willetcoffer::ranks::BUILT_IN;
-use willetcoffer::{SavedRun, State};
+use willetcoffer::{SavedRun, State, Suggestion};
 
 /// What a call was made on and what came of it.
 pub struct Met<'a> {
@@ -65,7 +65,7 @@ impl Coverage {
             Call::Load => "ranks of a load",
             Call::Run { .. } => "ranks of a run",
             Call::Page { .. } => "ranks of a page",
-            Call::Total { .. } => return,
+            Call::Total { .. } | Call::Suggest { .. } => return,
         };
         self.add(section, sort_of(ranks));
         match made.answers[0].code {
@@ -141,6 +141,27 @@ impl Coverage {
             _ => "no each block",
         };
         self.add("total of", place);
+    }
+
+    /// Counts what a suggestion says, and what it names beside which open variables, in order.
+    pub fn suggested(&mut self, call: &Call, answer: &Answer, open: &[(u8, usize)]) {
+        self.add("suggest report of", call.report().to_string());
+        let Some(suggestion) = answer.suggested() else { return };
+        let said = match suggestion {
+            Suggestion::Accepted => "accepted",
+            Suggestion::Written { .. } => "written",
+            Suggestion::None => "none",
+        };
+        self.add("suggestion", said);
+        if suggestion != Suggestion::Accepted {
+            self.add("suggestion", "in the place of 9");
+        }
+        if let Suggestion::Written { variable, written_type } = suggestion {
+            self.add("suggested variable", variable.to_string());
+            self.add("suggested code", written_type.code().to_string());
+            let lowest = open.first().is_some_and(|(lowest, _)| *lowest == variable);
+            self.add("suggested", if lowest { "at the lowest open variable" } else { "after lower open variables" });
+        }
     }
 
     /// Counts what a load gave to a script of this sort.

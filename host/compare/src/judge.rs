@@ -4,6 +4,7 @@ pub mod numbers;
 mod old;
 pub mod ranks;
 mod stores;
+pub mod suggestions;
 mod whole;
 
 pub use stores::Stores;
@@ -40,6 +41,8 @@ pub enum Breach {
     Steps,
     /// Steps, what is left on the stack and the end do not go with the total of a script without an each block.
     Total,
+    /// A written type is named that would not do, or a lower one would; or something else is said than the load.
+    Suggested,
     /// Two stations with the same terms by number and the same quads have other bytes.
     Stores,
     /// A text was not read as what it was written for.
@@ -151,7 +154,7 @@ pub fn judge(made: &Made, tampered: bool, history: &mut History) -> Result<(), D
     if (made.call, answer.code) == (&Call::Load, 0) {
         history.steps = 0;
     }
-    // A total is not lent the tables.
+    // A total and a suggestion are not lent the tables.
     if answer.code == 0 && made.call.is_lent() {
         whole::kept_whole(made)?;
         history.alike = history.stores.meet(made.call, station)?;

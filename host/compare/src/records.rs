@@ -1,7 +1,9 @@
 //! The records of a card, told apart by the widths that their kinds fix, whatever is in them.
 
-use willetcoffer::kinds::URI;
-use willetcoffer::limits::{ENTRY_WIDTH, SLOT_WIDTH, URI_WIDTH};
+use willetcoffer::kinds::{BLOCK, CONSTANT, LANG_MATCHES, REGEX, URI, VARIABLE};
+use willetcoffer::limits::{
+    BLOCK_WIDTH, ENTRY_WIDTH, LANGUAGE_RANGE_WIDTH, PAIRS_OFFSET, PATTERN_WIDTH, SLOT_WIDTH, URI_WIDTH,
+};
 use willetcoffer::term::body_width;
 use willetcoffer::Card;
 
@@ -44,4 +46,32 @@ pub fn numbered(card: &Card) -> Vec<Vec<u8>> {
         }
     }
     all
+}
+
+/// The open variables of a script that can be read, in order, each with the place of its written type: records follow one another, so that
+/// their widths lead from block to block.
+pub fn open_pairs(script: &[u8]) -> Vec<(u8, usize)> {
+    let mut open = Vec::new();
+    let mut at = 0;
+    for record in split(script, |kind| Some(1 + script_body(kind))) {
+        if let [BLOCK, _, count, pairs @ ..] = &record[..] {
+            let pairs = pairs.chunks(2).take(usize::from(*count)).enumerate().filter(|(_, pair)| pair[1..] == [0]);
+            open.extend(pairs.map(|(place, pair)| (pair[0], at + PAIRS_OFFSET + 2 * place + 1)));
+        }
+        at += record.len();
+    }
+    open.sort_unstable();
+    open
+}
+
+/// Bytes of a script record's body.
+fn script_body(kind: u8) -> usize {
+    match kind {
+        VARIABLE => 1,
+        CONSTANT => 2,
+        REGEX => PATTERN_WIDTH,
+        LANG_MATCHES => LANGUAGE_RANGE_WIDTH,
+        BLOCK => BLOCK_WIDTH,
+        _ => 0,
+    }
 }

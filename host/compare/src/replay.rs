@@ -7,7 +7,7 @@ pub use asked::{Asked, Numbers};
 pub use words::{describe, describe_asked};
 
 use crate::call::{Call, Engine, Made, Station};
-use crate::judge::{judge, ranks, Breach, Difference, History, Once};
+use crate::judge::{judge, ranks, suggestions, Breach, Difference, History, Once};
 use std::panic::{catch_unwind, AssertUnwindSafe};
 use willetcoffer::Card;
 
@@ -103,8 +103,8 @@ fn once(card: &Card) -> Option<Once> {
 }
 
 impl Replay {
-    /// Makes the moves by both engines; the first difference, with the place of its move. Until a load is taken, loads and totals are the
-    /// only moves.
+    /// Makes the moves by both engines; the first difference, with the place of its move. Until a load is taken, loads, totals and
+    /// suggestions are the only moves.
     pub fn play(&self, engines: [&dyn Engine; 2]) -> Option<(usize, Difference)> {
         let mut place = 0;
         let play = AssertUnwindSafe(|| self.play_on(engines, &mut place, &mut |_, _| {}));
@@ -125,7 +125,7 @@ impl Replay {
         let mut loaded = false;
         engines.iter().for_each(|engine| engine.begin());
         for (at, Move { tampering, ranks, call }) in self.moves.iter().enumerate() {
-            if !loaded && !matches!(call, Call::Load | Call::Total { .. }) {
+            if !loaded && !matches!(call, Call::Load | Call::Total { .. } | Call::Suggest { .. }) {
                 continue;
             }
             *place = at;
@@ -137,6 +137,7 @@ impl Replay {
             see(&made, tampering.as_ref().map_or("", |tampering| tampering.label));
             judge(&made, tampering.is_some(), &mut history)?;
             ranks::turned(&made, engines)?;
+            suggestions::held(&made, engines)?;
             let (after, answer) = made.into_first();
             station = after;
             history.tampered |= tampering.is_some();

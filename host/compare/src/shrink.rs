@@ -151,7 +151,7 @@ impl Shrink<'_> {
     fn calls(&mut self) {
         for place in 0..self.best.moves.len() {
             match self.best.moves[place].call.clone() {
-                Call::Load | Call::Total { .. } => {}
+                Call::Load | Call::Total { .. } | Call::Suggest { .. } => {}
                 Call::Run { budget: old, .. } => {
                     let smaller = [0, 1, 2, old / 2, old.saturating_sub(1)];
                     for less in smaller.into_iter().filter(|less| *less < old) {

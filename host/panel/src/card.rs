@@ -2,7 +2,7 @@
 
 use willetcoffer::page::triple;
 use willetcoffer::script::*;
-use willetcoffer::{BadTerm, Card, Datatype, Term};
+use willetcoffer::{BadTerm, Card, Datatype, Term, Type};
 
 /// The yard's graph, by its term number; then 60, and the schema's URIs.
 pub const YARD: u16 = 0;
@@ -59,6 +59,20 @@ pub fn once_card() -> Result<Card, BadTerm> {
     let (listed, properties) = words()?;
     let first = once(&[(LOCO, None), (CALLED, None), (FAST, None)], quick(), success());
     Ok(Card::new(&listed, &properties, from_named(con(YARD), sequence(first, closing()))))
+}
+
+/// The variables of the card that can be read in two ways.
+pub const UNDECIDED: [(u8, &str); 3] = [(LOCO, "$loco"), (PROPERTY, "$property"), (VALUE, "$value")];
+const PROPERTY: u8 = 1;
+const VALUE: u8 = 2;
+
+/// A locomotive, its speed, and a property by which it has the same value; with this type written at this variable, if one is. By itself a
+/// load refuses it with 9: the value may be a decimal or an integer, and the property has range(decimal) or range(integer).
+pub fn undecided(written: Option<(u8, Type)>) -> Result<Card, BadTerm> {
+    let (listed, properties) = words()?;
+    let has = |property| pattern([con(YARD), var(LOCO), property, var(VALUE)]);
+    let pairs = UNDECIDED.map(|(v, _)| (v, written.filter(|(at, _)| *at == v).map(|(_, written_type)| written_type)));
+    Ok(Card::new(&listed, &properties, once(&pairs, both(has(con(SPEED)), has(var(PROPERTY))), success())))
 }
 
 /// The records of some triples.

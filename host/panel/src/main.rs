@@ -1,6 +1,6 @@
 //! A season on one screen: a card is loaded, runs, wants a page, gets it with a record that is skipped, runs on, waits,
-//! gets the page rewritten, and ends; then the same with a card whose steps are known beforehand, with a bar. All calls are the
-//! proved engine's.
+//! gets the page rewritten, and ends; then the same with a card whose steps are known beforehand, with a bar; then a card that is refused
+//! with 9, and what the engine suggests. All calls are the proved engine's.
 #![forbid(unsafe_code)]
 
 mod card;
@@ -8,7 +8,7 @@ mod show;
 
 use show::Screen;
 use std::error::Error;
-use willetcoffer::{Card, Refusal, SavedRun, Tables};
+use willetcoffer::{Card, Refusal, SavedRun, Suggestion, Tables};
 
 /// Noon of the season's first day, in seconds from 1970.
 const NOON: i64 = 1_772_366_400;
@@ -69,8 +69,24 @@ fn season(card: Card) -> Result<(), Box<dyn Error>> {
     Ok(())
 }
 
+/// A card that is refused with 9, and the same with the suggested type written.
+fn suggested() -> Result<(), Box<dyn Error>> {
+    let card = card::undecided(None)?;
+    let suggestion = card.suggest()?;
+    if let Err(refusal) = card.load(&mut Tables::new()) {
+        show::refused(refusal, suggestion, &card::UNDECIDED);
+    }
+    if let Suggestion::Written { variable, written_type } = suggestion {
+        let saved = card::undecided(Some((variable, written_type)))?.load(&mut Tables::new())?;
+        show::accepted(&saved, &card::UNDECIDED);
+    }
+    Ok(())
+}
+
 fn main() -> Result<(), Box<dyn Error>> {
     season(card::card()?)?;
     println!("\nthe first locomotive alone, by once blocks:");
-    season(card::once_card()?)
+    season(card::once_card()?)?;
+    println!("\na card that can be read in two ways:");
+    suggested()
 }

@@ -1,21 +1,41 @@
 //! What the panel prints.
 
 use crate::card::{CALLED, FAST, NAMES};
-use willetcoffer::{PageReport, SavedRun, State, Tables, Term};
+use willetcoffer::{PageReport, Refusal, SavedRun, State, Suggestion, Tables, Term};
 
 /// The screen: the locomotives on the roster.
 pub struct Screen {
     roster: Vec<String>,
 }
 
+/// The types that a load reports, of variables with their names.
+pub fn accepted(saved: &SavedRun, names: &[(u8, &str)]) {
+    println!("load     accepted");
+    let width = names.iter().map(|(_, name)| name.len()).max().unwrap_or(0) + 1;
+    for (variable, name) in names {
+        let found = saved.variable_type(*variable);
+        println!("         {name:width$} {}", found.map_or("-".to_owned(), |t| t.to_string()));
+    }
+}
+
+/// A load that was refused, and what the engine suggests.
+pub fn refused(refusal: Refusal, suggestion: Suggestion, names: &[(u8, &str)]) {
+    println!("load     {refusal}");
+    let help = match suggestion {
+        Suggestion::Accepted => "nothing: the card loads".to_owned(),
+        Suggestion::None => "no single written type would do".to_owned(),
+        Suggestion::Written { variable, written_type } => {
+            let name = names.iter().find(|(v, _)| *v == variable).map_or("-", |(_, name)| name);
+            format!("write {written_type} at {name}, and nothing else")
+        }
+    };
+    println!("suggest  {help}");
+}
+
 impl Screen {
     /// The types that the load reports, and whether there is a bar to show.
     pub fn loaded(saved: &SavedRun, total: Option<u32>) -> Screen {
-        println!("load     accepted");
-        for (variable, name) in NAMES {
-            let found = saved.variable_type(variable);
-            println!("         {name:8} {}", found.map_or("-".to_owned(), |t| t.to_string()));
-        }
+        accepted(saved, &NAMES);
         if total.is_none() {
             println!("bar      none: the script has an each block");
         }

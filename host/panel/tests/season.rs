@@ -1,6 +1,7 @@
 //! The season's screen. Steps by document 01's machine: from named 1, sequence 1, two answers of the each block 2 each, its
 //! drop 1; then once 1 and success 1. One record of the first page has a string where the schema asks for a decimal. Then the
-//! card of once blocks: its six records of kinds 71 to 74 are the whole bar.
+//! card of once blocks: its six records of kinds 71 to 74 are the whole bar. Last document 02's example of a suggestion: at the property
+//! variable range(decimal), code 11.
 
 use std::process::Command;
 
@@ -42,6 +43,14 @@ fn the_season_on_one_screen() {
         "run      2 steps, ended",
         "bar      [######] 6 of 6",
         "roster   1 locomotives",
+        "",
+        "a card that can be read in two ways:",
+        "load     refused 9: typings, none above the rest",
+        "suggest  write range(xsd:decimal) at $property, and nothing else",
+        "load     accepted",
+        "         $loco      xsd:anyURI",
+        "         $property  range(xsd:decimal)",
+        "         $value     xsd:decimal",
     ];
     assert_eq!(lines, expected);
 }

@@ -4,7 +4,7 @@
 use crate::check::{check, read, Typer};
 use crate::eval::{Fault, Quad, Store};
 use crate::limits::{
-    BUDGET, NUMBER_RECORD, PAGE_REPORT, QUAD_TABLE, RUN_REPORT, SAVED, SLOT, TERM_TABLE, TOTAL_REPORT,
+    BUDGET, NUMBER_RECORD, PAGE_REPORT, QUAD_TABLE, RUN_REPORT, SAVED, SLOT, SUGGEST_REPORT, TERM_TABLE, TOTAL_REPORT,
 };
 use crate::machine::{Machine, State, World};
 use crate::number::{self, Reading};
@@ -15,11 +15,12 @@ use crate::saved;
 use crate::search::{Naive, Search};
 use crate::seek::Seek;
 use crate::sound::{sound, Held, Lent};
+use crate::suggest::{self, Suggest};
 use crate::term::is_second;
 use crate::terms::Terms;
 use crate::{arcs, assignments, page as pages};
 
-/// An engine: how it works out types, keeps quads in order, takes ranks, reads numbers and finds answers.
+/// An engine: how it works out types, keeps quads in order, takes ranks, reads numbers, names a written type and finds answers.
 #[derive(Clone, Copy)]
 pub struct Engine<'a> {
     /// How types are worked out.
@@ -30,6 +31,8 @@ pub struct Engine<'a> {
     pub alphabet: Alphabet,
     /// How the texts of numbers are read.
     pub reading: Reading,
+    /// How a written type that would do is found.
+    pub suggest: Suggest,
     /// How answers are found.
     pub search: &'a dyn Search,
 }
@@ -74,13 +77,13 @@ impl Engine<'_> {
     /// The fast engine.
     pub const fn fast() -> Engine<'static> {
         let (order, alphabet, reading) = (order::FAST, rank::FAST, number::fast);
-        Engine { typer: arcs::solve, order, alphabet, reading, search: &Seek }
+        Engine { typer: arcs::solve, order, alphabet, reading, suggest: suggest::fast, search: &Seek }
     }
 
     /// The engine by the definitions.
     pub const fn plain() -> Engine<'static> {
         let (order, alphabet, reading) = (order::PLAIN, rank::PLAIN, number::plain);
-        Engine { typer: assignments::solve, order, alphabet, reading, search: &Naive }
+        Engine { typer: assignments::solve, order, alphabet, reading, suggest: suggest::plain, search: &Naive }
     }
 
     /// Refusal 21, straight after 1: whether each rank stands once.
@@ -173,6 +176,13 @@ impl Engine<'_> {
         let report = lent::<TOTAL_REPORT>(report)?;
         let (_, _, script) = read(terms, schema, script)?;
         *report = (script.total().unwrap_or(0) as u32).to_le_bytes();
+        Ok(())
+    }
+
+    /// Names one written type with which a script that a load refuses with 9 would load: writes the report. It is lent no ranks.
+    pub fn suggest(&self, card: [&[u8]; 3], report: &mut [u8]) -> Outcome {
+        let report = lent::<SUGGEST_REPORT>(report)?;
+        *report = (self.suggest)(self.typer, card)?.report();
         Ok(())
     }
 

@@ -13,9 +13,10 @@
 //! | ranks, and the order of strings | [`rank::PLAIN`]: each rank counted, texts taken apart | [`rank::FAST`]: a set of bits, the first difference |
 //! | order of the quads | [`order::PLAIN`]: each before all after it | [`order::FAST`]: a quad as one number |
 //! | the number of a text | [`number::plain`]: by the form, in whole numbers of any size | [`number::fast`]: one pass, each digit at its place |
+//! | the written type that would do | [`suggest::plain`]: each written into the bytes, the card checked anew | [`suggest::fast`]: each written into the tree that was read |
 //! | outcome and count of a tuple | [`count`]: all parts evaluated, then counted by their outcomes | [`early`]: one walk that leaves parts out |
 //!
-//! An [`Engine`] holds a typer, an order, an alphabet, a reading of numbers and a search; [`Engine::fast`] and [`Engine::plain`] are the two that the comparison uses. The
+//! An [`Engine`] holds a typer, an order, an alphabet, a reading of numbers, a way to suggest and a search; [`Engine::fast`] and [`Engine::plain`] are the two that the comparison uses. The
 //! calls take and give the bytes of the C interface; each returns nothing, or its refusal.
 //!
 //! It shares no code with the rest of the workspace: limits, offsets and records stand here in its own words, so that a slip
@@ -54,6 +55,7 @@ pub mod script;
 pub mod search;
 pub mod seek;
 pub mod sound;
+pub mod suggest;
 pub mod term;
 pub mod terms;
 pub mod truth;

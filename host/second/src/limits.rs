@@ -44,6 +44,8 @@ pub const RUN_REPORT: usize = 8;
 pub const PAGE_REPORT: usize = 4;
 /// Bytes of a total call's report.
 pub const TOTAL_REPORT: usize = 4;
+/// Bytes of a suggest call's report.
+pub const SUGGEST_REPORT: usize = 4;
 /// Bytes of a number's text, at most.
 pub const NUMBER_TEXT: usize = 40;
 /// Bytes of a number's record: kind and count.

@@ -1,12 +1,15 @@
 //! A card and its calls.
 
 use crate::kinds;
-use crate::limits::{PAGE_REPORT_WIDTH, RUN_REPORT_WIDTH, SAVED_WIDTH, TEXT_WIDTH, TOTAL_REPORT_WIDTH};
+use crate::limits::{
+    PAGE_REPORT_WIDTH, RUN_REPORT_WIDTH, SAVED_WIDTH, SUGGEST_REPORT_WIDTH, TEXT_WIDTH, TOTAL_REPORT_WIDTH,
+};
 use crate::raw;
 use crate::refusal::Refusal;
 use crate::report::{PageReport, RunReport};
 use crate::saved::SavedRun;
 use crate::script::Script;
+use crate::suggestion::Suggestion;
 use crate::tables::Tables;
 use crate::term::Term;
 use crate::types::Datatype;
@@ -110,5 +113,32 @@ impl Card {
         let mut report = [0; TOTAL_REPORT_WIDTH];
         Refusal::unless_zero(raw::total(self, &mut report))?;
         Ok(Some(u32::from_le_bytes(report)).filter(|steps| *steps != 0))
+    }
+
+    /// Names the single written type that would do where [`Card::load`] refuses the card with 9: the lowest open variable for which there
+    /// is one, and for it the type of the lowest code. Written at that variable, with nothing else changed, it lets the card load.
+    ///
+    /// Refused with 2 to 8, as the load is; 9 is answered here.
+    ///
+    /// ```
+    /// use willetcoffer::script::{both, con, once, pattern, success, var, Script};
+    /// use willetcoffer::{Card, Datatype, Refusal, Suggestion, Tables, Term, Type};
+    /// // Which property has the speed of something as its object? The variables are $g 0, $s 1, $p 2 and $o 3.
+    /// let of = |property| pattern([var(0), var(1), property, var(3)]);
+    /// let card = |written| {
+    ///     let script = once(&[(0, None), (1, None), (2, written), (3, None)], both(of(var(2)), of(con(0))), success());
+    ///     Card::new(&[], &[(Term::uri("p:speed").unwrap(), Datatype::Decimal)], script)
+    /// };
+    /// // A decimal that range(decimal) goes with, or an integer that range(integer) goes with: neither is above the other.
+    /// assert_eq!(card(None).load(&mut Tables::new()), Err(Refusal::NoGreatest));
+    /// let written_type = Type::Range(Datatype::Decimal);
+    /// assert_eq!(card(None).suggest(), Ok(Suggestion::Written { variable: 2, written_type }));
+    /// assert!(card(Some(written_type)).load(&mut Tables::new()).is_ok());
+    /// assert_eq!(card(Some(written_type)).suggest(), Ok(Suggestion::Accepted));
+    /// ```
+    pub fn suggest(&self) -> Result<Suggestion, Refusal> {
+        let mut report = [0; SUGGEST_REPORT_WIDTH];
+        Refusal::unless_zero(raw::suggest(self, &mut report))?;
+        Ok(Suggestion::from_bytes(&report).expect("a suggest call that is not refused writes its report"))
     }
 }

@@ -36,6 +36,9 @@
 //!
 //! A number that a maker prints, `126.4` or `0.999e2`, is read as a term by [`number()`], exactly.
 //!
+//! Where a card is refused because its types can be read in several ways ([`Refusal::NoGreatest`]), [`Card::suggest`] names one written type
+//! that would do.
+//!
 //! Strings are sorted by the [`ranks`] that are lent with the tables: the built-in ones, or a club's own.
 //!
 //! What is behind a call is proved, for every input: [`raw`] is the boundary to it, and the only place in this workspace with
@@ -57,6 +60,7 @@ mod card;
 mod number;
 mod refusal;
 mod report;
+mod suggestion;
 mod tables;
 mod types;
 
@@ -65,6 +69,7 @@ pub use number::number;
 pub use refusal::Refusal;
 pub use report::{PageReport, RunReport, State};
 pub use saved::{SavedRun, StackItem};
+pub use suggestion::Suggestion;
 pub use tables::{Quad, Tables};
 pub use term::{BadTerm, Term, Value};
 pub use types::{Datatype, Type};

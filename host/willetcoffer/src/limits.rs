@@ -101,3 +101,5 @@ pub const RUN_REPORT_WIDTH: usize = 8;
 pub const PAGE_REPORT_WIDTH: usize = 4;
 /// Bytes of a total call's report.
 pub const TOTAL_REPORT_WIDTH: usize = 4;
+/// Bytes of a suggest call's report.
+pub const SUGGEST_REPORT_WIDTH: usize = 4;

@@ -79,6 +79,17 @@ extern "C" {
         report_length: usize,
     ) -> u32;
 
+    fn willetcoffer_suggest(
+        terms: *const u8,
+        terms_length: usize,
+        schema: *const u8,
+        schema_length: usize,
+        script: *const u8,
+        script_length: usize,
+        report: *mut u8,
+        report_length: usize,
+    ) -> u32;
+
     fn willetcoffer_number(text: *const u8, text_length: usize, record: *mut u8, record_length: usize) -> u32;
 }
 
@@ -188,6 +199,23 @@ pub fn total(card: &Card, report: &mut [u8]) -> u32 {
     // SAFETY: as in `load`.
     unsafe {
         willetcoffer_total(
+            card.terms.as_ptr(),
+            card.terms.len(),
+            card.schema.as_ptr(),
+            card.schema.len(),
+            card.script.as_ptr(),
+            card.script.len(),
+            report.as_mut_ptr(),
+            report.len(),
+        )
+    }
+}
+
+/// Names one written type that would do: on 0 the report is written, else nothing is.
+pub fn suggest(card: &Card, report: &mut [u8]) -> u32 {
+    // SAFETY: as in `load`.
+    unsafe {
+        willetcoffer_suggest(
             card.terms.as_ptr(),
             card.terms.len(),
             card.schema.as_ptr(),

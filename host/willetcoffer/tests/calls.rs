@@ -4,15 +4,15 @@ use willetcoffer::limits::{
     BUDGET_LIMIT, GRAPH_LIMIT, PAGE_LIMIT, SECONDS_AFTER, SECONDS_BEFORE, SLOT_WIDTH, TEXT_WIDTH,
 };
 use willetcoffer::limits::{
-    PAGE_REPORT_WIDTH, QUAD_TABLE_WIDTH, QUAD_WIDTH, RANKS_WIDTH, RUN_REPORT_WIDTH, SAVED_WIDTH, TERM_TABLE_WIDTH,
-    TOTAL_REPORT_WIDTH,
+    PAGE_REPORT_WIDTH, QUAD_TABLE_WIDTH, QUAD_WIDTH, RANKS_WIDTH, RUN_REPORT_WIDTH, SAVED_WIDTH, SUGGEST_REPORT_WIDTH,
+    TERM_TABLE_WIDTH, TOTAL_REPORT_WIDTH,
 };
 use willetcoffer::page::{record_width, records, triple};
 use willetcoffer::ranks::{in_order, BUILT_IN, BUILT_IN_ORDER};
 use willetcoffer::raw::{self, TablesMut, TablesRef};
 use willetcoffer::script::*;
 use willetcoffer::{Card, Datatype, PageReport, Quad, Refusal, RunReport, SavedRun, StackItem, State, Tables};
-use willetcoffer::{Term, Type, Value};
+use willetcoffer::{Suggestion, Term, Type, Value};
 
 fn uri(text: &str) -> Term {
     Term::uri(text).unwrap()
@@ -107,6 +107,10 @@ fn every_length_counts() {
         let mut report = vec![9; length];
         assert_eq!((raw::total(&card, &mut report), report), (1, vec![9; length]));
     }
+    for length in [0, SUGGEST_REPORT_WIDTH - 1, SUGGEST_REPORT_WIDTH + 1] {
+        let mut report = vec![9; length];
+        assert_eq!((raw::suggest(&card, &mut report), report), (1, vec![9; length]));
+    }
     let widths = [RANKS_WIDTH, TERM_TABLE_WIDTH, QUAD_TABLE_WIDTH, SAVED_WIDTH, RUN_REPORT_WIDTH, PAGE_REPORT_WIDTH];
     let load = |[ranks, terms, quads, saved, ..]: &mut [Vec<u8>; 6]| {
         raw::load(&card, TablesMut { ranks, terms, quads }, saved)
@@ -164,6 +168,50 @@ fn the_total() {
     assert_eq!(refused(Card { terms: three.terms.repeat(2), ..three }), 3);
     assert_eq!(refused(with_script(&[])), 6);
     assert_eq!(refused(with_script(&[0x72, 0x31, 0, 0x71])), 7);
+}
+
+/// Document 02's example, with its four variables in each order of numbers that counts, and the roster's other rows with 9.
+#[test]
+fn suggestions() {
+    let written = |variable, written_type| Ok(Suggestion::Written { variable, written_type });
+    let (decimal, any) = (Datatype::Decimal, Datatype::AnyUri);
+    let card = |query, pairs: &[(u8, Option<Type>)]| {
+        Card::new(&[], &[(uri("p:speed"), decimal)], once(pairs, query, success()))
+    };
+    let of = |p, o| pattern([var(0), var(1), p, var(o)]);
+    let open = [0, 1, 2, 3].map(|v| (v, None));
+    let speed = |p, o| card(both(of(var(p), o), of(con(0), o)), &open);
+    assert_eq!(speed(2, 3).suggest(), written(2, Type::Range(decimal)));
+    assert_eq!(speed(3, 2).suggest(), written(2, Type::Data(decimal)));
+    assert_eq!(card(of(var(2), 3), &open).suggest(), written(2, Type::Range(any)));
+    let equation = filter(equal(var(0), var(1)));
+    assert_eq!(card(equation.clone(), &open[..2]).suggest(), written(0, Type::Data(any)));
+    assert_eq!(card(equation, &open[..3]).suggest(), Ok(Suggestion::None));
+    assert_eq!(card(of(con(0), 2), &open[..3]).suggest(), Ok(Suggestion::Accepted));
+    assert_eq!(card(filter(regex("a", var(0))), &[(0, Some(Type::Data(any)))]).suggest(), Err(Refusal::NoTyping));
+}
+
+/// Refused as the load is, with 2 to 8, and nothing is written.
+#[test]
+fn refusals_of_a_suggestion() {
+    let three = Card::new(&[integer(3)], &[(uri("p:name"), Datatype::String)], success());
+    let regex_on_an_integer = once(&[], filter(regex("a", con(0))), success()).into_bytes();
+    let mut datatype_6 = three.schema.clone();
+    *datatype_6.last_mut().unwrap() = 6;
+    let rows = [
+        (2, Card { terms: vec![0x16], ..three.clone() }),
+        (3, Card { terms: three.terms.repeat(2), ..three.clone() }),
+        (4, Card { schema: datatype_6, ..three.clone() }),
+        (5, Card { schema: three.schema.repeat(2), ..three.clone() }),
+        (6, Card { script: Vec::new(), ..three.clone() }),
+        (7, Card { script: vec![0x72, 0x31, 0, 0x71], ..three.clone() }),
+        (8, Card { script: regex_on_an_integer, ..three }),
+    ];
+    for (number, card) in rows {
+        let mut report = [9; SUGGEST_REPORT_WIDTH];
+        assert_eq!((raw::suggest(&card, &mut report), report), (number, [9; SUGGEST_REPORT_WIDTH]));
+        assert_eq!(refusal(&card), number);
+    }
 }
 
 #[test]

@@ -1,10 +1,11 @@
-//! Refusal 9: the written type that would do.
+//! Refusal 9: the written type that would do, as the proved engine names it.
 
 use crate::check::load;
 use crate::diagnostic::Diagnostic;
+use crate::encode::encode;
 use crate::scope::numbers;
 use crate::tree::{Node, Pair, Script, Source};
-use willetcoffer::{Datatype, Refusal, Type};
+use willetcoffer::{Datatype, Refusal, Suggestion, Type};
 
 /// Calls a function on each pair, in the order of the text.
 pub(crate) fn for_each_pair(script: &mut Node<Script>, change: &mut impl FnMut(&mut Pair)) {
@@ -43,12 +44,12 @@ fn open_pairs(source: &Source) -> Vec<&Pair> {
     open
 }
 
-/// The single written type that makes a script with refusal 9 acceptable: the lowest open variable for which there is one, and for
-/// it the lowest type. One day a call of the proved engine takes the place of these loads.
+/// The single written type that makes a script with refusal 9 acceptable, with the pair to write it at.
 fn suggestion(source: &Source) -> Option<(&Pair, Type)> {
-    let accepted = |pair: &Pair, written: Type| load(&with_type(source, &pair.variable.kind, written)).is_ok();
-    let first = |pair| Type::all().find(|written| accepted(pair, *written)).map(|written| (pair, written));
-    open_pairs(source).into_iter().find_map(first)
+    let encoded = encode(source).ok()?;
+    let Ok(Suggestion::Written { variable, written_type }) = encoded.card.suggest() else { return None };
+    let name = encoded.legend.name(variable);
+    open_pairs(source).into_iter().find(|pair| pair.variable.kind == name).map(|pair| (pair, written_type))
 }
 
 /// The types that can be written at a variable so that there are typings still.

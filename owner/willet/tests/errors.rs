@@ -233,6 +233,15 @@ fn refusal_9_no_greatest_typing() {
         ("an equation alone", query("$x, $y", "$x = $y")),
         ("a variable that is not used", query("$x", "{}")),
         ("a variable under str only", query("$x", "regex(str($x), \"3\")")),
+        (
+            "by their numbers, not by their places",
+            format!("names $o, $p\n{}", query("$g, $s, $p, $o", "graph $g { $s $p $o ;\n    p:speed $o }")),
+        ),
+        ("two properties of one number", query("$s, $p, $q, $o", "graph p:g { $s $p $o ; $q $o ; p:speed $o }")),
+        (
+            "a variable for which there is none before",
+            query("$p, $o, $q, $u", "graph p:g { p:g $p $o ; $q $o ; $q $u ; p:speed $o ; p:speed $u }"),
+        ),
         ("two variables that are not used", query("$x, $y", "{}")),
     ];
     insta::assert_snapshot!(messages(9, &scripts));

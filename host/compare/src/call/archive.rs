@@ -22,6 +22,7 @@ impl Engine for Archive {
                 raw::page(card, TablesMut { ranks, terms, quads }, saved, *graph, page, report)
             }
             Call::Total { .. } => raw::total(card, report),
+            Call::Suggest { .. } => raw::suggest(card, report),
         }
     }
 

@@ -17,6 +17,7 @@ use second::rules::Env;
 use second::script::Script;
 use second::search::{Naive, Search, Task, Tuple};
 use second::seek::Seek;
+use second::suggest::{self, Suggest};
 use second::terms::Terms;
 use second::Refusal;
 use std::cell::{Cell, RefCell};
@@ -75,6 +76,7 @@ pub struct Second<S> {
     order: Order,
     alphabet: Alphabet,
     reading: Reading,
+    suggest: Suggest,
     evaluate: Evaluate,
     why: Cell<&'static str>,
     notes: RefCell<Vec<Note>>,
@@ -82,13 +84,13 @@ pub struct Second<S> {
 }
 
 /// An engine with these parts: how types are worked out in loads and by the printer, and in the other calls; and how
-/// answers are found. It keeps quads in order, takes ranks and reads numbers as the fast engine does, and evaluates tuples by giving up
-/// early.
+/// answers are found. It keeps quads in order, takes ranks, reads numbers and suggests as the fast engine does, and evaluates tuples by giving
+/// up early.
 pub fn with<S>(name: &'static str, typers: [second::check::Typer; 2], search: S) -> Second<S> {
     let (why, notes, looks) = (Cell::new(""), RefCell::default(), RefCell::default());
-    let (order, alphabet, reading, evaluate): (_, _, Reading, Evaluate) =
-        (order::FAST, rank::FAST, number::fast, early::evaluate);
-    Second { name, typers, search, order, alphabet, reading, evaluate, why, notes, looks }
+    let (order, alphabet, reading, suggest) = (order::FAST, rank::FAST, number::fast, suggest::fast);
+    let evaluate = early::evaluate;
+    Second { name, typers, search, order, alphabet, reading, suggest, evaluate, why, notes, looks }
 }
 
 /// The fast engine.
@@ -122,7 +124,12 @@ fn counted(script: &Script, terms: &Terms) -> Result<Env, Refusal> {
 /// The engine by the definitions, its search bounded by [`Bounded`].
 pub fn plain() -> Second<Bounded> {
     let plain = with("plain", [counted, assignments::solve_again], Bounded::default());
-    plain.ordering(order::PLAIN).ranking(rank::PLAIN).reading(number::plain).evaluating(count::evaluate)
+    plain
+        .ordering(order::PLAIN)
+        .ranking(rank::PLAIN)
+        .reading(number::plain)
+        .suggesting(suggest::plain)
+        .evaluating(count::evaluate)
 }
 
 impl<S> Second<S> {
@@ -141,6 +148,11 @@ impl<S> Second<S> {
         Second { reading, ..self }
     }
 
+    /// The same, written types suggested in this way.
+    pub fn suggesting(self, suggest: Suggest) -> Second<S> {
+        Second { suggest, ..self }
+    }
+
     /// The same, tuples evaluated in this way.
     pub fn evaluating(self, evaluate: Evaluate) -> Second<S> {
         Second { evaluate, ..self }
@@ -149,8 +161,9 @@ impl<S> Second<S> {
 
 impl<S: Search + Counts> Second<S> {
     fn engine(&self, again: bool) -> second::Engine<'_> {
-        let Second { order, alphabet, reading, .. } = *self;
-        second::Engine { typer: self.typers[usize::from(again)], order, alphabet, reading, search: &self.search }
+        let Second { order, alphabet, reading, suggest, .. } = *self;
+        let typer = self.typers[usize::from(again)];
+        second::Engine { typer, order, alphabet, reading, suggest, search: &self.search }
     }
 
     fn code(&self, outcome: Result<(), Refusal>) -> u32 {
@@ -182,6 +195,7 @@ impl<S: Search + Counts> Engine for Second<S> {
                 self.engine(true).page(inputs, [terms, quads, saved], *graph, page, report)
             }
             Call::Total { .. } => self.engine(false).total([inputs[1], inputs[2], inputs[3]], report),
+            Call::Suggest { .. } => self.engine(false).suggest([inputs[1], inputs[2], inputs[3]], report),
         });
         self.notes.replace(take_notes());
         self.looks.replace(take_looks());

@@ -4,11 +4,11 @@ use super::Engine;
 use second::eval::Quad;
 use willetcoffer::limits::{
     FETCHED_OFFSET, GRAPH_LIMIT, PAGE_REPORT_WIDTH, QUAD_TABLE_WIDTH, QUAD_WIDTH, RUN_REPORT_WIDTH, SAVED_WIDTH,
-    SLOT_WIDTH, TERM_TABLE_WIDTH, TOTAL_REPORT_WIDTH,
+    SLOT_WIDTH, SUGGEST_REPORT_WIDTH, TERM_TABLE_WIDTH, TOTAL_REPORT_WIDTH,
 };
 use willetcoffer::ranks::BUILT_IN;
 use willetcoffer::saved::{GRAPHS, QUADS};
-use willetcoffer::{Card, PageReport, RunReport};
+use willetcoffer::{Card, PageReport, RunReport, Suggestion};
 
 /// A card, ranks and lent buffers of any lengths.
 #[derive(Clone, PartialEq, Eq)]
@@ -53,6 +53,11 @@ pub enum Call {
         /// The length of the lent report.
         report: usize,
     },
+    /// A suggestion.
+    Suggest {
+        /// The length of the lent report.
+        report: usize,
+    },
 }
 
 impl Call {
@@ -71,6 +76,11 @@ impl Call {
         Call::Total { report: TOTAL_REPORT_WIDTH }
     }
 
+    /// A suggestion with a report of the right length.
+    pub fn suggest() -> Call {
+        Call::Suggest { report: SUGGEST_REPORT_WIDTH }
+    }
+
     /// Its name in the coverage table.
     pub fn name(&self) -> &'static str {
         match self {
@@ -78,19 +88,21 @@ impl Call {
             Call::Run { .. } => "run",
             Call::Page { .. } => "page",
             Call::Total { .. } => "total",
+            Call::Suggest { .. } => "suggest",
         }
     }
 
-    /// Whether it is lent tables and ranks; a total is not.
+    /// Whether it is lent tables and ranks; a total and a suggestion are lent the card alone.
     pub fn is_lent(&self) -> bool {
-        !matches!(self, Call::Total { .. })
+        !matches!(self, Call::Total { .. } | Call::Suggest { .. })
     }
 
     /// The length of its report; a load has none.
     pub fn report(&self) -> usize {
         match self {
             Call::Load => 0,
-            Call::Run { report, .. } | Call::Page { report, .. } | Call::Total { report } => *report,
+            Call::Run { report, .. } | Call::Page { report, .. } => *report,
+            Call::Total { report } | Call::Suggest { report } => *report,
         }
     }
 }
@@ -114,6 +126,11 @@ impl Answer {
     pub fn total(&self) -> Option<u32> {
         let report = self.report[..].try_into().ok().filter(|_| self.code == 0);
         report.map(u32::from_le_bytes)
+    }
+
+    /// The report of a suggestion that was not refused.
+    pub fn suggested(&self) -> Option<Suggestion> {
+        Suggestion::from_bytes(&self.report).filter(|_| self.code == 0)
     }
 
     /// The report of a page that was not refused.

@@ -5,6 +5,7 @@ use second::edge::{Look, EDGES};
 use second::note::Note;
 use std::collections::BTreeMap;
 use std::fmt::Write;
+use willetcoffer::limits::VARIABLE_LIMIT;
 
 /// Counts by section and key.
 #[derive(Default)]
@@ -55,6 +56,7 @@ fn required(cases: u64) -> Vec<(&'static str, String, u64)> {
     add("run", &[0, 1, 10, 11, 21]);
     add("page", &[0, 1, 10, 12, 13, 14, 21]);
     add("total", &[0, 1, 2, 3, 4, 5, 6, 7]);
+    add("suggest", &[0, 1, 2, 3, 4, 5, 6, 7, 8]);
     add("printer", &[0, 2, 3, 4, 5, 6, 7, 8, 9]);
     let kinds = [0x31..=0x32, 0x41..=0x45, 0x50..=0x58, 0x61..=0x65, 0x71..=0x74].into_iter().flatten();
     all.extend(kinds.map(|kind: u32| ("kind", format!("{kind:x}"))));
@@ -74,6 +76,7 @@ fn required(cases: u64) -> Vec<(&'static str, String, u64)> {
     all.extend(in_order.map(|key| ("tampered", key.to_string())));
     let mut all: Vec<_> = all.into_iter().map(|(section, key)| (section, key, ENOUGH)).collect();
     all.extend(often().map(|(section, key)| (section, key.to_string(), cases / CASES_FOR_ONE)));
+    all.extend(suggestions(cases));
     all.extend(together().map(|(section, key)| (section, key.to_string(), cases / CASES_FOR_TWO)));
     for edge in EDGES.map(|edge| edge.to_string()) {
         all.extend(PLACES.map(|place| (place, edge.clone(), cases / CASES_FOR_ONE)));
@@ -88,6 +91,22 @@ fn required(cases: u64) -> Vec<(&'static str, String, u64)> {
     all
 }
 
+/// What suggestions are to say and to name in so many cases. No other code is the lowest of those that would do: where a variable may be of
+/// several kinds it may be anyURI or have range(anyURI), and where it is a number decimal leaves it no less decided than integer.
+fn suggestions(cases: u64) -> Vec<(&'static str, String, u64)> {
+    let said = [("in the place of 9", cases / 10), ("written", cases / 20), ("none", cases / 50), ("accepted", ENOUGH)];
+    let mut all: Vec<_> = said.map(|(what, enough)| ("suggestion", what.to_string(), enough)).to_vec();
+    let mut add = |section, keys: &[&str]| {
+        all.extend(keys.iter().map(|key| (section, key.to_string(), cases / CASES_FOR_A_LOOK)))
+    };
+    add("suggestion written", &["00"]);
+    add("suggested code", &["1", "3", "9", "11", "13"]);
+    add("suggested", &["at the lowest open variable", "after lower open variables"]);
+    add("suggest report of", &["0", "3", "4", "5"]);
+    all.extend((0..VARIABLE_LIMIT).map(|v| ("suggested variable", v.to_string(), cases / CASES_FOR_TWO)));
+    all
+}
+
 /// Where a byte at an edge is changed.
 const CHANGED: [&str; 4] =
     ["a text of the terms", "a property of the schema", "a text of the page", "a text of a slot"];
@@ -95,9 +114,9 @@ const CHANGED: [&str; 4] =
 /// What is lent in the widths of before, and what a call has to say of it.
 fn odd() -> impl Iterator<Item = String> {
     let rows: [(&str, &[&str]); 8] = [
-        ("terms of before", &["load 02", "total 02", "run 10", "page 10"]),
-        ("schema of before", &["load 04", "total 04", "run 10", "page 10"]),
-        ("card of before", &["load 02", "total 02", "run 10", "page 10"]),
+        ("terms of before", &["load 02", "total 02", "suggest 02", "run 10", "page 10"]),
+        ("schema of before", &["load 04", "total 04", "suggest 04", "run 10", "page 10"]),
+        ("card of before", &["load 02", "total 02", "suggest 02", "run 10", "page 10"]),
         ("term table of before", &["load 01", "run 01", "page 01"]),
         ("card and term table of before", &["load 01", "run 01", "page 01"]),
         ("slots of before", &["run 10", "page 10"]),

@@ -37,8 +37,8 @@ pub fn station(rng: &mut Rng, pool: &Pool) -> (Station, &'static str) {
 
 /// A script of the case, and what sort it is.
 fn script(rng: &mut Rng, pool: &Pool) -> (Vec<u8>, &'static str) {
-    let edged = if pool.texts.are_long() { 180 } else { 4 };
-    match rng.weighted(&[44, 18, 10, 5, 5, 17, 27, 38, edged, 4]) {
+    let (edged, undecided) = if pool.texts.are_long() { (180, 36) } else { (4, 18) };
+    match rng.weighted(&[44, 18, 10, 5, 5, 17, 27, 38, edged, undecided, 4]) {
         0 => {
             let room = rng.within(20, 400);
             (Writer::new(rng, pool, room).script(0), "typed")
@@ -54,6 +54,7 @@ fn script(rng: &mut Rng, pool: &Pool) -> (Vec<u8>, &'static str) {
         6 => (Writer::new(rng, pool, 200).overflowing(), "overflowing"),
         7 => (Writer::new(rng, pool, 200).sorted(), "sorted"),
         8 => (Writer::new(rng, pool, 200).edged(), "edged"),
+        9 => (Writer::new(rng, pool, 200).undecided(), "undecided"),
         _ => (as_long_as_it_may_be(rng, pool), "longest"),
     }
 }

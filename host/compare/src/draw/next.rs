@@ -58,6 +58,15 @@ impl Draw {
         call
     }
 
+    /// A suggestion, now and then with a report of another length.
+    pub fn suggest_call(&mut self) -> Call {
+        let mut call = Call::suggest();
+        if let (Call::Suggest { report }, true) = (&mut call, self.rng.one_in(60)) {
+            *report = self.rng.one(&[0, *report - 1, *report + 1]);
+        }
+        call
+    }
+
     /// Tampers with the station and draws the next call on it; gives the name of the change too.
     pub fn tampered_call(&mut self, station: &mut Station, last: Option<&Answer>) -> (&'static str, Call) {
         let label = tamper(&mut self.rng, &self.pool, station);

@@ -118,9 +118,9 @@ impl Draw {
         let rng = &mut self.rng;
         match (call, rng.below(8)) {
             (_, 0) => old_card(rng, station),
-            (Call::Load | Call::Total { .. }, 1..=2) => old_card(rng, station),
+            (Call::Load | Call::Total { .. } | Call::Suggest { .. }, 1..=2) => old_card(rng, station),
             (Call::Load, 3) | (Call::Run { .. } | Call::Page { .. }, 1..=2) => old_table(rng, station),
-            (Call::Load | Call::Total { .. }, _) => card_at_an_edge(rng, station),
+            (Call::Load | Call::Total { .. } | Call::Suggest { .. }, _) => card_at_an_edge(rng, station),
             (Call::Page { page, .. }, 3..=4) => {
                 *page = before::page(&page::read(page).ok()?);
                 (!page.is_empty()).then_some(Odd::OldPage)

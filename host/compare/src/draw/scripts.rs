@@ -5,6 +5,7 @@ mod overflowing;
 mod sorted;
 mod starred;
 mod tangle;
+mod undecided;
 
 use crate::draw::pool::{datatype, Pool, Size};
 use crate::draw::rng::Rng;

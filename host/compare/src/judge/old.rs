@@ -15,8 +15,8 @@ pub(super) fn refused(made: &Made) -> Result<(), Difference> {
     let (terms, schema) = (before::has_texts(&card.terms), before::is_schema(&card.schema));
     let due: &[u32] = match made.call {
         _ if [1, 21].contains(&code) => return Ok(()),
-        Call::Load | Call::Total { .. } if terms => &[2],
-        Call::Load | Call::Total { .. } if schema => &[2, 3, 4],
+        Call::Load | Call::Total { .. } | Call::Suggest { .. } if terms => &[2],
+        Call::Load | Call::Total { .. } | Call::Suggest { .. } if schema => &[2, 3, 4],
         Call::Run { .. } | Call::Page { .. } if terms || schema => &[10],
         Call::Page { page, .. } if before::is_page(page) => &[10, 12, 13],
         _ => return Ok(()),

@@ -9,8 +9,8 @@ use second::script::{Cond, Expr, Kind, Name, Query};
 use second::term::Term;
 use second::types::{Datatype, Type};
 use willetcoffer::limits::{
-    PAGE_REPORT_WIDTH, QUAD_TABLE_WIDTH, RANKS_WIDTH, RUN_REPORT_WIDTH, SAVED_WIDTH, TERM_TABLE_WIDTH,
-    TOTAL_REPORT_WIDTH,
+    PAGE_REPORT_WIDTH, QUAD_TABLE_WIDTH, RANKS_WIDTH, RUN_REPORT_WIDTH, SAVED_WIDTH, SUGGEST_REPORT_WIDTH,
+    TERM_TABLE_WIDTH, TOTAL_REPORT_WIDTH,
 };
 
 /// Whether each rank from 0 to 94 stands once, and no other.
@@ -20,13 +20,14 @@ pub fn each_once(ranks: &[u8]) -> bool {
     sorted.into_iter().eq(0..RANKS_WIDTH as u8)
 }
 
-/// 1 for another length of what the call is lent, else 21 for ranks that are none; a total is lent neither tables nor ranks.
+/// 1 for another length of what the call is lent, else 21 for ranks that are none; a total and a suggestion are lent neither tables nor ranks.
 pub fn due(station: &Station, call: &Call) -> Option<u32> {
     let report = match call {
         Call::Load => 0,
         Call::Run { .. } => RUN_REPORT_WIDTH,
         Call::Page { .. } => PAGE_REPORT_WIDTH,
         Call::Total { .. } => TOTAL_REPORT_WIDTH,
+        Call::Suggest { .. } => SUGGEST_REPORT_WIDTH,
     };
     let Station { ranks, term_table, quad_table, saved, .. } = station;
     let widths = [RANKS_WIDTH, TERM_TABLE_WIDTH, QUAD_TABLE_WIDTH, SAVED_WIDTH];

@@ -17,7 +17,7 @@ pub(super) fn kept_whole(made: &Made) -> Result<(), Difference> {
     let broken = match made.call {
         Call::Load => loaded(station),
         Call::Page { graph, page, .. } => taken_in(station, *graph, page, made.answers[0].paged()),
-        Call::Run { .. } | Call::Total { .. } => None,
+        Call::Run { .. } | Call::Total { .. } | Call::Suggest { .. } => None,
     };
     broken.map_or(Ok(()), |what| Err(Difference::new(Breach::Whole, what)))
 }

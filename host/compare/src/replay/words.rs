@@ -14,6 +14,7 @@ pub fn describe(made: &Made, tamper: &str, engines: [&dyn Engine; 2]) -> String 
         Call::Run { budget, now, report } => format!("run budget {budget} now {now} report of {report}\n"),
         Call::Page { graph, page, report } => format!("page graph {graph} report of {report} page {}\n", hex(page)),
         Call::Total { report } => format!("total report of {report}\n"),
+        Call::Suggest { report } => format!("suggest report of {report}\n"),
     };
     if matches!(made.call, Call::Load) || !tamper.is_empty() {
         let card = &made.before.card;

@@ -8,7 +8,8 @@ use numbers::{antt, header, rust, snake, Numbers};
 use signatures::{exported, in_c, in_rust};
 use std::collections::{BTreeMap, BTreeSet};
 use std::path::Path;
-use willetcoffer::{Datatype, Refusal, State, Type};
+use willetcoffer::limits::SUGGEST_REPORT_WIDTH;
+use willetcoffer::{Datatype, Refusal, State, Suggestion, Type};
 
 fn read(path: &str) -> String {
     let path = Path::new(env!("CARGO_MANIFEST_DIR")).join("../..").join(path);
@@ -31,7 +32,7 @@ fn definitions() -> Numbers {
 
 #[test]
 fn widths_limits_and_offsets_of_the_header() {
-    let groups = ["TYPE_", "STATE_", "REFUSED_"];
+    let groups = ["TYPE_", "STATE_", "SUGGESTION_", "REFUSED_"];
     let mut numbers = header(&read(HEADER));
     numbers.retain(|name, _| !groups.iter().any(|group| name.starts_with(group)));
     let defined = definitions();
@@ -102,6 +103,32 @@ fn states() {
 }
 
 #[test]
+fn suggestions() {
+    let written = Suggestion::Written { variable: 15, written_type: Type::Range(Datatype::Integer) };
+    let named = [("ACCEPTED", Suggestion::Accepted), ("WRITTEN", written), ("NONE", Suggestion::None)];
+    let numbers = named.map(|(name, suggestion)| (name.to_string(), i128::from(suggestion.number())));
+    assert_eq!(group("SUGGESTION_"), Numbers::from(numbers));
+    let reports = [[0, 0, 0, 0], [1, 15, 13, 0], [2, 0, 0, 0]];
+    assert_eq!(reports.map(|report| Suggestion::from_bytes(&report)), named.map(|(_, suggestion)| Some(suggestion)));
+    // Bytes that no call writes: another number, variable, code or last byte, something where nothing is named, another length.
+    let others = [
+        [3, 0, 0, 0],
+        [1, 16, 1, 0],
+        [1, 0, 0, 0],
+        [1, 0, 8, 0],
+        [1, 0, 14, 0],
+        [1, 0, 1, 1],
+        [0, 1, 0, 0],
+        [2, 0, 1, 0],
+    ];
+    assert_eq!(others.map(|report| Suggestion::from_bytes(&report)), [None; 8]);
+    assert_eq!(
+        [SUGGEST_REPORT_WIDTH - 1, SUGGEST_REPORT_WIDTH + 1].map(|n| Suggestion::from_bytes(&vec![0; n])),
+        [None; 2]
+    );
+}
+
+#[test]
 fn codes_of_types() {
     let text = read(&format!("{DEFINITIONS}/Types.antt"));
     let mut defined = equations(&text, "datatypeCode");
@@ -121,7 +148,7 @@ fn codes_of_types() {
 }
 
 /// Words before a refusal's number; it stands too where a record's number is written.
-const REFUSING: [&str; 5] = ["require", "given", "refused", "refusedRun", "refusedPage"];
+const REFUSING: [&str; 6] = ["require", "given", "refused", "refusedRun", "refusedPage", "SuggestAnswers.Refused"];
 
 /// The definitions of the calls.
 fn calls() -> String {

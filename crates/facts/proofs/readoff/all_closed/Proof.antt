@@ -6,8 +6,8 @@ use mathlib.Core.Bool.{true, not, _||_}
 use lib.ListN.{getD}
 use borrow.Author.Tests.{not-true, not-false}
 use Rattle.definitions.specs.Limits.{variableLimit}
-use Rattle.definitions.specs.Typing.{unbound}
-use Rattle.facts.specs.Infer.{allBelow, isOpen, settled}
+use Rattle.definitions.specs.Typing.{unbound, isOpen}
+use Rattle.facts.specs.Infer.{allBelow, settled}
 use Rattle.facts.specs.Codes.{allWritten}
 use Rattle.facts.proofs.ReadOffLaws.{below-none, below-more, below-fails, below-done}
 use Rattle.facts.proofs.readoff.all_closed.Statement.{statement}

@@ -1,0 +1,2 @@
+pub mod WithType
+pub mod Does
