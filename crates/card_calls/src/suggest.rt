@@ -8,7 +8,7 @@ use definitions::TERM_TABLE_WIDTH;
 use suggestion::suggest::suggest_for;
 
 // The single written type that makes a script acceptable: the lowest open variable for which one exists, and for it the lowest
-// type code. Ruled out: a type named for a card that is refused below 9; no single one told of every script.
+// type code. Ruled out: a type named for a card that is refused below 9; the types of the constants left out.
 pub fn suggest(terms: &[u8], schema: &[u8], script: &[u8]) -> SuggestAnswer
     ensures { λ r. ⌜ r ≡ Calls.suggest (now (terms .entry)) (now (schema .entry)) (now (script .entry)) ⌝ }
 {

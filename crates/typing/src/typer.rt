@@ -21,7 +21,7 @@ use facts::readoff;
 
 // The tables of a script whose written types stand beside it: `leasts` has the code of each term's least type, `written` a byte
 // for each variable.
-// Ruled out: the facts of the first block alone; tables in which nothing is noted.
+// Ruled out: the facts of the first block alone; a walk that begins a byte too late.
 pub fn tables_of(script: &[u8], leasts: &[u8], written: &[u8]) -> Tables
     requires { ⌜ isSome (parsed (length (now leasts)) (now script)) ≡ true ⌝ }
     requires { ⌜ length (now written) ≡ variableLimit ⌝ }
