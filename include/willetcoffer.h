@@ -10,6 +10,7 @@
  *     willetcoffer_total(..)     whenever a display wants to know how long the script takes
  *     willetcoffer_suggest(..)   where a load was refused with 9, for one written type that would do
  *     willetcoffer_number(..)    for a number as its maker prints it, on the way to a term or a page record
+ *     willetcoffer_schema(..)    for a schema out of a page that tells the ranges of properties, on the way to a card
  *
  * Load, run and page are lent ranks too, the order in which a club sorts its texts; a club that has none of its own lends
  * willetcoffer_built_in_ranks.
@@ -61,6 +62,10 @@ extern "C" {
 #define WILLETCOFFER_SUGGEST_REPORT_WIDTH 4
 /* The record that a number call writes; see willetcoffer_number. */
 #define WILLETCOFFER_NUMBER_RECORD_WIDTH 9
+/* The buffer whose front a schema call fills: a schema of WILLETCOFFER_ENTRY_LIMIT entries; see willetcoffer_schema. */
+#define WILLETCOFFER_SCHEMA_WIDTH 12544
+/* The report of a schema call; see willetcoffer_schema. */
+#define WILLETCOFFER_SCHEMA_REPORT_WIDTH 8
 
 /* ---- widths of fields, in bytes ------------------------------------------------------------------------------------------ */
 
@@ -73,7 +78,6 @@ extern "C" {
 #define WILLETCOFFER_SLOT_WIDTH 105          /* a slot of the term table: the longest term record, a string's */
 #define WILLETCOFFER_URI_WIDTH 97            /* a URI's record: kind and text */
 #define WILLETCOFFER_ENTRY_WIDTH 98          /* a schema record: kind, URI and datatype */
-#define WILLETCOFFER_SCHEMA_WIDTH 12544      /* a schema of all its entries */
 #define WILLETCOFFER_QUAD_WIDTH 8            /* a quad */
 
 /* ---- where parts of a record begin, counted from its kind ---------------------------------------------------------------- */
@@ -178,7 +182,8 @@ static const uint8_t willetcoffer_built_in_ranks[WILLETCOFFER_RANKS_WIDTH] = {
 
 /* ---- refusals ------------------------------------------------------------------------------------------------------------- */
 
-#define WILLETCOFFER_REFUSED_LENGTH 1          /* lent ranks, a lent table, saved run, report or record of another length */
+#define WILLETCOFFER_REFUSED_LENGTH 1          /* lent ranks, a lent table, schema to be written, saved run,
+                                                  report or record of another length */
 #define WILLETCOFFER_REFUSED_TERM_RECORD 2     /* a bad term record */
 #define WILLETCOFFER_REFUSED_TERM_TWICE 3      /* a term listed twice */
 #define WILLETCOFFER_REFUSED_SCHEMA_RECORD 4   /* a bad schema record */
@@ -196,6 +201,7 @@ static const uint8_t willetcoffer_built_in_ranks[WILLETCOFFER_RANKS_WIDTH] = {
 #define WILLETCOFFER_REFUSED_ROOM 14           /* terms, quads or graphs would pass their limits */
 #define WILLETCOFFER_REFUSED_NUMBER_TEXT 16    /* a text that has not the form or the length of a number's */
 #define WILLETCOFFER_REFUSED_NUMBER_VALUE 17   /* a number outside the limits of its kind, or no whole count of millionths */
+#define WILLETCOFFER_REFUSED_TOO_MANY_ENTRIES 19 /* more than WILLETCOFFER_ENTRY_LIMIT subjects of a page would get an entry */
 #define WILLETCOFFER_REFUSED_RANKS 21          /* ranks that are not each rank from 0 to 94 once; straight after 1 */
 
 /* ---- the calls ------------------------------------------------------------------------------------------------------------ */
@@ -335,6 +341,33 @@ uint32_t willetcoffer_suggest(
 uint32_t willetcoffer_number(
     const uint8_t *text, size_t text_length,
     uint8_t *record, size_t record_length);
+
+/*
+ * Gathers a schema from a page. Only records whose object is a URI (kind 81, hexadecimal) ask something of their subject:
+ *
+ *   property rdfs:range, object xsd:anyURI, xsd:string, xsd:decimal, xsd:dateTime or xsd:integer    at least that datatype
+ *   property rdfs:range, another object                                                             anyURI
+ *   property rdf:type, object owl:ObjectProperty                                                    anyURI
+ *
+ * These are the texts as the records have them, compared whole and by case. Each subject of which something is asked gets the least
+ * datatype that meets all of it: integer alone gives integer, integer together with decimal gives decimal. Where none meets all, as
+ * for integer and string, the subject is left out and counted, once. The page needs no schema for this.
+ *
+ *   page        the page's records (kinds 81 to 85), at most WILLETCOFFER_PAGE_LIMIT bytes
+ *   schema      written, from the front: an entry's record (kind 21) for each subject that is not left out, in the order of their
+ *               first asking records; the bytes after the last one keep what they were
+ *   report      written:
+ *                 at 0, 4 bytes  entries
+ *                 at 4, 4 bytes  subjects left out
+ *
+ * The entries' bytes, WILLETCOFFER_ENTRY_WIDTH for each, may stand as the schema of a card: no load refuses them with 4 or 5.
+ *
+ * Refusals: 1, 13, 19, in this order. 19 counts entries at the end of the page, not subjects left out.
+ */
+uint32_t willetcoffer_schema(
+    const uint8_t *page, size_t page_length,
+    uint8_t *schema, size_t schema_length,
+    uint8_t *report, size_t report_length);
 
 #ifdef __cplusplus
 }

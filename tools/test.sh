@@ -51,7 +51,7 @@ if command -v g++ >/dev/null; then
 else
   echo "== the C example as C++: left out, there is no g++ here"
 fi
-check 'the comparison' host cargo run --offline --quiet --release -p compare -- --cases 50000 --numbers 20000 --seed 1 --printer ../target/bin/print_types --printer-every 50 \
+check 'the comparison' host cargo run --offline --quiet --release -p compare -- --cases 50000 --numbers 20000 --schemas 20000 --seed 1 --printer ../target/bin/print_types --printer-every 50 \
   --evaluator ../target/bin/evaluate --evaluator-every 20
 
 echo "== the whole gate took $SECONDS s"

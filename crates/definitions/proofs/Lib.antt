@@ -5,4 +5,5 @@ pub mod Faults
 pub mod ValueExamples
 pub mod NumeralExamples
 pub mod ExportExamples
+pub mod GatheringExamples
 pub mod OrderExamples

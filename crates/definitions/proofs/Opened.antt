@@ -2,9 +2,11 @@
 -- Written by tools/opened.py.
 use Rattle.definitions.specs.Lists as Lists
 use Rattle.definitions.specs.Alphabet as Alphabet
-use Rattle.definitions.specs.Bytes as Bytes
 use Rattle.definitions.specs.Ascii as Ascii
+use Rattle.definitions.specs.Bytes as Bytes
+use Rattle.definitions.specs.Types as Types
 use Rattle.definitions.specs.Terms as Terms
+use Rattle.definitions.specs.Gathering as Gathering
 use Rattle.definitions.specs.Text as Text
 use Rattle.definitions.specs.Reading as Reading
 use Rattle.definitions.specs.Scope as Scope
@@ -36,18 +38,27 @@ unfoldable pub openAlphabet : Unit {0}
 unfolding Alphabet.below Alphabet.occurs Alphabet.isAlphabet Alphabet.builtIn
 openAlphabet = tt
 
-unfoldable pub openBytes : Unit {0}
-unfolding Bytes.little Bytes.littleBytes Bytes.signed Bytes.unsigned Bytes.filled Bytes.unfilled Bytes.provided Bytes.onward Bytes.inFront Bytes.recordsFrom Bytes.records
-openBytes = tt
-
 unfoldable pub openAscii : Unit {0}
 unfolding Ascii.ascii
 openAscii = tt
 
+unfoldable pub openBytes : Unit {0}
+unfolding Bytes.little Bytes.littleBytes Bytes.signed Bytes.unsigned Bytes.filled Bytes.unfilled Bytes.provided Bytes.onward Bytes.inFront Bytes.recordsFrom Bytes.records
+openBytes = tt
+
+unfoldable pub openTypes : Unit {0}
+unfolding Types.datatypeName
+openTypes = tt
+
 unfoldable pub openTerms : Unit {0}
-unfolding Terms.fieldText Terms.uriText Terms.withinLimits Terms.termOfBody Terms.bodyOf Terms.slotOf Terms.bodyAt Terms.uriAt Terms.readTerm Terms.readEntry Terms.readTriple
-    Terms.readTerms Terms.readSchema Terms.readPage Terms.sameNumber Terms.sameTerm Terms.datatypeIn Terms.sortOf
+unfolding Terms.fieldText Terms.uriText Terms.withinLimits Terms.termOfBody Terms.bodyOf Terms.slotOf Terms.entryRecord Terms.schemaRecords Terms.bodyAt Terms.uriAt Terms.readTerm
+    Terms.readEntry Terms.readTriple Terms.readTerms Terms.readSchema Terms.readPage Terms.sameNumber Terms.sameTerm Terms.datatypeIn Terms.sortOf
 openTerms = tt
+
+unfoldable pub openGathering : Unit {0}
+unfolding Gathering.named Gathering.asksOfURI Gathering.asks Gathering.askings Gathering.askedOf Gathering.meets Gathering.leastThat Gathering.leastAsked Gathering.withSubject
+    Gathering.subjectsAfter Gathering.gatheredOf Gathering.gathered
+openGathering = tt
 
 unfoldable pub openText : Unit {0}
 unfolding Text.noLiteral Text.atomOf Text.piecesOf Text.patternOfText Text.patternOf Text.someCut Text.isAtom Text.oneByte Text.madeOf Text.accepts Text.withoutStar
@@ -135,7 +146,7 @@ unfoldable pub openCalls : Unit {0}
 unfolding Calls.recordTests Calls.sizesFit Calls.scriptTests Calls.readTests Calls.constantsOf Calls.typesOf Calls.typeTests Calls.check Calls.reportedTypes Calls.tablesFit
     Calls.loadTests Calls.loadResult Calls.load Calls.checkedOf Calls.soundIn Calls.entryTests Calls.runIn Calls.runTests Calls.ranOf Calls.runResult Calls.runCall Calls.pageIn
     Calls.takeIn Calls.pageTests Calls.pageResult Calls.pageCall Calls.totalResult Calls.total Calls.numberCall Calls.suggestAnswer Calls.suggestFor Calls.suggestResult
-    Calls.suggest
+    Calls.suggest Calls.schemaTests Calls.written Calls.schemaResult Calls.schemaCall
 openCalls = tt
 
 unfoldable pub openCallList : Unit {0}
@@ -144,16 +155,16 @@ openCallList = tt
 
 unfoldable pub openExports : Unit {0}
 unfolding Exports.words Exports.itemsBytes Exports.savedBytes Exports.wordsFrom Exports.itemsFrom Exports.itemsGood Exports.savedFrom Exports.runReport Exports.pageReport
-    Exports.totalReport Exports.recordAfter Exports.suggestReport Exports.loadExport Exports.runExport Exports.pageExport Exports.totalExport Exports.numberExport
-    Exports.suggestExport
+    Exports.totalReport Exports.recordAfter Exports.suggestReport Exports.schemaReport Exports.loadExport Exports.runExport Exports.pageExport Exports.totalExport
+    Exports.numberExport Exports.suggestExport Exports.schemaExport
 openExports = tt
 
 unfoldable pub openPrinter : Unit {0}
-unfolding Printer.entryBody Printer.endFrom Printer.termsEnd Printer.schemaEnd Printer.line Printer.datatypeName Printer.typeName Printer.typeLines Printer.boundCount
-    Printer.printedResult Printer.printed
+unfolding Printer.entryBody Printer.endFrom Printer.termsEnd Printer.schemaEnd Printer.line Printer.typeName Printer.typeLines Printer.boundCount Printer.printedResult
+    Printer.printed
 openPrinter = tt
 
 unfoldable pub opened : Unit {0}
-unfolding openLists openAlphabet openBytes openAscii openTerms openText openReading openScope openTotal openTyping openSuggest openCalendar openOutcome openTruth openValues
-    openNumerals openEvaluate openEvaluated openSearch openMachine openSaved openSound openResult openCalls openCallList openExports openPrinter
+unfolding openLists openAlphabet openAscii openBytes openTypes openTerms openGathering openText openReading openScope openTotal openTyping openSuggest openCalendar openOutcome
+    openTruth openValues openNumerals openEvaluate openEvaluated openSearch openMachine openSaved openSound openResult openCalls openCallList openExports openPrinter
 opened = tt

@@ -1,17 +1,18 @@
 -- Document 01, "Refusals": load, run and page, their refusals in order, and every result outright; then the calls of document 02.
 use Prim.Native.Nat.{ℕ}
-use mathlib.Core.List.{List, [], _∷_, map}
+use mathlib.Core.List.{List, [], _∷_, _++_, map}
 use mathlib.Core.Bool.{Bool, false, _&&_}
 use mathlib.Core.Option.{Option, none, some}
 use lib.Dec.{eqb, leb}
-use lib.ListN.{length, getD, getElem?}
+use lib.ListN.{length, getD, getElem?, drop}
 use lib.IntN.{ℤ}
-use Rattle.definitions.specs.Limits.{termLimit, entryLimit, scriptLimit, budgetLimit, pageLimit, ranksWidth, termTableWidth, quadTableWidth}
+use Rattle.definitions.specs.Limits.{termLimit, entryLimit, scriptLimit, budgetLimit, pageLimit, ranksWidth, termTableWidth, quadTableWidth, schemaWidth}
 use Rattle.definitions.specs.Lists.{distinct}
 use Rattle.definitions.specs.Alphabet.{isAlphabet}
 use Rattle.definitions.specs.Bytes.{sameBytes, provided, onward}
 use Rattle.definitions.specs.Types.{Ty, typeCode}
-use Rattle.definitions.specs.Terms.{Term, Schema, Triple, Sort, sortOf, sameTerm, sameProperty, isDateTime, readTerms, readSchema, readPage}
+use Rattle.definitions.specs.Terms.{Term, Schema, Triple, Sort, sortOf, sameTerm, sameProperty, isDateTime, schemaRecords, readTerms, readSchema, readPage}
+use Rattle.definitions.specs.Gathering.{Gathered, gathered}
 use Rattle.definitions.specs.Tree.{Script}
 use Rattle.definitions.specs.Reading.{parsed}
 use Rattle.definitions.specs.Scope.{inScope}
@@ -32,11 +33,13 @@ use Rattle.definitions.specs.declared.Ran.{Ran}
 use Rattle.definitions.specs.declared.Paged.{Paged}
 use Rattle.definitions.specs.declared.TotalAnswer.{TotalAnswer}
 use Rattle.definitions.specs.declared.SuggestAnswer.{SuggestAnswer}
+use Rattle.definitions.specs.declared.SchemaAnswer.{SchemaAnswer}
 use Rattle.definitions.specs.declared.LoadAnswer.the-variants as LoadAnswers
 use Rattle.definitions.specs.declared.RunAnswer.the-variants as RunAnswers
 use Rattle.definitions.specs.declared.PageAnswer.the-variants as PageAnswers
 use Rattle.definitions.specs.declared.TotalAnswer.the-variants as TotalAnswers
 use Rattle.definitions.specs.declared.SuggestAnswer.the-variants as SuggestAnswers
+use Rattle.definitions.specs.declared.SchemaAnswer.the-variants as SchemaAnswers
 
 -- ── terms, schema and script: 2 to 9 ────────────────────────────────────────────────────────
 
@@ -332,3 +335,31 @@ suggestResult (passed x) = suggestFor (constantsOf (x .schema) (x .terms)) (writ
 
 unfoldable pub suggest : (terms schema script : List ℕ) → SuggestAnswer
 suggest terms schema script = suggestResult (readTests terms schema script)
+
+-- ── schema: 1, 13, 19 ───────────────────────────────────────────────────────────────────────
+
+-- `schema` is the lent buffer
+unfoldable pub schemaTests : (page schema : List ℕ) → Result Gathered
+schemaTests page schema = do
+  require 1 (eqb (length schema) schemaWidth)
+  triples ← given 13 (pageIn page)
+  let g = gathered triples
+  require 19 (leb (length (g .entries)) entryLimit)
+  passed g
+
+-- records at the front of a buffer, the rest untouched
+unfoldable pub written : Schema → (schema : List ℕ) → List ℕ
+written S schema = let front = schemaRecords S in front ++ drop (length front) schema
+
+-- what the call returns, and the buffer at its end
+pub record SchemaResult : Type 0 where
+  pub answer : SchemaAnswer
+  pub schema : List ℕ
+
+unfoldable pub schemaResult : (schema : List ℕ) → Result Gathered → SchemaResult
+schemaResult schema (refused n) = record { answer = SchemaAnswers.Refused n; schema = schema }
+schemaResult schema (passed g) =
+    record { answer = SchemaAnswers.Gathered (length (g .entries)) (g .leftOut); schema = written (g .entries) schema }
+
+unfoldable pub schemaCall : (page schema : List ℕ) → SchemaResult
+schemaCall page schema = schemaResult schema (schemaTests page schema)

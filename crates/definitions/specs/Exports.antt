@@ -8,7 +8,7 @@ use lib.IntN.{ℤ}
 use lib.ListN.{length}
 use Rattle.definitions.specs.Limits.{variableLimit, graphLimit, depthLimit, pairLimit}
 use Rattle.definitions.specs.Limits.{typesOffset, boundOffset, bindingsOffset, fetchedOffset, itemsOffset, itemWidth, savedWidth}
-use Rattle.definitions.specs.Limits.{runReportWidth, pageReportWidth, totalReportWidth, numberRecordWidth, suggestReportWidth}
+use Rattle.definitions.specs.Limits.{runReportWidth, pageReportWidth, totalReportWidth, numberRecordWidth, suggestReportWidth, schemaReportWidth}
 use Rattle.definitions.specs.Lists.{every}
 use Rattle.definitions.specs.Alphabet.{isAlphabet}
 use Rattle.definitions.specs.Bytes.{byte, word, littleBytes, part, provided}
@@ -16,8 +16,8 @@ use Rattle.definitions.specs.Terms.{Term, recordOf}
 use Rattle.definitions.specs.Outcome.{Outcome, ok, _>>=_}
 use Rattle.definitions.specs.Result.{Result, refused, passed}
 use Rattle.definitions.specs.Saved.{zeroItem}
-use Rattle.definitions.specs.Calls.{Lent, lengthsFit, load, runCall, PageResult, pageCall, total, numberCall, suggest}
-use Rattle.definitions.specs.Numbers.{loadNumber, runNumber, pageNumber, totalNumber, resultNumber, stateNumber, wantedGraph, suggestNumber}
+use Rattle.definitions.specs.Calls.{Lent, lengthsFit, load, runCall, PageResult, pageCall, total, numberCall, suggest, schemaCall}
+use Rattle.definitions.specs.Numbers.{loadNumber, runNumber, pageNumber, totalNumber, resultNumber, stateNumber, wantedGraph, suggestNumber, schemaNumber}
 use Rattle.definitions.specs.declared.SavedItem.{SavedItem}
 use Rattle.definitions.specs.declared.SavedRun.{SavedRun}
 use Rattle.definitions.specs.declared.Ran.{Ran}
@@ -29,6 +29,8 @@ use Rattle.definitions.specs.declared.RunAnswer.the-variants as RunAnswe
 use Rattle.definitions.specs.declared.PageAnswer.the-variants as PageAnswers
 use Rattle.definitions.specs.declared.TotalAnswer.the-variants as TotalAnswers
 use Rattle.definitions.specs.declared.SuggestAnswer.the-variants as SuggestAnswers
+use Rattle.definitions.specs.declared.SchemaAnswer.{SchemaAnswer}
+use Rattle.definitions.specs.declared.SchemaAnswer.the-variants as SchemaAnswers
 
 -- ── the saved run as bytes ────────────────────────────────────────────────────────────────
 
@@ -121,6 +123,11 @@ suggestReport report (SuggestAnswers.Named x code) = 1 ∷ x ∷ code ∷ 0 ∷ 
 suggestReport report SuggestAnswers.NoSingle = 2 ∷ 0 ∷ 0 ∷ 0 ∷ []
 suggestReport report (SuggestAnswers.Refused n) = report
 
+-- the number of entries, the number of subjects left out
+unfoldable pub schemaReport : List ℕ → SchemaAnswer → List ℕ
+schemaReport report (SchemaAnswers.Gathered entries leftOut) = littleBytes 4 entries ++ littleBytes 4 leftOut
+schemaReport report (SchemaAnswers.Refused n) = report
+
 -- ── the calls: the number returned, and every lent buffer at the end ────────────────────────
 
 pub record LoadExport : Type 0 where
@@ -151,6 +158,11 @@ pub record NumberExport : Type 0 where
 
 pub record SuggestExport : Type 0 where
   pub number : ℕ
+  pub report : List ℕ
+
+pub record SchemaExport : Type 0 where
+  pub number : ℕ
+  pub schema : List ℕ
   pub report : List ℕ
 
 -- the saved run's bytes where nothing was refused, else those that were lent
@@ -240,4 +252,12 @@ suggestExport terms schema script report =
     elim (eqb (length report) suggestReportWidth) [
       | true ↦ record { number = suggestNumber answer; report = suggestReport report answer }
       | false ↦ record { number = 1; report = report }
+    ]
+
+unfoldable pub schemaExport : (page schema report : List ℕ) → SchemaExport
+schemaExport page schema report =
+    let r = schemaCall page schema in
+    elim (eqb (length report) schemaReportWidth) [
+      | true ↦ record { number = schemaNumber (r .answer); schema = r .schema; report = schemaReport report (r .answer) }
+      | false ↦ record { number = 1; schema = schema; report = report }
     ]

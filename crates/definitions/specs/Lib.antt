@@ -1,10 +1,11 @@
 pub mod Limits
 pub mod Lists
 pub mod Alphabet
+pub mod Ascii
 pub mod Bytes
 pub mod Types
-pub mod Ascii
 pub mod Terms
+pub mod Gathering
 pub mod Text
 pub mod Tree
 pub mod Reading

@@ -1,5 +1,5 @@
 -- Document 01's number for every case of an enum answer, the graph that a wanted one carries, and the term that a number's text reads as. What else an answer
--- carries stands in the reports (`Exports.runReport`, `Exports.pageReport`, `Exports.totalReport`, `Exports.suggestReport`).
+-- carries stands in the reports (`Exports.runReport`, `Exports.pageReport`, `Exports.totalReport`, `Exports.suggestReport`, `Exports.schemaReport`).
 use Prim.Native.Nat.{ℕ}
 use Rattle.definitions.specs.Bytes.{signed}
 use Rattle.definitions.specs.Terms.{Term}
@@ -12,12 +12,14 @@ use Rattle.definitions.specs.declared.PageAnswer.{PageAnswer}
 use Rattle.definitions.specs.declared.TotalAnswer.{TotalAnswer}
 use Rattle.definitions.specs.declared.NumberAnswer.{NumberAnswer}
 use Rattle.definitions.specs.declared.SuggestAnswer.{SuggestAnswer}
+use Rattle.definitions.specs.declared.SchemaAnswer.{SchemaAnswer}
 use Rattle.definitions.specs.declared.LoadAnswer.the-variants as LoadAnswers
 use Rattle.definitions.specs.declared.RunAnswer.the-variants as RunAnswers
 use Rattle.definitions.specs.declared.PageAnswer.the-variants as PageAnswers
 use Rattle.definitions.specs.declared.TotalAnswer.the-variants as TotalAnswers
 use Rattle.definitions.specs.declared.NumberAnswer.the-variants as NumberAnswers
 use Rattle.definitions.specs.declared.SuggestAnswer.the-variants as SuggestAnswers
+use Rattle.definitions.specs.declared.SchemaAnswer.the-variants as SchemaAnswers
 
 -- 0, or the refusal's number
 abbrev pub loadNumber : LoadAnswer → ℕ
@@ -51,6 +53,10 @@ suggestNumber SuggestAnswers.Accepted = 0
 suggestNumber (SuggestAnswers.Named x code) = 0
 suggestNumber SuggestAnswers.NoSingle = 0
 suggestNumber (SuggestAnswers.Refused n) = n
+
+abbrev pub schemaNumber : SchemaAnswer → ℕ
+schemaNumber (SchemaAnswers.Gathered entries leftOut) = 0
+schemaNumber (SchemaAnswers.Refused n) = n
 
 -- the state of a run, and the wanted graph's term number
 abbrev pub stateNumber : RunState → ℕ

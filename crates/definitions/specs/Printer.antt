@@ -8,7 +8,7 @@ use lib.ListN.{length, take, drop}
 use Rattle.definitions.specs.Limits.{textWidth, printerLimit}
 use Rattle.definitions.specs.Ascii.{ascii}
 use Rattle.definitions.specs.Bytes.{byte, past}
-use Rattle.definitions.specs.Types.{Datatype, anyURI, string, decimal, dateTime, integer, Ty, plain, range}
+use Rattle.definitions.specs.Types.{Datatype, datatypeName, Ty, plain, range}
 use Rattle.definitions.specs.Terms.{ofTermKind, bodyWidth}
 use Rattle.definitions.specs.Typing.{Written, unbound, undecided, fixed, writtenTypes}
 use Rattle.definitions.specs.Values.{naturalText}
@@ -53,13 +53,6 @@ scriptPart s = drop (schemaEnd s) s
 
 unfoldable pub line : List ℕ → List ℕ
 line t = t ++ (0x0A ∷ [])
-
-unfoldable pub datatypeName : Datatype → List ℕ
-datatypeName anyURI = ascii "xsd:anyURI"
-datatypeName string = ascii "xsd:string"
-datatypeName decimal = ascii "xsd:decimal"
-datatypeName dateTime = ascii "xsd:dateTime"
-datatypeName integer = ascii "xsd:integer"
 
 unfoldable pub typeName : Ty → List ℕ
 typeName (plain d) = datatypeName d

@@ -1,5 +1,5 @@
 -- The demands and requests, held together with the code. The definitions of the calls say what each call gives: answer, saved run and both tables, on refusals too,
--- and at the C interface the number returned and every lent buffer. The first ten fields say that the code gives exactly that: they are the contracts of the
+-- and at the C interface the number returned and every lent buffer. The first fourteen fields say that the code gives exactly that: they are the contracts of the
 -- calls and of the exports, met. The others say what follows from the definitions.
 use mathlib.Core.Path.{_≡_}
 use mathlib.Core.List.{List}
@@ -20,6 +20,8 @@ use Rattle.numbers.proofs.read_number.Statement as number-call
 use Rattle.numbers.proofs.read_number.Met as number-met
 use Rattle.card_calls.proofs.suggest.suggest.Statement as suggest-call
 use Rattle.card_calls.proofs.suggest.suggest.Met as suggest-met
+use Rattle.gathering.proofs.gather.Statement as schema-call
+use Rattle.gathering.proofs.gather.Met as schema-met
 use Rattle.exports.proofs.willetcoffer_load.Statement as load-export
 use Rattle.exports.proofs.willetcoffer_load.Met as load-export-met
 use Rattle.exports.proofs.willetcoffer_run.Statement as run-export
@@ -32,6 +34,8 @@ use Rattle.exports.proofs.willetcoffer_number.Statement as number-expor
 use Rattle.exports.proofs.willetcoffer_number.Met as number-export-met
 use Rattle.exports.proofs.willetcoffer_suggest.Statement as suggest-export
 use Rattle.exports.proofs.willetcoffer_suggest.Met as suggest-export-met
+use Rattle.exports.proofs.willetcoffer_schema.Statement as schema-export
+use Rattle.exports.proofs.willetcoffer_schema.Met as schema-export-met
 use Rattle.theorems.specs.Hosts.{HostCall}
 use Rattle.theorems.specs.Demand1.{Demand1}
 use Rattle.theorems.specs.Demand2.{Demand2}
@@ -44,6 +48,7 @@ use Rattle.theorems.specs.Truths.{Truths}
 use Rattle.theorems.specs.Alphabets.{Alphabets}
 use Rattle.theorems.specs.NumberTexts.{NumberTexts}
 use Rattle.theorems.specs.OneType.{OneTypes}
+use Rattle.theorems.specs.PageSchema.{PageSchemas}
 use Rattle.theorems.proofs.Demand1.{demand-1}
 use Rattle.theorems.proofs.Demand2.{demand-2}
 use Rattle.theorems.proofs.Demand3.{demand-3}
@@ -55,6 +60,7 @@ use Rattle.theorems.proofs.Truths.{truths}
 use Rattle.theorems.proofs.Alphabets.{alphabets}
 use Rattle.theorems.proofs.NumberTexts.{number-texts}
 use Rattle.theorems.proofs.OneType.{one-types}
+use Rattle.theorems.proofs.PageSchema.{page-schemas}
 
 pub record Demands (M : Type 1) : Type 2 where
   -- the code of each call does what the call's definition says
@@ -64,6 +70,7 @@ pub record Demands (M : Type 1) : Type 2 where
   pub totals : total-call.statement M
   pub numbers : number-call.statement M
   pub suggestions : suggest-call.statement M
+  pub schemas : schema-call.statement M
   -- and that of each export what the definition on bytes says
   pub loadExports : load-export.statement M
   pub runExports : run-export.statement M
@@ -71,6 +78,7 @@ pub record Demands (M : Type 1) : Type 2 where
   pub totalExports : total-export.statement M
   pub numberExports : number-export.statement M
   pub suggestExports : suggest-export.statement M
+  pub schemaExports : schema-export.statement M
   -- refusals, of the calls and at the C interface
   pub first : Demand1
   pub firstOnBytes : ExportRefusals
@@ -92,6 +100,8 @@ pub record Demands (M : Type 1) : Type 2 where
   pub numberTexts : NumberTexts
   -- Ask 13: the type that is named would do, and no lower one; none is named only if none would do
   pub oneTypes : OneTypes
+  -- Ask 7: what a schema call leaves is a schema, each datatype the least that meets what is asked
+  pub pageSchemas : PageSchemas
 
 pub demands : {M : Type 1} → Demands M
 demands =
@@ -102,12 +112,14 @@ demands =
       totals = total-met.met;
       numbers = number-met.met;
       suggestions = suggest-met.met;
+      schemas = schema-met.met;
       loadExports = load-export-met.met;
       runExports = run-export-met.met;
       pageExports = page-export-met.met;
       totalExports = total-export-met.met;
       numberExports = number-export-met.met;
       suggestExports = suggest-export-met.met;
+      schemaExports = schema-export-met.met;
       first = demand-1;
       firstOnBytes = export-refusals;
       second = demand-2;
@@ -119,4 +131,5 @@ demands =
       alphabets = alphabets;
       numberTexts = number-texts;
       oneTypes = one-types;
+      pageSchemas = page-schemas;
     }

@@ -10,18 +10,19 @@ use borrow.Author.Tests.{eq-eqb, ne-eqb, not-true, not-false}
 use Rattle.definitions.specs.Terms.{Term}
 use Rattle.definitions.specs.Outcome.{ok, _>>=_}
 use Rattle.definitions.specs.Result.{Result}
-use Rattle.definitions.specs.Calls.{Lent, lengthsOf, load, runCall, pageCall, total, numberCall, suggest}
+use Rattle.definitions.specs.Calls.{Lent, lengthsOf, load, runCall, pageCall, total, numberCall, suggest, SchemaResult, schemaCall}
 use Rattle.definitions.specs.Alphabet.{isAlphabet}
-use Rattle.definitions.specs.Numbers.{loadNumber, runNumber, pageNumber, totalNumber, resultNumber, suggestNumber}
-use Rattle.definitions.specs.Limits.{savedWidth, runReportWidth, pageReportWidth, totalReportWidth, numberRecordWidth, suggestReportWidth}
-use Rattle.definitions.specs.Exports.{savedFrom, savedAfter, runReport, pageReport, totalReport, recordAfter, suggestReport}
-use Rattle.definitions.specs.Exports.{loadExport, refusedRun, ranExport, runExport, refusedPage, pagedExport, pageExport, totalExport, numberExport, suggestExport}
+use Rattle.definitions.specs.Numbers.{loadNumber, runNumber, pageNumber, totalNumber, resultNumber, suggestNumber, schemaNumber}
+use Rattle.definitions.specs.Limits.{savedWidth, runReportWidth, pageReportWidth, totalReportWidth, numberRecordWidth, suggestReportWidth, schemaReportWidth}
+use Rattle.definitions.specs.Exports.{savedFrom, savedAfter, runReport, pageReport, totalReport, recordAfter, suggestReport, schemaReport}
+use Rattle.definitions.specs.Exports.{loadExport, refusedRun, ranExport, runExport, refusedPage, pagedExport, pageExport, totalExport, numberExport, suggestExport, schemaExport}
 use Rattle.definitions.specs.declared.SavedRun.{SavedRun}
 use Rattle.definitions.specs.declared.Loaded.{Loaded}
 use Rattle.definitions.specs.declared.Ran.{Ran}
 use Rattle.definitions.specs.declared.Paged.{Paged}
 use Rattle.definitions.specs.declared.TotalAnswer.{TotalAnswer}
 use Rattle.definitions.specs.declared.SuggestAnswer.{SuggestAnswer}
+use Rattle.definitions.specs.declared.SchemaAnswer.{SchemaAnswer}
 use Rattle.laws.proofs.SoundIn.{entry-ranks}
 use Rattle.entry.specs.Entry.{unreadNumber}
 use Rattle.engine.proofs.RunLaws as RunLaws
@@ -169,3 +170,18 @@ module _ (terms schema script report : List ℕ) where
       let m = number ∙ ap suggestNumber e in
       let k = written ∙ ap (suggestReport report) e in
       rw (suggestExport, eq-eqb (length report) suggestReportWidth h) (λ i. record { number = sym m i; report = sym k i })
+
+-- ── a schema out of a page ──────────────────────────────────────────────────────────────────
+
+module _ (page schema report : List ℕ) where
+  pub schema-length : (length report ≡ schemaReportWidth → ⊥) → schemaExport page schema report ≡ record { number = 1; schema = schema; report = report }
+  unfolding schemaExport
+  schema-length h = rw (schemaExport, ne-eqb (length report) schemaReportWidth h)
+
+  pub schema-done : {answer : SchemaAnswer} {after p : List ℕ} {n : ℕ} → length report ≡ schemaReportWidth → schemaCall page schema ≡ record { answer = answer; schema = after }
+      → p ≡ schemaReport report answer → n ≡ schemaNumber answer → schemaExport page schema report ≡ record { number = n; schema = after; report = p }
+  unfolding schemaExport
+  schema-done {answer} {after} {p} {n} h call written number =
+      let x : SchemaResult = record { answer = answer; schema = after } in
+      rw (schemaExport, eq-eqb (length report) schemaReportWidth h, call)
+      (λ i. record { number = sym number i; schema = x .schema; report = sym written i })

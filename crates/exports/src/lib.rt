@@ -3,11 +3,12 @@ pub mod handing; // handing.rt: what load, run and page have in common
 
 ghost use mathlib.Core.Path.{_≡_};
 ghost use Rattle.definitions.specs.Outcome.{ok};
-ghost use Rattle.definitions.specs.Exports.{loadExport, runExport, pageExport, totalExport, numberExport, suggestExport};
+ghost use Rattle.definitions.specs.Exports.{loadExport, runExport, pageExport, totalExport, numberExport, suggestExport, schemaExport};
 use definitions::NUMBER_RECORD_WIDTH;
 use definitions::PAGE_REPORT_WIDTH;
 use definitions::RUN_REPORT_WIDTH;
 use definitions::SAVED_WIDTH;
+use definitions::SCHEMA_REPORT_WIDTH;
 use definitions::SUGGEST_REPORT_WIDTH;
 use definitions::TOTAL_REPORT_WIDTH;
 use layout::reading;
@@ -232,4 +233,19 @@ pub extern "C" fn willetcoffer_suggest(
     let answer = card_calls::suggest::suggest(terms, schema, script);
     reports::write_suggest_report(answer, report);
     reports::suggest_number(answer)
+}
+
+// A schema out of a page: 1, 13, 19. `schema` is the buffer that takes its records.
+// Ruled out: a schema call that takes a report of any length; one that reports a refused page.
+#[no_mangle]
+pub extern "C" fn willetcoffer_schema(page: &[u8], schema: &mut [u8], report: &mut [u8]) -> u32
+    ensures { λ r. ⌜ schemaExport (now (page .entry)) (now (schema .entry)) (now (report .entry))
+        ≡ record { number = r; schema = now (schema .exit); report = now (report .exit) } ⌝ }
+{
+    if report.len() != SCHEMA_REPORT_WIDTH {
+        return 1;
+    }
+    let answer = gathering::gather(page, schema);
+    reports::write_schema_report(answer, report);
+    reports::schema_number(answer)
 }

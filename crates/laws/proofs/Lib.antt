@@ -52,3 +52,4 @@ pub mod Writing
 pub mod TestEquations
 pub mod Digits
 pub mod Numerals
+pub mod Gathering

@@ -10,7 +10,7 @@ use Rattle.laws.proofs.Fill.{write-next, write-done}
 
 -- ── element by element: what a function makes of each of a list's ───────────────────────────
 
-map-append : {A B : Type 0} (f : A → B) (l m : List A) → map f (l ++ m) ≡ map f l ++ map f m
+pub map-append : {A B : Type 0} (f : A → B) (l m : List A) → map f (l ++ m) ≡ map f l ++ map f m
 map-append f [] m = refl
 map-append f (a ∷ l) m = ap (λ k. f a ∷ k) (map-append f l m)
 

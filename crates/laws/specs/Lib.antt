@@ -12,3 +12,4 @@ pub mod Records
 pub mod ScriptReads
 pub mod Sound
 pub mod Pairs
+pub mod Gathering

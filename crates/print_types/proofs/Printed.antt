@@ -9,7 +9,7 @@ use borrow.Author.Tests.{le-leb, lt-leb}
 use Rattle.definitions.specs.Limits.{printerLimit}
 use Rattle.definitions.specs.Lists.{distinct}
 use Rattle.definitions.specs.Ascii.{ascii}
-use Rattle.definitions.specs.Types.{Datatype, Ty, plain, range, typeCode}
+use Rattle.definitions.specs.Types.{Datatype, datatypeName, Ty, plain, range, typeCode}
 use Rattle.definitions.specs.Terms.{Term, Schema, readTerms, readSchema, sameTerm, sameProperty}
 use Rattle.definitions.specs.Reading.{parsed}
 use Rattle.definitions.specs.Scope.{inScope}
@@ -18,7 +18,7 @@ use Rattle.definitions.specs.Values.{naturalText}
 use Rattle.definitions.specs.Machine.{withProperties}
 use Rattle.definitions.specs.Result.{Result, refused, passed, _>>=_, given}
 use Rattle.definitions.specs.Calls.{Checked, recordTests, scriptTests, readTests, typeTests, check, constantsOf, typesOf, sizesFit, reportedTypes}
-use Rattle.definitions.specs.Printer.{line, datatypeName, typeName, typeLines, boundCount, printedResult, printed, entryBody, endFrom, termsEnd, schemaEnd, termsPart, schemaPart, scriptPart}
+use Rattle.definitions.specs.Printer.{line, typeName, typeLines, boundCount, printedResult, printed, entryBody, endFrom, termsEnd, schemaEnd, termsPart, schemaPart, scriptPart}
 use Rattle.laws.proofs.Refusing.{by-require}
 use Rattle.laws.proofs.Check.{check-passed, types-length, variable-count}
 use Rattle.print_types.specs.Lines.{datatypeText, typeText, variableLine, boundLine, boundLines, counts, boundOnes, cardText}

@@ -6,7 +6,7 @@ use Rattle.definitions.specs.Bytes.{littleBytes}
 use Rattle.definitions.specs.Limits.{numberWidth, suggestReportWidth}
 use Rattle.definitions.specs.Terms.{bodyOf}
 use Rattle.definitions.specs.Numbers.{stateNumber, wantedGraph, termRead}
-use Rattle.definitions.specs.Exports.{runReport, pageReport, totalReport, recordAfter, suggestReport}
+use Rattle.definitions.specs.Exports.{runReport, pageReport, totalReport, recordAfter, suggestReport, schemaReport}
 use native.Mathlib.Omega.{arith}
 use lib.ListN.{length, set}
 use Rattle.definitions.specs.declared.RunState.{RunState}
@@ -14,10 +14,12 @@ use Rattle.definitions.specs.declared.RunAnswer.{RunAnswer}
 use Rattle.definitions.specs.declared.PageAnswer.{PageAnswer}
 use Rattle.definitions.specs.declared.TotalAnswer.{TotalAnswer}
 use Rattle.definitions.specs.declared.NumberAnswer.{NumberAnswer}
+use Rattle.definitions.specs.declared.SchemaAnswer.{SchemaAnswer}
 use Rattle.definitions.specs.declared.RunAnswer.the-variants as RunAnswers
 use Rattle.definitions.specs.declared.PageAnswer.the-variants as PageAnswers
 use Rattle.definitions.specs.declared.TotalAnswer.the-variants as TotalAnswers
 use Rattle.definitions.specs.declared.NumberAnswer.the-variants as NumberAnswers
+use Rattle.definitions.specs.declared.SchemaAnswer.the-variants as SchemaAnswers
 use Rattle.laws.proofs.Bytes.{unsigned-signed}
 use Rattle.definitions.specs.declared.SuggestAnswer.{SuggestAnswer}
 use Rattle.definitions.specs.declared.SuggestAnswer.the-variants as SuggestAnswers
@@ -87,3 +89,13 @@ module _ (report : List ℕ) {answer : SuggestAnswer} where
   pub suggest-none : answer ≡ SuggestAnswers.NoSingle → {p : List ℕ} → p ≡ 2 ∷ 0 ∷ 0 ∷ 0 ∷ [] → p ≡ suggestReport report answer
   unfolding suggestReport
   suggest-none e s = s ∙ ap (suggestReport report) (sym e)
+
+module _ (report : List ℕ) {answer : SchemaAnswer} where
+  pub schema-refused : {n : ℕ} → answer ≡ SchemaAnswers.Refused n → report ≡ schemaReport report answer
+  unfolding schemaReport
+  schema-refused e = rw e
+
+  pub schema-told : {entries leftOut : ℕ} → answer ≡ SchemaAnswers.Gathered entries leftOut → {p q : List ℕ} → p ≡ littleBytes 4 entries → q ≡ littleBytes 4 leftOut
+      → p ++ q ≡ schemaReport report answer
+  unfolding schemaReport
+  schema-told e s t = (λ i. s i ++ t i) ∙ ap (schemaReport report) (sym e)

@@ -1,16 +1,18 @@
-// The numbers of the answers, the reports of a run, of a page, of a total and of a suggestion, and the record of a number.
+// The numbers of the answers, the reports of a run, of a page, of a total, of a suggestion and of a schema out of a page, and the
+// record of a number.
 ghost use mathlib.Core.Path.{_≡_};
 ghost use mathlib.Core.List.{[], _∷_};
 ghost use Rattle.definitions.specs.Bytes.{littleBytes};
-ghost use Rattle.definitions.specs.Numbers.{loadNumber, runNumber, pageNumber, totalNumber, resultNumber, termRead, suggestNumber, stateNumber, wantedGraph};
-ghost use Rattle.definitions.specs.Limits.{numberWidth, numberRecordWidth, runReportWidth, pageReportWidth, totalReportWidth, suggestReportWidth};
-ghost use Rattle.definitions.specs.Exports.{runReport, pageReport, totalReport, recordAfter, suggestReport};
+ghost use Rattle.definitions.specs.Numbers.{loadNumber, runNumber, pageNumber, totalNumber, resultNumber, termRead, suggestNumber, stateNumber, wantedGraph, schemaNumber};
+ghost use Rattle.definitions.specs.Limits.{numberWidth, numberRecordWidth, runReportWidth, pageReportWidth, totalReportWidth, suggestReportWidth, schemaReportWidth};
+ghost use Rattle.definitions.specs.Exports.{runReport, pageReport, totalReport, recordAfter, suggestReport, schemaReport};
 use definitions::LoadAnswer;
 use definitions::NUMBER_RECORD_WIDTH;
 use definitions::NumberAnswer;
 use definitions::PageAnswer;
 use definitions::RunAnswer;
 use definitions::RunState;
+use definitions::SchemaAnswer;
 use definitions::SuggestAnswer;
 use definitions::TotalAnswer;
 use layout::writing;
@@ -70,6 +72,15 @@ pub fn suggest_number(answer: SuggestAnswer) -> u32
         SuggestAnswer::Named(_, _) => 0,
         SuggestAnswer::NoSingle => 0,
         SuggestAnswer::Refused(n) => n as u32,
+    }
+}
+
+pub fn schema_number(answer: SchemaAnswer) -> u32
+    ensures { λ r. ⌜ r ≡ schemaNumber answer ⌝ }
+{
+    match answer {
+        SchemaAnswer::Gathered(_, _) => 0,
+        SchemaAnswer::Refused(n) => n as u32,
     }
 }
 
@@ -176,4 +187,16 @@ pub fn write_suggest_report(answer: SuggestAnswer, out: &mut [u8])
         SuggestAnswer::NoSingle => write_three(2, 0, 0, out),
         SuggestAnswer::Refused(_) => {}
     }
+}
+
+// The number of entries, then the number of subjects left out; a refused call leaves the report as it was.
+pub fn write_schema_report(answer: SchemaAnswer, out: &mut [u8])
+    requires { do ⌜ (← ⟦out.len()⟧) ≡ schemaReportWidth ⌝ }
+    ensures { λ r. ⌜ now (out .exit) ≡ schemaReport (now (out .entry)) answer ⌝ }
+{
+    let SchemaAnswer::Gathered(entries, left_out) = answer else {
+        return;
+    };
+    writing::write_number(entries as u64, &mut out[0..4]);
+    writing::write_number(left_out as u64, &mut out[4..8]);
 }

@@ -5,15 +5,16 @@ use mathlib.Core.Path.{_≡_, refl, sym, ap, subst, _∙_}
 use mathlib.Core.List.{List, [], _∷_, _++_}
 use mathlib.Core.Bool.{Bool, true, false, not, _&&_, _||_}
 use mathlib.Core.Option.{Option, none, some}
-use lib.Dec.{leb}
+use lib.Dec.{eqb, leb}
 use lib.ListN.{length, getElem?}
 use lib.IntN.{ℤ}
-use Rattle.definitions.specs.Limits.{budgetLimit}
+use Rattle.definitions.specs.Limits.{entryLimit, budgetLimit, schemaWidth}
 use Rattle.definitions.specs.Lists.{every, some?, distinct, isEmpty}
 use Rattle.definitions.specs.Alphabet.{isAlphabet}
 use Rattle.definitions.specs.Bytes.{onward}
 use Rattle.definitions.specs.Types.{Ty}
 use Rattle.definitions.specs.Terms.{Term, Schema, sameTerm, sameProperty, isDateTime, readTerms, readSchema}
+use Rattle.definitions.specs.Gathering.{Gathered, gathered}
 use Rattle.definitions.specs.Tree.{Script}
 use Rattle.definitions.specs.Reading.{parsed}
 use Rattle.definitions.specs.Scope.{inScope}
@@ -27,7 +28,7 @@ use Rattle.definitions.specs.Result.{Result, refused, passed, _>>=_, _>>_, requ
 use Rattle.definitions.specs.Calls.{recordTests, sizesFit, scriptTests, Parsed, readTests}
 use Rattle.definitions.specs.Calls.{Checked, constantsOf, typesOf, typeTests, check, Lent, lengthsFit, loadTests, loadResult, load, soundIn, entryTests}
 use Rattle.definitions.specs.Calls.{runIn, Running, runTests, ranOf, runResult, runCall}
-use Rattle.definitions.specs.Calls.{isGraph, pageIn, takeIn, Taking, pageTests, pageResult, pageCall, totalResult, total, numberCall}
+use Rattle.definitions.specs.Calls.{isGraph, pageIn, takeIn, Taking, pageTests, pageResult, pageCall, totalResult, total, numberCall, schemaTests, schemaResult, schemaCall}
 use Rattle.definitions.specs.Calls.{suggestAnswer, suggestFor, suggestResult, suggest}
 use Rattle.definitions.specs.Numbers.{suggestNumber}
 use Rattle.definitions.specs.declared.SavedRun.{SavedRun}
@@ -36,9 +37,8 @@ use Rattle.definitions.specs.declared.SuggestAnswer.{SuggestAnswer}
 use Rattle.definitions.specs.declared.SuggestAnswer.the-variants as SuggestAnswers
 use Rattle.laws.proofs.Results.{by-bind, by-after}
 use Rattle.theorems.proofs.CallsPassed.{run-passed, run-fine, run-gives}
-use Rattle.theorems.specs.Demand1.{firstBroken, isThere, ifThere, readRules, loadRules, runRules, pageRules, numberRules, LoadRefuses, RunRefuses, PageRefuses, TotalRefuses}
-use Rattle.theorems.specs.Demand1.{suggestRules}
-use Rattle.theorems.specs.Demand1.{NumberRefuses, Demand1, LoadRefuses, RunRefuses, PageRefuses, TotalRefuses, SuggestRefuses}
+use Rattle.theorems.specs.Demand1.{firstBroken, isThere, ifThere, readRules, loadRules, runRules, pageRules, numberRules, schemaRules, suggestRules}
+use Rattle.theorems.specs.Demand1.{LoadRefuses, RunRefuses, PageRefuses, TotalRefuses, NumberRefuses, SchemaRefuses, SuggestRefuses, Demand1}
 
 -- ── the proof: tests follow a table ─────────────────────────────────────────────────────────
 
@@ -300,6 +300,21 @@ module _ (terms schema script : List ℕ) where
           let w = above-answered best (Δ ∷ Δs) (Δ ∷ Δs) in
           record { number = ap suggestNumber (says (Δ ∷ Δs) e) ∙ (w .0 ∙ sym k); answers = λ z n r. w .1 n (sym (says (Δ ∷ Δs) e) ∙ r) }
 
+-- ── the proof: a schema out of a page ───────────────────────────────────────────────────────
+
+module _ (page schema : List ℕ) where
+  schema-follows : Follows (schemaTests page schema) (schemaRules (eqb (length schema) schemaWidth) page)
+  unfolding schemaTests ifThere
+  schema-follows =
+      rule 1 (λ e. omega (arith, e)) (eqb (length schema) schemaWidth)
+      (there 13 (λ e. omega (arith, e)) (pageIn page) λ rs e₁₃. rw e₁₃
+      (rule 19 (λ e. omega (arith, e)) (leb (length (gathered rs .entries)) entryLimit) end))
+
+  schema-refuses : (r : Result Gathered) → Follows r (schemaRules (eqb (length schema) schemaWidth) page) → schemaTests page schema ≡ r → SchemaRefuses page schema
+  unfolding schemaCall schemaResult
+  schema-refuses (refused n) (refuses e h) q = record { number = rw q e; keeps = λ k. rw q refl; answers = λ z. absurd (h (e ∙ z)) }
+  schema-refuses (passed g) (passes e) q = record { number = rw q (sym e); keeps = λ k. absurd (k e); answers = λ z. (length (g .entries), g .leftOut, rw q refl) }
+
 -- ── the theorem ─────────────────────────────────────────────────────────────────────────────
 
 pub demand-1 : Demand1
@@ -312,4 +327,5 @@ demand-1 = record {
       total-refuses terms schema script r (no-more r (read-follows terms schema script passed [] (λ listed S root e₂ e₄ e₆. end))) refl;
   number = λ text. number-refuses text (numberCall text) (number-follows text) refl;
   suggest = λ terms schema script. suggest-refuses terms schema script (readTests terms schema script) (suggest-follows terms schema script) refl;
+  schema = λ page schema. schema-refuses page schema (schemaTests page schema) (schema-follows page schema) refl;
 }

@@ -12,11 +12,11 @@ use Rattle.definitions.specs.Terms.{Term}
 use Rattle.definitions.specs.Outcome.{ok, _>>=_}
 use Rattle.definitions.specs.Result.{Result, refused, passed}
 use Rattle.definitions.specs.Alphabet.{isAlphabet}
-use Rattle.definitions.specs.Calls.{Lent, lengthsFit, load, soundIn, pageCall, total, numberCall, suggest}
-use Rattle.definitions.specs.Numbers.{loadNumber, runNumber, pageNumber, totalNumber, resultNumber, suggestNumber}
-use Rattle.definitions.specs.Limits.{savedWidth, runReportWidth, pageReportWidth, totalReportWidth, numberRecordWidth, suggestReportWidth}
-use Rattle.definitions.specs.Exports.{savedFrom, runReport, pageReport, totalReport, savedAfter, recordAfter, suggestReport}
-use Rattle.definitions.specs.Exports.{loadExport, RunExport, runOn, runExport, pageOn, pageExport, ranExport, totalExport, numberExport, suggestExport}
+use Rattle.definitions.specs.Calls.{Lent, lengthsFit, load, soundIn, pageCall, total, numberCall, suggest, schemaCall}
+use Rattle.definitions.specs.Numbers.{loadNumber, runNumber, pageNumber, totalNumber, resultNumber, suggestNumber, schemaNumber}
+use Rattle.definitions.specs.Limits.{savedWidth, runReportWidth, pageReportWidth, totalReportWidth, numberRecordWidth, suggestReportWidth, schemaReportWidth}
+use Rattle.definitions.specs.Exports.{savedFrom, runReport, pageReport, totalReport, savedAfter, recordAfter, suggestReport, schemaReport}
+use Rattle.definitions.specs.Exports.{loadExport, RunExport, runOn, runExport, pageOn, pageExport, ranExport, totalExport, numberExport, suggestExport, schemaExport}
 use Rattle.definitions.specs.declared.SavedRun.{SavedRun}
 use Rattle.definitions.specs.declared.RunAnswer.{RunAnswer}
 use Rattle.definitions.specs.declared.PageAnswer.{PageAnswer}
@@ -29,7 +29,9 @@ use Rattle.definitions.specs.declared.SuggestAnswer.the-variants as SuggestAnsw
 use Rattle.laws.proofs.Tests.{andLeft, isTrue, trueIs}
 use Rattle.theorems.specs.Demand1.{firstBroken, isThere, loadRules, runRules, pageRules}
 use Rattle.theorems.proofs.Demand1.{demand-1}
-use Rattle.theorems.specs.ExportRefusals.{buffersFit, loadBroken, LoadRefuses, RunRefuses, PageRefuses, TotalRefuses, NumberRefuses, ExportRefusals, SuggestRefuses}
+use Rattle.theorems.specs.ExportRefusals.{buffersFit, loadBroken, LoadRefuses, RunRefuses, PageRefuses, TotalRefuses, NumberRefuses, ExportRefusals, SuggestRefuses, SchemaRefuses}
+use Rattle.definitions.specs.declared.SchemaAnswer.{SchemaAnswer}
+use Rattle.definitions.specs.declared.SchemaAnswer.the-variants as SchemaAnswers
 
 -- ── the proof ───────────────────────────────────────────────────────────────────────────────
 
@@ -210,6 +212,22 @@ module _ (terms schema script report : List ℕ) where
         keeps = rw (e, suggestExport) (λ h. suggest-report-kept (suggest terms schema script) (λ z. h (sym (d .number) ∙ z)));
       }
 
+module _ (page schema report : List ℕ) where
+  schema-report-kept : (a : SchemaAnswer) → (schemaNumber a ≡ 0 → ⊥) → schemaReport report a ≡ report
+  unfolding schemaReport
+  schema-report-kept (SchemaAnswers.Gathered entries leftOut) h = absurd (h refl)
+  schema-report-kept (SchemaAnswers.Refused n) h = refl
+
+  schema-refuses : (b : Bool) → eqb (length report) schemaReportWidth ≡ b → SchemaRefuses page schema report
+  unfolding schemaExport firstBroken
+  schema-refuses false e = record { number = rw (e, schemaExport) refl; keeps = λ h. rw (e, schemaExport) (refl, refl) }
+  schema-refuses true e =
+      let d = demand-1 .schema page schema in
+      record {
+        number = rw (e, schemaExport) (d .number);
+        keeps = rw (e, schemaExport) (λ h. (d .keeps h, schema-report-kept (schemaCall page schema .answer) (λ z. h (sym (d .number) ∙ z))));
+      }
+
 -- ── the theorem ─────────────────────────────────────────────────────────────────────────────
 
 pub export-refusals : ExportRefusals
@@ -220,4 +238,5 @@ export-refusals = record {
   total = λ terms schema script report. total-refuses terms schema script report (eqb (length report) totalReportWidth) refl;
   number = λ text lent. number-refuses text lent (eqb (length lent) numberRecordWidth) refl;
   suggest = λ terms schema script report. suggest-refuses terms schema script report (eqb (length report) suggestReportWidth) refl;
+  schema = λ page schema report. schema-refuses page schema report (eqb (length report) schemaReportWidth) refl;
 }

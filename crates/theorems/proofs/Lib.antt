@@ -27,3 +27,4 @@ pub mod Alphabets
 pub mod NumeralForms
 pub mod PrintedDigits
 pub mod NumberTexts
+pub mod PageSchema

@@ -10,15 +10,16 @@ use mathlib.Core.Path.{_≡_}
 use mathlib.Core.List.{List, [], _∷_, _++_}
 use mathlib.Core.Bool.{Bool, true, false, not, _&&_}
 use mathlib.Core.Option.{Option, none, some}
-use lib.Dec.{leb}
+use lib.Dec.{eqb, leb}
 use lib.ListN.{length, getElem?}
 use lib.IntN.{ℤ}
-use Rattle.definitions.specs.Limits.{budgetLimit}
+use Rattle.definitions.specs.Limits.{entryLimit, budgetLimit, schemaWidth}
 use Rattle.definitions.specs.Lists.{every, some?, distinct, isEmpty}
 use Rattle.definitions.specs.Alphabet.{isAlphabet}
 use Rattle.definitions.specs.Bytes.{onward}
 use Rattle.definitions.specs.Types.{Ty}
 use Rattle.definitions.specs.Terms.{Term, sameTerm, sameProperty, isDateTime, readTerms, readSchema}
+use Rattle.definitions.specs.Gathering.{gathered}
 use Rattle.definitions.specs.Tree.{Script}
 use Rattle.definitions.specs.Reading.{parsed}
 use Rattle.definitions.specs.Scope.{inScope}
@@ -27,8 +28,8 @@ use Rattle.definitions.specs.Outcome.{ok}
 use Rattle.definitions.specs.Machine.{withProperties, taken, withPage, inLimits}
 use Rattle.definitions.specs.Result.{passed, given}
 use Rattle.definitions.specs.Numerals.{numeralOf, termOf}
-use Rattle.definitions.specs.Calls.{constantsOf, sizesFit, Lent, lengthsFit, load, Sound, soundIn, runCall, isGraph, pageIn, pageCall, total, numberCall, suggest}
-use Rattle.definitions.specs.Numbers.{loadNumber, runNumber, pageNumber, totalNumber, resultNumber, suggestNumber}
+use Rattle.definitions.specs.Calls.{constantsOf, sizesFit, Lent, lengthsFit, load, Sound, soundIn, runCall, isGraph, pageIn, pageCall, total, numberCall, suggest, schemaCall}
+use Rattle.definitions.specs.Numbers.{loadNumber, runNumber, pageNumber, totalNumber, resultNumber, suggestNumber, schemaNumber}
 use Rattle.definitions.specs.declared.SavedRun.{SavedRun}
 use Rattle.definitions.specs.declared.RunState.{RunState}
 use Rattle.definitions.specs.declared.Ran.{Ran}
@@ -37,6 +38,7 @@ use Rattle.definitions.specs.declared.RunAnswer.the-variants as RunAnswers
 use Rattle.definitions.specs.declared.PageAnswer.the-variants as PageAnswers
 use Rattle.definitions.specs.declared.TotalAnswer.the-variants as TotalAnswers
 use Rattle.definitions.specs.declared.SuggestAnswer.the-variants as SuggestAnswers
+use Rattle.definitions.specs.declared.SchemaAnswer.the-variants as SchemaAnswers
 
 -- ── rules in order ──────────────────────────────────────────────────────────────────────────
 
@@ -124,6 +126,15 @@ numberRules text =
     ∷ (17, ifThere (numeralOf text) (λ n. isThere (termOf n)))  -- value outside the kind's limits or no whole count of millionths
     ∷ []
 
+-- A schema out of a page: 1, 13, 19.
+abbrev pub schemaRules : (lengths : Bool) → (page : List ℕ) → List (ℕ × Bool)
+schemaRules lengths page =
+    let triples = pageIn page in
+    (1, lengths)
+    ∷ (13, isThere triples)
+    ∷ (19, ifThere triples (λ rs. leb (length (gathered rs .entries)) entryLimit))  -- more subjects would get an entry than a schema has
+    ∷ []
+
 -- ── the calls ───────────────────────────────────────────────────────────────────────────────
 
 -- the first rule broken by what a call is handed, 0 where none is
@@ -146,6 +157,10 @@ numberBroken text = firstBroken (numberRules text)
 -- a suggestion: 2 to 8
 abbrev pub suggestBroken : (terms schema script : List ℕ) → ℕ
 suggestBroken terms schema script = firstBroken (suggestRules terms schema script)
+
+-- the buffer for the schema is lent
+abbrev pub schemaBroken : (page schema : List ℕ) → ℕ
+schemaBroken page schema = firstBroken (schemaRules (eqb (length schema) schemaWidth) page)
 
 pub record LoadRefuses (l : Lent) : Type 0 where
   -- the call gives the number of the first rule broken
@@ -184,6 +199,11 @@ pub record SuggestRefuses (terms schema script : List ℕ) : Type 0 where
   pub number : suggestNumber (suggest terms schema script) ≡ suggestBroken terms schema script
   pub answers : suggestBroken terms schema script ≡ 0 → (n : ℕ) → suggest terms schema script ≡ SuggestAnswers.Refused n → ⊥
 
+pub record SchemaRefuses (page schema : List ℕ) : Type 0 where
+  pub number : schemaNumber (schemaCall page schema .answer) ≡ schemaBroken page schema
+  pub keeps : (schemaBroken page schema ≡ 0 → ⊥) → schemaCall page schema .schema ≡ schema
+  pub answers : schemaBroken page schema ≡ 0 → (entries leftOut : ℕ) × (schemaCall page schema .answer ≡ SchemaAnswers.Gathered entries leftOut)
+
 pub record Demand1 : Type 0 where
   pub load : (l : Lent) → LoadRefuses l
   pub run : (l : Lent) (saved : SavedRun) (budget : ℕ) (now : ℤ) → RunRefuses l saved budget now
@@ -191,3 +211,4 @@ pub record Demand1 : Type 0 where
   pub total : (terms schema script : List ℕ) → TotalRefuses terms schema script
   pub number : (text : List ℕ) → NumberRefuses text
   pub suggest : (terms schema script : List ℕ) → SuggestRefuses terms schema script
+  pub schema : (page schema : List ℕ) → SchemaRefuses page schema

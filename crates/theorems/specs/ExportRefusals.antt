@@ -11,9 +11,9 @@ use lib.IntN.{ℤ}
 use Rattle.definitions.specs.Bytes.{onward}
 use Rattle.definitions.specs.Outcome.{ok}
 use Rattle.definitions.specs.Calls.{Lent, lengthsFit, load, Sound, soundIn}
-use Rattle.definitions.specs.Limits.{savedWidth, runReportWidth, pageReportWidth, totalReportWidth, numberRecordWidth, suggestReportWidth}
-use Rattle.definitions.specs.Exports.{savedFrom, loadExport, RunExport, runExport, pageExport, totalExport, numberExport, suggestExport}
-use Rattle.theorems.specs.Demand1.{firstBroken, readRules, loadRules, runRules, pageRules, numberRules, suggestRules}
+use Rattle.definitions.specs.Limits.{savedWidth, runReportWidth, pageReportWidth, totalReportWidth, numberRecordWidth, suggestReportWidth, schemaWidth, schemaReportWidth}
+use Rattle.definitions.specs.Exports.{savedFrom, loadExport, RunExport, runExport, pageExport, totalExport, numberExport, suggestExport, schemaExport}
+use Rattle.theorems.specs.Demand1.{firstBroken, readRules, loadRules, runRules, pageRules, numberRules, suggestRules, schemaRules}
 
 -- bytes that no saved run has are unsound
 abbrev pub soundBytes : Lent → (saved : List ℕ) → Option Sound
@@ -41,6 +41,10 @@ numberBroken text lent = firstBroken ((1, eqb (length lent) numberRecordWidth) �
 
 abbrev pub suggestBroken : (terms schema script report : List ℕ) → ℕ
 suggestBroken terms schema script report = firstBroken ((1, eqb (length report) suggestReportWidth) ∷ suggestRules terms schema script)
+
+-- the buffer for the schema, and the report
+abbrev pub schemaBroken : (page schema report : List ℕ) → ℕ
+schemaBroken page schema report = firstBroken (schemaRules (eqb (length report) schemaReportWidth && eqb (length schema) schemaWidth) page)
 
 pub record LoadRefuses (l : Lent) (saved : List ℕ) : Type 0 where
   pub number : loadExport l saved .number ≡ loadBroken l saved
@@ -70,6 +74,10 @@ pub record SuggestRefuses (terms schema script report : List ℕ) : Type 0 where
   pub number : suggestExport terms schema script report .number ≡ suggestBroken terms schema script report
   pub keeps : (suggestBroken terms schema script report ≡ 0 → ⊥) → suggestExport terms schema script report .report ≡ report
 
+pub record SchemaRefuses (page schema report : List ℕ) : Type 0 where
+  pub number : schemaExport page schema report .number ≡ schemaBroken page schema report
+  pub keeps : (schemaBroken page schema report ≡ 0 → ⊥) → let r = schemaExport page schema report in (r .schema ≡ schema) × (r .report ≡ report)
+
 pub record ExportRefusals : Type 0 where
   pub load : (l : Lent) (saved : List ℕ) → LoadRefuses l saved
   pub run : (l : Lent) (saved : List ℕ) (budget : ℕ) (now : ℤ) (report : List ℕ) → RunRefuses l saved budget now report
@@ -77,3 +85,4 @@ pub record ExportRefusals : Type 0 where
   pub total : (terms schema script report : List ℕ) → TotalRefuses terms schema script report
   pub number : (text lent : List ℕ) → NumberRefuses text lent
   pub suggest : (terms schema script report : List ℕ) → SuggestRefuses terms schema script report
+  pub schema : (page schema report : List ℕ) → SchemaRefuses page schema report

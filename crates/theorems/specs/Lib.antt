@@ -13,3 +13,4 @@ pub mod Truths
 pub mod Alphabets
 pub mod NumberTexts
 pub mod OneType
+pub mod PageSchema

@@ -11,6 +11,7 @@ mod case;
 mod filters;
 mod names;
 mod numbers;
+mod schemas;
 mod stock;
 mod suggestions;
 mod texts;
@@ -21,7 +22,7 @@ use compare::call::{Answer, Call, Engine, Station};
 use std::error::Error;
 use std::time::{Duration, Instant};
 use texts::Texts;
-use willetcoffer::limits::{BUDGET_LIMIT, NUMBER_RECORD_WIDTH};
+use willetcoffer::limits::{BUDGET_LIMIT, NUMBER_RECORD_WIDTH, SCHEMA_REPORT_WIDTH, SCHEMA_WIDTH};
 use willetcoffer::{BadTerm, RunReport, State};
 
 /// The table.
@@ -118,6 +119,25 @@ impl Bench {
         Ok(())
     }
 
+    /// Schemas gathered from pages; each entry is an answer.
+    fn schemas(&self) -> Result<(), BadTerm> {
+        for workload in schemas::workloads()? {
+            if !workload.name.contains(&self.only) {
+                continue;
+            }
+            let (times, (code, _, report)) = self.least(|engine| {
+                let (mut schema, mut report) = (vec![0; SCHEMA_WIDTH], [0; SCHEMA_REPORT_WIDTH]);
+                let begin = Instant::now();
+                let code = engine.schema(&workload.page, &mut schema, &mut report);
+                (begin.elapsed(), (code, schema, report))
+            });
+            assert_eq!(code, workload.code, "{}", workload.name);
+            let entries = (code == 0).then(|| u32::from(report[0]));
+            print_row(workload.name, &format!("{} bytes", workload.page.len()), entries, times);
+        }
+        Ok(())
+    }
+
     /// Single calls at the limits.
     fn calls(&self, reference: &dyn Engine) -> Result<(), BadTerm> {
         for bytes in [512, 1024, 1536, 2048] {
@@ -205,7 +225,7 @@ impl Bench {
 
 fn print_row(name: &str, size: &str, answers: Option<u32>, times: [Duration; 2]) {
     let micros = |time: &Duration| time.as_secs_f64() * 1e6;
-    let mut line = format!("{name:34} {size:>10}");
+    let mut line = format!("{name:34} {size:>11}");
     line += &answers.map_or(format!("{:>8}", "-"), |n| format!("{n:>8}"));
     for time in &times {
         line += &format!("{:>12.1}", micros(time));
@@ -216,7 +236,7 @@ fn print_row(name: &str, size: &str, answers: Option<u32>, times: [Duration; 2])
 
 fn main() -> Result<(), Box<dyn Error>> {
     let engines: [Box<dyn Engine>; 2] = [Box::new(fast()), Box::new(Archive)];
-    let mut head = format!("{:34} {:>10}{:>8}", "workload", "size", "answers");
+    let mut head = format!("{:34} {:>11}{:>8}", "workload", "size", "answers");
     for engine in &engines {
         head += &format!("{:>12}{:>10}", format!("{} µs", engine.name()), "/answer");
     }
@@ -232,5 +252,6 @@ fn main() -> Result<(), Box<dyn Error>> {
     bench.calls(&reference)?;
     bench.suggestions()?;
     bench.numbers();
+    bench.schemas()?;
     Ok(bench.searches(&reference)?)
 }

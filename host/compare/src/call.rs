@@ -6,6 +6,7 @@ pub mod evaluator;
 pub mod number;
 pub mod printer;
 pub mod program;
+pub mod schema;
 mod station;
 
 pub use engine::Engine;

@@ -3,6 +3,7 @@
 mod coverage;
 pub mod kinds;
 mod numbers;
+mod schemas;
 pub mod texts;
 
 pub use coverage::Coverage;

@@ -9,6 +9,7 @@ pub mod pages;
 pub mod pool;
 pub mod ranks;
 pub mod rng;
+pub mod schemas;
 pub mod scripts;
 pub mod tamper;
 pub mod texts;

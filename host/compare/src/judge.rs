@@ -3,6 +3,7 @@
 pub mod numbers;
 mod old;
 pub mod ranks;
+pub mod schemas;
 mod stores;
 pub mod suggestions;
 mod whole;
@@ -45,12 +46,20 @@ pub enum Breach {
     Suggested,
     /// Two stations with the same terms by number and the same quads have other bytes.
     Stores,
-    /// A text was not read as what it was written for.
+    /// A text or a page did not give what it was written for.
     Written,
     /// A record that no reading of its text gives: no number's, or one of the other kind.
     Record,
     /// The text that str gives for a number that was read is read otherwise.
     Again,
+    /// 13 where it is not due, or something else where it is.
+    Page,
+    /// Entries that are no schema of the page's subjects, or a report that counts otherwise.
+    Entries,
+    /// Bytes after the entries were changed.
+    Rest,
+    /// A load refuses a schema that was gathered.
+    Loads,
     /// What the type printers wrote differs.
     Printer,
     /// What an evaluator of tuples wrote is not what the definitions give.

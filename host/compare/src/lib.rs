@@ -4,19 +4,19 @@
 //! between. What comes next may depend on what the calls answered, so a case is fixed by its seed and index as long as
 //! the engines agree, which is what is tested.
 //!
-//! The texts of numbers are no part of a case, as the call that reads them is lent nothing of a station: they are drawn and read one after
-//! the other.
+//! The texts of numbers, and the pages that a schema is gathered from, are no part of a case, as the calls that read them are lent nothing of a
+//! station: they are drawn and read one after the other.
 //!
 //! | module | what it does |
 //! |---|---|
-//! | [`draw`] | draws words, scripts, pages, calls, damage, tuples and texts of numbers |
+//! | [`draw`] | draws words, scripts, pages, calls, damage, tuples, texts of numbers and pages for schemas |
 //! | [`records`], [`before`] | a card's records, told apart by their widths; records and tables of the widths of before |
-//! | [`call`] | stations, calls, texts of numbers and engines: the proved one, the second, and the second by the definitions; type printer and evaluator as programs |
-//! | [`judge`] | what two engines owe each other on one call or text, and what either owes by itself, also over the calls of a case |
+//! | [`call`] | stations, calls, texts of numbers, pages for schemas and engines: the proved one, the second, and the second by the definitions; type printer and evaluator as programs |
+//! | [`judge`] | what two engines owe each other on one call, text or page, and what either owes by itself, also over the calls of a case |
 //! | [`count`] | what was met, and whether it was met often enough |
 //! | [`case`] | one case, from drawing to judging |
 //! | [`replay`], [`shrink`] | a case as a list of moves without chance, and made smaller while it still shows its difference |
-//! | [`run`] | case after case, text after text |
+//! | [`run`] | case after case, text after text, page after page |
 #![forbid(unsafe_code)]
 #![warn(missing_docs)]
 

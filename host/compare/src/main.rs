@@ -1,4 +1,4 @@
-//! `compare --cases N --numbers N --seed S`: random cases and texts of numbers for two engines. The work is the library's; here stand the options and the report.
+//! `compare --cases N --numbers N --schemas N --seed S`: random cases, texts of numbers and pages for schemas, for two engines. The work is the library's; here stand the options and the report.
 #![forbid(unsafe_code)]
 
 use compare::call::archive::Archive;
@@ -14,10 +14,12 @@ use std::time::{Duration, Instant};
 const HELP: &str = "compare [options]
   --cases N            how many cases (50000)
   --numbers N          how many texts of numbers after them (20000)
+  --schemas N          how many pages that a schema is gathered from after those (20000)
   --seed S             their seed (1)
   --from I             the index of the first (0)
   --case S:I           one case again, with all its calls
   --number S:I         one text of a number again
+  --schema S:I         one page that a schema is gathered from again
   --engines A,B        two of second, plain, archive (second,archive)
   --printer PATH       a type printer to compare on some cases
   --printer-every K    which ones: each K-th (20)
@@ -26,7 +28,7 @@ const HELP: &str = "compare [options]
   --differences N      go on until so many differences (1)
   --trace              say each case's index before it begins, on standard error, to find one that does not return";
 
-/// From so many cases, or texts of numbers, on, what was met too rarely fails.
+/// From so many cases, texts of numbers, or pages for schemas, on, what was met too rarely fails.
 const LONG: u64 = 20_000;
 
 /// Which cases a program is given where nothing is said: each so-manieth.
@@ -43,17 +45,17 @@ fn number(text: &str) -> Result<u64, String> {
     text.parse().map_err(|_| format!("{text} is no number"))
 }
 
-/// Makes a plan of the one case or text of a number that is to be made again.
+/// Makes a plan of the one case, text of a number or page for a schema that is to be made again.
 fn again(plan: &mut Plan, option: &str, text: &str) -> Result<(), String> {
     let (seed, index) = text.split_once(':').ok_or(format!("{option} wants SEED:INDEX"))?;
     (plan.seed, plan.from, plan.printed) = (number(seed)?, number(index)?, true);
-    (plan.cases, plan.numbers) = if option == "--case" { (1, 0) } else { (0, 1) };
+    [plan.cases, plan.numbers, plan.schemas] = ["--case", "--number", "--schema"].map(|one| u64::from(one == option));
     Ok(())
 }
 
 fn options() -> Result<Options, String> {
-    let (cases, numbers) = (50_000, LONG);
-    let mut plan = Plan { seed: 1, from: 0, cases, numbers, printed: false, differences: 1, trace: false };
+    let [cases, numbers, schemas] = [50_000, LONG, LONG];
+    let mut plan = Plan { seed: 1, from: 0, cases, numbers, schemas, printed: false, differences: 1, trace: false };
     let mut engines = ["second", "archive"].map(String::from);
     let (mut printer, mut evaluator) = ((None, EVERY), (None, EVERY));
     let mut arguments = std::env::args().skip(1);
@@ -62,9 +64,10 @@ fn options() -> Result<Options, String> {
         match argument.as_str() {
             "--cases" => plan.cases = number(&value()?)?,
             "--numbers" => plan.numbers = number(&value()?)?,
+            "--schemas" => plan.schemas = number(&value()?)?,
             "--seed" => plan.seed = number(&value()?)?,
             "--from" => plan.from = number(&value()?)?,
-            "--case" | "--number" => again(&mut plan, &argument, &value()?)?,
+            "--case" | "--number" | "--schema" => again(&mut plan, &argument, &value()?)?,
             "--engines" => {
                 let names: Vec<String> = value()?.split(',').map(String::from).collect();
                 engines = names.try_into().map_err(|_| "--engines wants two")?;
@@ -91,12 +94,19 @@ fn engine(name: &str) -> Result<Box<dyn Engine>, String> {
     }
 }
 
-/// Prints how many cases and texts of which engines differed, and the slowest calls of the cases.
-fn report(plan: &Plan, engines: [&dyn Engine; 2], outcome: &Outcome, numbers: usize, times: [Duration; 2]) {
+/// How many of cases, texts and pages differed, and how long they took.
+struct Sums {
+    differences: [usize; 3],
+    times: [Duration; 3],
+}
+
+/// Prints how many cases, texts and pages of which engines differed, and the slowest calls of the cases.
+fn report(plan: &Plan, engines: [&dyn Engine; 2], outcome: &Outcome, sums: &Sums) {
     let names = engines.map(|engine| engine.name());
     let seed = plan.seed;
-    let counts = [(plan.cases, "cases", outcome.differences), (plan.numbers, "texts of numbers", numbers)];
-    for ((count, what, differences), time) in counts.into_iter().zip(times).filter(|((count, ..), _)| *count > 0) {
+    let counts = [(plan.cases, "cases"), (plan.numbers, "texts of numbers"), (plan.schemas, "pages for schemas")];
+    let rows = counts.into_iter().zip(sums.differences).zip(sums.times);
+    for (((count, what), differences), time) in rows.filter(|(((count, _), _), _)| *count > 0) {
         let (against, seconds) = (names.join(" against "), time.as_secs_f64());
         println!("{count} {what} from seed {seed}, {against}: {differences} differences in {seconds:.1} s");
     }
@@ -121,23 +131,26 @@ fn compare() -> Result<bool, String> {
     let (a, b) = (engine(&a)?, engine(&b)?);
     let mut compare = Compare { engines: [&*a, &*b], printer, evaluator, coverage: Coverage::default() };
     let (start, outcome) = (Instant::now(), compare.run(&plan));
-    let (between, numbers) = (Instant::now(), compare.numbers(&plan));
-    let times = [between - start, between.elapsed()];
+    let (after_cases, numbers) = (Instant::now(), compare.numbers(&plan));
+    let (after_numbers, schemas) = (Instant::now(), compare.schemas(&plan));
+    let times = [after_cases - start, after_numbers - after_cases, after_numbers.elapsed()];
+    let sums = Sums { differences: [outcome.differences, numbers, schemas], times };
     let Compare { mut coverage, printer, evaluator, engines } = compare;
     for (name, count) in a.counts().into_iter().chain(b.counts()).filter(|_| plan.cases > 0) {
         coverage.add_many("by definition", name, count);
     }
     print!("{}", coverage.table());
     let all_met = met(&coverage.missing(plan.cases), plan.cases, plan.printed)
-        & met(&coverage.missing_of_numbers(), plan.numbers, plan.printed);
-    report(&plan, engines, &outcome, numbers, times);
+        & met(&coverage.missing_of_numbers(), plan.numbers, plan.printed)
+        & met(&coverage.missing_of_schemas(plan.schemas), plan.schemas, plan.printed);
+    report(&plan, engines, &outcome, &sums);
     if let Some(printer) = &printer {
         println!("the type printer saw {} of them", printer.seen);
     }
     if evaluator.program.is_some() {
         println!("the evaluator saw {} tuples", evaluator.tuples);
     }
-    Ok(outcome.differences + numbers == 0 && all_met)
+    Ok(sums.differences.iter().sum::<usize>() == 0 && all_met)
 }
 
 fn main() -> ExitCode {

@@ -1,6 +1,7 @@
-//! Case after case, and text after text: differences printed, each with a smaller case or text that shows it too.
+//! Case after case, text after text and page after page: differences printed, each with a smaller one that shows it too.
 
 mod numbers;
+mod schemas;
 
 use crate::before;
 use crate::call::evaluator::Evaluator;
@@ -14,7 +15,7 @@ use crate::shrink::{shrink, Patience};
 use std::panic::{catch_unwind, AssertUnwindSafe};
 use std::time::Duration;
 
-/// Which cases and texts of numbers, and when to stop.
+/// Which cases, texts of numbers and pages for schemas, and when to stop.
 #[derive(Clone, Debug)]
 pub struct Plan {
     /// Their seed.
@@ -25,9 +26,11 @@ pub struct Plan {
     pub cases: u64,
     /// How many texts of numbers.
     pub numbers: u64,
+    /// How many pages that a schema is gathered from.
+    pub schemas: u64,
     /// Whether each call is printed.
     pub printed: bool,
-    /// Go on until so many differences, of cases and of texts each.
+    /// Go on until so many differences, of cases, texts and pages each.
     pub differences: usize,
     /// Whether each case's index is said before it begins.
     pub trace: bool,

@@ -1,8 +1,10 @@
 //! Shrinking: a case that shows a difference is cut down, piece by piece, while it still shows one of the same sort.
 
+mod schema_page;
 mod text;
 pub mod tree;
 
+pub use schema_page::shrink_page;
 pub use text::shrink_text;
 
 use crate::call::Call;

@@ -145,6 +145,10 @@ impl Engine for Lines {
         fast().number(text, record)
     }
 
+    fn schema(&self, page: &[u8], schema: &mut [u8], report: &mut [u8]) -> u32 {
+        fast().schema(page, schema, report)
+    }
+
     fn evaluate(&self, input: &[u8]) -> Option<String> {
         fast().evaluate(input).map(self.0)
     }

@@ -283,6 +283,10 @@ impl Engine for Wrong {
     fn number(&self, text: &[u8], record: &mut [u8]) -> u32 {
         fast().number(text, record)
     }
+
+    fn schema(&self, page: &[u8], schema: &mut [u8], report: &mut [u8]) -> u32 {
+        fast().schema(page, schema, report)
+    }
 }
 
 impl Wrong {

@@ -315,6 +315,10 @@ impl Engine for Other {
     fn number(&self, text: &[u8], record: &mut [u8]) -> u32 {
         (self.0)(text, record)
     }
+
+    fn schema(&self, page: &[u8], schema: &mut [u8], report: &mut [u8]) -> u32 {
+        fast().schema(page, schema, report)
+    }
 }
 
 /// What the right call gives with a record of the right length.
@@ -379,7 +383,8 @@ fn compare<'a>(engines: [&'a dyn Engine; 2]) -> Compare<'a> {
     Compare { engines, printer: None, evaluator: Evaluator::new(None, 1), coverage: Coverage::default() }
 }
 
-const PLAN: Plan = Plan { seed: SEED, from: 0, cases: 0, numbers: TEXTS, printed: false, differences: 1, trace: false };
+const PLAN: Plan =
+    Plan { seed: SEED, from: 0, cases: 0, numbers: TEXTS, schemas: 0, printed: false, differences: 1, trace: false };
 
 /// As many texts as the gate reads meet everything that is required, and without texts all of it is missing.
 #[test]

@@ -159,7 +159,8 @@ fn the_smaller_case_is_told() {
     let first = fast();
     let evaluator = Evaluator::new(None, 1);
     let mut compare = Compare { engines: [&first, &wrong], printer: None, evaluator, coverage: Coverage::default() };
-    let plan = Plan { seed: 5, from: 0, cases: 200, numbers: 0, printed: false, differences: 1, trace: false };
+    let plan =
+        Plan { seed: 5, from: 0, cases: 200, numbers: 0, schemas: 0, printed: false, differences: 1, trace: false };
     assert_eq!(compare.run(&plan).differences, 1);
     let index = (0..200)
         .find(|index| {

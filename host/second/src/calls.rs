@@ -3,8 +3,10 @@
 
 use crate::check::{check, read, Typer};
 use crate::eval::{Fault, Quad, Store};
+use crate::gather::{self, Gathering};
 use crate::limits::{
-    BUDGET, NUMBER_RECORD, PAGE_REPORT, QUAD_TABLE, RUN_REPORT, SAVED, SLOT, SUGGEST_REPORT, TERM_TABLE, TOTAL_REPORT,
+    BUDGET, ENTRY, NUMBER_RECORD, PAGE_REPORT, QUAD_TABLE, RUN_REPORT, SAVED, SCHEMA, SCHEMA_REPORT, SLOT,
+    SUGGEST_REPORT, TERM_TABLE, TOTAL_REPORT,
 };
 use crate::machine::{Machine, State, World};
 use crate::number::{self, Reading};
@@ -18,9 +20,11 @@ use crate::sound::{sound, Held, Lent};
 use crate::suggest::{self, Suggest};
 use crate::term::is_second;
 use crate::terms::Terms;
+use crate::write::entry;
 use crate::{arcs, assignments, page as pages};
 
-/// An engine: how it works out types, keeps quads in order, takes ranks, reads numbers, names a written type and finds answers.
+/// An engine: how it works out types, keeps quads in order, takes ranks, reads numbers, names a written type, gathers schemas and
+/// finds answers.
 #[derive(Clone, Copy)]
 pub struct Engine<'a> {
     /// How types are worked out.
@@ -33,6 +37,8 @@ pub struct Engine<'a> {
     pub reading: Reading,
     /// How a written type that would do is found.
     pub suggest: Suggest,
+    /// How a schema is gathered from a page.
+    pub gathering: Gathering,
     /// How answers are found.
     pub search: &'a dyn Search,
 }
@@ -77,13 +83,15 @@ impl Engine<'_> {
     /// The fast engine.
     pub const fn fast() -> Engine<'static> {
         let (order, alphabet, reading) = (order::FAST, rank::FAST, number::fast);
-        Engine { typer: arcs::solve, order, alphabet, reading, suggest: suggest::fast, search: &Seek }
+        let (suggest, gathering) = (suggest::fast, gather::fast);
+        Engine { typer: arcs::solve, order, alphabet, reading, suggest, gathering, search: &Seek }
     }
 
     /// The engine by the definitions.
     pub const fn plain() -> Engine<'static> {
         let (order, alphabet, reading) = (order::PLAIN, rank::PLAIN, number::plain);
-        Engine { typer: assignments::solve, order, alphabet, reading, suggest: suggest::plain, search: &Naive }
+        let (suggest, gathering) = (suggest::plain, gather::plain);
+        Engine { typer: assignments::solve, order, alphabet, reading, suggest, gathering, search: &Naive }
     }
 
     /// Refusal 21, straight after 1: whether each rank stands once.
@@ -190,6 +198,19 @@ impl Engine<'_> {
     pub fn number(&self, text: &[u8], record: &mut [u8]) -> Outcome {
         let record = lent::<NUMBER_RECORD>(record)?;
         record.copy_from_slice(&(self.reading)(text)?.record());
+        Ok(())
+    }
+
+    /// Gathers a schema from a page: writes its records at the front of the schema, and the report. It is lent neither card nor tables.
+    pub fn schema(&self, page: &[u8], schema: &mut [u8], report: &mut [u8]) -> Outcome {
+        let schema = lent::<SCHEMA>(schema)?;
+        let report = lent::<SCHEMA_REPORT>(report)?;
+        let gathered = (self.gathering)(&pages::read(page)?).within_limit()?;
+        for ((uri, datatype), record) in gathered.entries.iter().zip(schema.chunks_mut(ENTRY)) {
+            record.copy_from_slice(&entry(uri, *datatype));
+        }
+        report[..4].copy_from_slice(&(gathered.entries.len() as u32).to_le_bytes());
+        report[4..].copy_from_slice(&(gathered.left_out as u32).to_le_bytes());
         Ok(())
     }
 }

@@ -14,9 +14,10 @@
 //! | order of the quads | [`order::PLAIN`]: each before all after it | [`order::FAST`]: a quad as one number |
 //! | the number of a text | [`number::plain`]: by the form, in whole numbers of any size | [`number::fast`]: one pass, each digit at its place |
 //! | the written type that would do | [`suggest::plain`]: each written into the bytes, the card checked anew | [`suggest::fast`]: each written into the tree that was read |
+//! | a schema out of a page | [`gather::plain`]: each subject's records looked for, each datatype tried | [`gather::fast`]: a map, one demand each |
 //! | outcome and count of a tuple | [`count`]: all parts evaluated, then counted by their outcomes | [`early`]: one walk that leaves parts out |
 //!
-//! An [`Engine`] holds a typer, an order, an alphabet, a reading of numbers, a way to suggest and a search; [`Engine::fast`] and [`Engine::plain`] are the two that the comparison uses. The
+//! An [`Engine`] holds a typer, an order, an alphabet, a reading of numbers, a way to suggest, one to gather a schema and a search; [`Engine::fast`] and [`Engine::plain`] are the two that the comparison uses. The
 //! calls take and give the bytes of the C interface; each returns nothing, or its refusal.
 //!
 //! It shares no code with the rest of the workspace: limits, offsets and records stand here in its own words, so that a slip
@@ -34,6 +35,7 @@ pub mod early;
 pub mod edge;
 pub mod eval;
 pub mod evaluator;
+pub mod gather;
 pub mod hash;
 pub mod lang;
 pub mod limits;

@@ -46,6 +46,10 @@ pub const PAGE_REPORT: usize = 4;
 pub const TOTAL_REPORT: usize = 4;
 /// Bytes of a suggest call's report.
 pub const SUGGEST_REPORT: usize = 4;
+/// Bytes of the buffer that a schema call fills from the front: a schema of all its entries.
+pub const SCHEMA: usize = ENTRIES * ENTRY;
+/// Bytes of a schema call's report.
+pub const SCHEMA_REPORT: usize = 8;
 /// Bytes of a number's text, at most.
 pub const NUMBER_TEXT: usize = 40;
 /// Bytes of a number's record: kind and count.
@@ -55,7 +59,7 @@ pub const BUDGET: u64 = 60_000;
 /// Bytes of a page, at most.
 pub const PAGE: usize = 65_536;
 /// Bytes of the type printer's input, at most: terms, schema and script that are full.
-pub const PRINTER: usize = TERMS * SLOT + ENTRIES * ENTRY + SCRIPT;
+pub const PRINTER: usize = TERMS * SLOT + SCHEMA + SCRIPT;
 /// Bytes of the input of the evaluator of tuples, at most: ranks, three lengths of 2, terms, schema and script that are full, both
 /// tables, the saved run, now of 8, and 64 tuples.
 pub const EVALUATOR: usize = RANKS + 3 * 2 + PRINTER + TERM_TABLE + QUAD_TABLE + SAVED + 8 + 64 * TUPLE;

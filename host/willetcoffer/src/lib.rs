@@ -34,7 +34,8 @@
 //! # Ok::<(), Box<dyn std::error::Error>>(())
 //! ```
 //!
-//! A number that a maker prints, `126.4` or `0.999e2`, is read as a term by [`number()`], exactly.
+//! A number that a maker prints, `126.4` or `0.999e2`, is read as a term by [`number()`], exactly. What a page says of the ranges of
+//! properties is made a schema by [`schema_of_page`].
 //!
 //! Where a card is refused because its types can be read in several ways ([`Refusal::NoGreatest`]), [`Card::suggest`] names one written type
 //! that would do.
@@ -57,6 +58,7 @@ pub mod script;
 pub mod term;
 
 mod card;
+mod gathered;
 mod number;
 mod refusal;
 mod report;
@@ -65,6 +67,7 @@ mod tables;
 mod types;
 
 pub use card::Card;
+pub use gathered::{schema_of_page, GatheredSchema};
 pub use number::number;
 pub use refusal::Refusal;
 pub use report::{PageReport, RunReport, State};

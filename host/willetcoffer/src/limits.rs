@@ -76,7 +76,7 @@ pub const TERM_TABLE_WIDTH: usize = TERM_LIMIT * SLOT_WIDTH;
 pub const QUAD_TABLE_WIDTH: usize = QUAD_LIMIT * QUAD_WIDTH;
 /// Bytes of the record that a number call writes: kind and count.
 pub const NUMBER_RECORD_WIDTH: usize = 1 + NUMBER_WIDTH;
-/// Bytes of a schema of all its entries.
+/// Bytes of a schema of all its entries, and so of the buffer that a schema call is lent.
 pub const SCHEMA_WIDTH: usize = ENTRY_LIMIT * ENTRY_WIDTH;
 /// Bytes of the type printer's input, at most.
 pub const PRINTER_LIMIT: usize = TERM_TABLE_WIDTH + SCHEMA_WIDTH + SCRIPT_LIMIT;
@@ -103,3 +103,5 @@ pub const PAGE_REPORT_WIDTH: usize = 4;
 pub const TOTAL_REPORT_WIDTH: usize = 4;
 /// Bytes of a suggest call's report.
 pub const SUGGEST_REPORT_WIDTH: usize = 4;
+/// Bytes of a schema call's report.
+pub const SCHEMA_REPORT_WIDTH: usize = 8;

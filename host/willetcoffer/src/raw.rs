@@ -1,7 +1,7 @@
 //! The calls over buffers of any length, each giving 0 or the number of its refusal: what the C interface is, with slices.
 //!
-//! [`Card`] has the same calls with buffers that always fit, and [`number`](crate::number()) stands by itself. All that is
-//! `unsafe` in this workspace stands here.
+//! [`Card`] has the same calls with buffers that always fit, and [`number`](crate::number()) and
+//! [`schema_of_page`](crate::schema_of_page) stand by themselves. All that is `unsafe` in this workspace stands here.
 
 use crate::card::Card;
 
@@ -91,6 +91,15 @@ extern "C" {
     ) -> u32;
 
     fn willetcoffer_number(text: *const u8, text_length: usize, record: *mut u8, record_length: usize) -> u32;
+
+    fn willetcoffer_schema(
+        page: *const u8,
+        page_length: usize,
+        schema: *mut u8,
+        schema_length: usize,
+        report: *mut u8,
+        report_length: usize,
+    ) -> u32;
 }
 
 /// The tables of a call that writes them; ranks are only read.
@@ -232,4 +241,19 @@ pub fn suggest(card: &Card, report: &mut [u8]) -> u32 {
 pub fn number(text: &[u8], record: &mut [u8]) -> u32 {
     // SAFETY: as in `load`.
     unsafe { willetcoffer_number(text.as_ptr(), text.len(), record.as_mut_ptr(), record.len()) }
+}
+
+/// Gathers a schema from a page: on 0 the front of the schema and the report are written, else nothing is.
+pub fn schema(page: &[u8], schema: &mut [u8], report: &mut [u8]) -> u32 {
+    // SAFETY: as in `load`.
+    unsafe {
+        willetcoffer_schema(
+            page.as_ptr(),
+            page.len(),
+            schema.as_mut_ptr(),
+            schema.len(),
+            report.as_mut_ptr(),
+            report.len(),
+        )
+    }
 }

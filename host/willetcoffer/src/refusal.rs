@@ -46,6 +46,8 @@ pub enum Refusal {
     NumberText,
     /// 17: a number outside the limits of its kind, or no whole count of millionths.
     NumberValue,
+    /// 19: more subjects of a page would get a schema entry than a schema has.
+    TooManyEntries,
     /// 21: lent ranks that are not each rank from 0 to 94 once.
     Ranks,
     /// A number that this version of the library does not know.
@@ -53,7 +55,7 @@ pub enum Refusal {
 }
 
 /// Each refusal with its number and its condition.
-const TABLE: [(u32, Refusal, &str); 17] = [
+const TABLE: [(u32, Refusal, &str); 18] = [
     (1, Refusal::Length, "a lent buffer of another length"),
     (2, Refusal::TermRecord, "bad term record"),
     (3, Refusal::TermTwice, "a term listed twice"),
@@ -70,6 +72,7 @@ const TABLE: [(u32, Refusal, &str); 17] = [
     (14, Refusal::Room, "terms, quads or graphs would pass their limits"),
     (16, Refusal::NumberText, "text not of a number's form or length"),
     (17, Refusal::NumberValue, "number outside its kind's limits, or no whole count of millionths"),
+    (19, Refusal::TooManyEntries, "more than 128 subjects of the page would get a schema entry"),
     (21, Refusal::Ranks, "ranks that are not each rank from 0 to 94 once"),
 ];
 

@@ -26,6 +26,11 @@ impl Datatype {
     pub const fn code(self) -> u8 {
         self as u8
     }
+
+    /// The datatype of this code.
+    pub fn from_code(code: u8) -> Option<Datatype> {
+        Datatype::ALL.into_iter().find(|datatype| datatype.code() == code)
+    }
 }
 
 impl fmt::Display for Datatype {

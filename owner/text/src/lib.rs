@@ -40,4 +40,4 @@ pub use diagnostic::{Diagnostic, Label};
 pub use encode::{encode, Encoded};
 pub use legend::Legend;
 pub use parser::parse;
-pub use print::print;
+pub use print::{print, print_schema};

@@ -3,7 +3,25 @@
 use crate::legend::{header, names_line};
 use crate::tree::{Block, Boolean, Expression, Name, Node, Pair, Query, Script, Source};
 use terms::{iri, literal, Prefixes};
-use willetcoffer::Value;
+use willetcoffer::{Datatype, Term, Value};
+
+/// The text of a schema, with the prefixes under which its properties stand: the beginning of a script, or a legend.
+///
+/// ```
+/// use willetcoffer::{Datatype, Term};
+/// let mut prefixes = terms::Prefixes::default();
+/// prefixes.add("p", "http://p.example/")?;
+/// let text = text::print_schema(&[(Term::uri("p:name")?, Datatype::String)], &prefixes);
+/// assert_eq!(text, "prefix p: <http://p.example/>\nschema p:name xsd:string\n");
+/// assert_eq!(text::parse(&text)?.schema.len(), 1);
+/// # Ok::<(), Box<dyn std::error::Error>>(())
+/// ```
+pub fn print_schema(entries: &[(Term, Datatype)], prefixes: &Prefixes) -> String {
+    let mut printer = Printer { text: header(prefixes), indent: 0, prefixes };
+    let entries: Vec<String> = entries.iter().map(|(property, datatype)| printer.entry(property, *datatype)).collect();
+    printer.list("schema", &entries);
+    printer.text
+}
 
 /// The text of a source. Reading it gives the same card.
 pub fn print(source: &Source) -> String {
@@ -14,7 +32,8 @@ pub fn print(source: &Source) -> String {
     let mut printer = Printer { text, indent: 0, prefixes: &source.prefixes };
     let terms: Vec<String> = source.terms.iter().map(|term| literal(&term.kind, &source.prefixes)).collect();
     printer.list("terms", &terms);
-    let schema: Vec<String> = source.schema.iter().map(|entry| printer.entry(entry)).collect();
+    let schema = source.schema.iter().map(|entry| printer.entry(&entry.property.kind, entry.datatype));
+    let schema: Vec<String> = schema.collect();
     printer.list("schema", &schema);
     if !printer.text.is_empty() {
         printer.text.push('\n');
@@ -90,9 +109,9 @@ impl Printer<'_> {
         }
     }
 
-    fn entry(&self, entry: &crate::tree::Entry) -> String {
-        match entry.property.kind.value() {
-            Value::Uri(text) => format!("{} {}", iri(text, self.prefixes), entry.datatype),
+    fn entry(&self, property: &Term, datatype: Datatype) -> String {
+        match property.value() {
+            Value::Uri(text) => format!("{} {datatype}", iri(text, self.prefixes)),
             _ => String::new(),
         }
     }

@@ -37,6 +37,8 @@ pub enum Command {
     },
     /// Make a page of Turtle, N-Triples, N-Quads, RDF/XML or RDFa
     Page(PageArgs),
+    /// Gather a schema from a page that tells the ranges of properties, and print it as text
+    Schema(SchemaArgs),
     /// Run a card or a script, and print the roster
     Run(RunArgs),
     /// Show a run on a panel: full screen in a terminal, else as lines
@@ -54,13 +56,11 @@ pub struct ScriptArgs {
     pub legend: Option<PathBuf>,
 }
 
+/// A page as its club publishes it.
 #[derive(Args)]
-pub struct PageArgs {
+pub struct DataArgs {
     /// A file of Linked Data
     pub file: PathBuf,
-    /// The page to write
-    #[arg(short, long)]
-    pub output: PathBuf,
     /// The IRI of the page's graph, below which relative IRIs stand; by default the file's own
     #[arg(long, value_name = "IRI")]
     pub graph: Option<String>,
@@ -70,6 +70,24 @@ pub struct PageArgs {
     /// A legend or a script, whose prefixes shorten IRIs
     #[arg(long, value_name = "FILE")]
     pub legend: Option<PathBuf>,
+}
+
+#[derive(Args)]
+pub struct PageArgs {
+    #[command(flatten)]
+    pub data: DataArgs,
+    /// The page to write
+    #[arg(short, long)]
+    pub output: PathBuf,
+}
+
+#[derive(Args)]
+pub struct SchemaArgs {
+    #[command(flatten)]
+    pub data: DataArgs,
+    /// The text to write; by default it is printed
+    #[arg(short, long)]
+    pub output: Option<PathBuf>,
 }
 
 #[derive(Args)]

@@ -1,11 +1,12 @@
 //! The commands that look at one file.
 
-use crate::args::{PageArgs, ScriptArgs};
+use crate::args::{DataArgs, PageArgs, ScriptArgs};
 use crate::failure::Failure;
 use crate::files::{legend_path, read, read_legend, write, CardFile, ScriptFile};
-use rdf::Format;
+use rdf::{Format, Page};
 use std::path::Path;
 use std::process::ExitCode;
+use terms::Prefixes;
 use text::Legend;
 use willetcoffer::limits::PAGE_LIMIT;
 use willetcoffer::Refusal;
@@ -40,6 +41,16 @@ pub fn show(args: &ScriptArgs) -> Done {
 
 /// A page from a file of Linked Data.
 pub fn page(args: &PageArgs) -> Done {
+    let legend = args.data.legend.as_deref().map_or(Ok(Legend::default()), read_legend)?;
+    let page = read_page(&args.data, &legend.prefixes)?;
+    println!("{}: {} records, {} left out", args.data.file.display(), page.taken.len(), page.left_out.len());
+    within_limit(&args.data.file, &page)?;
+    write(&args.output, page.bytes)?;
+    Ok(ExitCode::SUCCESS)
+}
+
+/// The page of a file of Linked Data under these prefixes. What the reader warned of, and what is no record, is told on standard error.
+pub fn read_page(args: &DataArgs, prefixes: &Prefixes) -> Result<Page, Failure> {
     let path = &args.file;
     let format = match &args.format {
         Some(name) => Format::from_name(name),
@@ -49,23 +60,25 @@ pub fn page(args: &PageArgs) -> Done {
         let help = format!("name one by --format: {}", Format::names().collect::<Vec<_>>().join(", "));
         Failure::file(path, "its extension tells no format").help(help)
     })?;
-    let legend = args.legend.as_deref().map_or(Ok(Legend::default()), read_legend)?;
     let bytes = read(path)?;
     let graph = args.graph.clone().map_or_else(|| file_iri(path), Ok)?;
     let document = rdf::read(&bytes, format, &graph).map_err(|error| Failure::file(path, error))?;
-    let page = rdf::page(&document, &graph, &legend.prefixes);
+    let page = rdf::page(&document, &graph, prefixes);
     for warning in &page.warnings {
         eprintln!("warning: {}: {warning}", path.display());
     }
     for left in &page.left_out {
         eprintln!("left out: {left}");
     }
-    println!("{}: {} records, {} left out", path.display(), page.taken.len(), page.left_out.len());
+    Ok(page)
+}
+
+/// A failure where a page has more bytes than the engine takes.
+pub fn within_limit(path: &Path, page: &Page) -> Result<(), Failure> {
     if page.bytes.len() > PAGE_LIMIT {
         return Err(over_limit(path.display(), page.bytes.len()));
     }
-    write(&args.output, page.bytes)?;
-    Ok(ExitCode::SUCCESS)
+    Ok(())
 }
 
 /// A page with more bytes than the engine takes.

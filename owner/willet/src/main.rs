@@ -6,7 +6,7 @@
 //! | `commands` | check, card, show, page |
 //! | `season`, `roster` | a card from its load to its end, with the answers of its blocks; the roster as table, CSV or JSON |
 //! | `origin`, `host` | where pages come from: a directory, or the web; what hands them in |
-//! | `run`, `panel`, `club` | the commands of these names |
+//! | `schema`, `run`, `panel`, `club` | the commands of these names |
 #![forbid(unsafe_code)]
 
 mod args;
@@ -19,6 +19,7 @@ mod origin;
 mod panel;
 mod roster;
 mod run;
+mod schema;
 mod season;
 
 use args::{Command, Willet};
@@ -35,6 +36,7 @@ fn command(command: Command) -> Result<ExitCode, Failure> {
         Command::Card { file, output } => commands::card(&file, &output),
         Command::Show { script } => commands::show(&script),
         Command::Page(args) => commands::page(&args),
+        Command::Schema(args) => schema::schema(&args),
         Command::Run(args) => run::run(&args),
         Command::Panel(args) => panel::panel(&args),
         Command::Club(args) => club::club(&args),

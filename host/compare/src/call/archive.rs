@@ -29,4 +29,8 @@ impl Engine for Archive {
     fn number(&self, text: &[u8], record: &mut [u8]) -> u32 {
         raw::number(text, record)
     }
+
+    fn schema(&self, page: &[u8], schema: &mut [u8], report: &mut [u8]) -> u32 {
+        raw::schema(page, schema, report)
+    }
 }

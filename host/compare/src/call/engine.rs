@@ -8,6 +8,7 @@ use second::early;
 use second::edge::{take_looks, Look};
 use second::eval::{Evaluate, Fault};
 use second::evaluator::{evaluate_with, Ways};
+use second::gather::{self, Gathering};
 use second::note::{take_notes, Note};
 use second::number::{self, Reading};
 use second::order::{self, Order};
@@ -35,6 +36,9 @@ pub trait Engine {
 
     /// Reads the text of a number into this record; gives 0 or the number of its refusal.
     fn number(&self, text: &[u8], record: &mut [u8]) -> u32;
+
+    /// Gathers a schema from a page into the front of this schema, with this report; gives 0 or the number of its refusal.
+    fn schema(&self, page: &[u8], schema: &mut [u8], report: &mut [u8]) -> u32;
 
     /// What its type printer writes, if it has one that can be called.
     fn print(&self, _input: &[u8]) -> Option<String> {
@@ -77,6 +81,7 @@ pub struct Second<S> {
     alphabet: Alphabet,
     reading: Reading,
     suggest: Suggest,
+    gathering: Gathering,
     evaluate: Evaluate,
     why: Cell<&'static str>,
     notes: RefCell<Vec<Note>>,
@@ -84,13 +89,13 @@ pub struct Second<S> {
 }
 
 /// An engine with these parts: how types are worked out in loads and by the printer, and in the other calls; and how
-/// answers are found. It keeps quads in order, takes ranks, reads numbers and suggests as the fast engine does, and evaluates tuples by giving
-/// up early.
+/// answers are found. It keeps quads in order, takes ranks, reads numbers, suggests and gathers schemas as the fast engine does, and evaluates
+/// tuples by giving up early.
 pub fn with<S>(name: &'static str, typers: [second::check::Typer; 2], search: S) -> Second<S> {
     let (why, notes, looks) = (Cell::new(""), RefCell::default(), RefCell::default());
-    let (order, alphabet, reading, suggest) = (order::FAST, rank::FAST, number::fast, suggest::fast);
-    let evaluate = early::evaluate;
-    Second { name, typers, search, order, alphabet, reading, suggest, evaluate, why, notes, looks }
+    let (order, alphabet, evaluate): (_, _, Evaluate) = (order::FAST, rank::FAST, early::evaluate);
+    let (reading, suggest, gathering): (Reading, Suggest, Gathering) = (number::fast, suggest::fast, gather::fast);
+    Second { name, typers, search, order, alphabet, reading, suggest, gathering, evaluate, why, notes, looks }
 }
 
 /// The fast engine.
@@ -129,6 +134,7 @@ pub fn plain() -> Second<Bounded> {
         .ranking(rank::PLAIN)
         .reading(number::plain)
         .suggesting(suggest::plain)
+        .gathering(gather::plain)
         .evaluating(count::evaluate)
 }
 
@@ -153,6 +159,11 @@ impl<S> Second<S> {
         Second { suggest, ..self }
     }
 
+    /// The same, schemas gathered in this way.
+    pub fn gathering(self, gathering: Gathering) -> Second<S> {
+        Second { gathering, ..self }
+    }
+
     /// The same, tuples evaluated in this way.
     pub fn evaluating(self, evaluate: Evaluate) -> Second<S> {
         Second { evaluate, ..self }
@@ -161,9 +172,9 @@ impl<S> Second<S> {
 
 impl<S: Search + Counts> Second<S> {
     fn engine(&self, again: bool) -> second::Engine<'_> {
-        let Second { order, alphabet, reading, suggest, .. } = *self;
+        let Second { order, alphabet, reading, suggest, gathering, .. } = *self;
         let typer = self.typers[usize::from(again)];
-        second::Engine { typer, order, alphabet, reading, suggest, search: &self.search }
+        second::Engine { typer, order, alphabet, reading, suggest, gathering, search: &self.search }
     }
 
     fn code(&self, outcome: Result<(), Refusal>) -> u32 {
@@ -204,6 +215,10 @@ impl<S: Search + Counts> Engine for Second<S> {
 
     fn number(&self, text: &[u8], record: &mut [u8]) -> u32 {
         self.code(self.engine(false).number(text, record))
+    }
+
+    fn schema(&self, page: &[u8], schema: &mut [u8], report: &mut [u8]) -> u32 {
+        self.code(self.engine(false).schema(page, schema, report))
     }
 
     fn print(&self, input: &[u8]) -> Option<String> {

@@ -30,6 +30,10 @@ impl Engine for Wrong {
     fn number(&self, text: &[u8], record: &mut [u8]) -> u32 {
         fast().number(text, record)
     }
+
+    fn schema(&self, page: &[u8], schema: &mut [u8], report: &mut [u8]) -> u32 {
+        fast().schema(page, schema, report)
+    }
 }
 
 /// How a call is made.
@@ -49,5 +53,9 @@ impl Engine for Other {
 
     fn number(&self, text: &[u8], record: &mut [u8]) -> u32 {
         fast().number(text, record)
+    }
+
+    fn schema(&self, page: &[u8], schema: &mut [u8], report: &mut [u8]) -> u32 {
+        fast().schema(page, schema, report)
     }
 }

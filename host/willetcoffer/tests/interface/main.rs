@@ -46,7 +46,7 @@ fn widths_limits_and_offsets_of_the_library() {
 }
 
 /// The refusals' names in the shared data, with their numbers.
-const REFUSALS: [(&str, i128); 17] = [
+const REFUSALS: [(&str, i128); 18] = [
     ("WRONG_LENGTH", 1),
     ("BAD_TERM", 2),
     ("TERM_TWICE", 3),
@@ -63,6 +63,7 @@ const REFUSALS: [(&str, i128); 17] = [
     ("NO_ROOM", 14),
     ("BAD_NUMBER_TEXT", 16),
     ("NO_SUCH_NUMBER", 17),
+    ("TOO_MANY_ENTRIES", 19),
     ("BAD_RANKS", 21),
 ];
 

@@ -1,0 +1,5 @@
+pub mod AskLaws
+pub mod NotedLaws
+pub mod PageLaws
+pub mod EntryLaws
+pub mod GatherLaws
