@@ -34,14 +34,16 @@ typedef struct {
     size_t page_length;
 } Station;
 
-/* CALLS of them are lent a card; the number call is lent a text alone. */
-typedef enum { LOAD, RUN, PAGE, TOTAL, SUGGEST, CALLS, NUMBER = CALLS } Call;
+/* CALLS of them are lent a card; the number call is lent a text alone, the schema call a page. */
+typedef enum { LOAD, RUN, PAGE, TOTAL, SUGGEST, CALLS, NUMBER = CALLS, SCHEMA } Call;
 
 static Card card;
 static Station station;
 static const char *text;
 static size_t text_length;
 static uint8_t record[WILLETCOFFER_NUMBER_RECORD_WIDTH];
+static uint8_t gathered[WILLETCOFFER_SCHEMA_WIDTH];
+static uint8_t gathered_report[WILLETCOFFER_SCHEMA_REPORT_WIDTH];
 
 /* ---- one call on a painted stack ------------------------------------------------------------------------------------- */
 
@@ -71,6 +73,8 @@ static uint32_t make(const Job *j) {
     case SUGGEST:
         return willetcoffer_suggest(card.terms, card.terms_length, card.schema, card.schema_length, card.script, card.script_length, station.report,
             j->report_length);
+    case SCHEMA:
+        return willetcoffer_schema(station.page, station.page_length, gathered, sizeof gathered, gathered_report, sizeof gathered_report - !j->report_length);
     case NUMBER:
         return willetcoffer_number((const uint8_t *)text, text_length, record, sizeof record - !j->report_length);
     default:
@@ -203,6 +207,21 @@ static void undecided(void) {
     card.script_length = sizeof head + 1;
 }
 
+/* A page of two records that ask of one subject. */
+static void asking(void) {
+    const char *range[2] = { "xsd:integer", "xsd:decimal" };
+    size_t width = WILLETCOFFER_OBJECT_OFFSET + WILLETCOFFER_TEXT_WIDTH;
+    memset(station.page, 0, 2 * width);
+    for (size_t i = 0; i < 2; i++) {
+        uint8_t *at = station.page + i * width;
+        at[0] = 0x81;
+        memcpy(at + 1, "p:speed", 7);
+        memcpy(at + 1 + WILLETCOFFER_TEXT_WIDTH, "rdfs:range", 10);
+        memcpy(at + WILLETCOFFER_OBJECT_OFFSET, range[i], 11);
+    }
+    station.page_length = 2 * width;
+}
+
 /* ---- the table -------------------------------------------------------------------------------------------------------------- */
 
 static void print_row(const char *name, const size_t bytes[CALLS]) {
@@ -261,6 +280,10 @@ int main(void) {
     printf("undecided: suggest %zu\n", good(SUGGEST, 0));
     sequences();
     printf("sequences: total %zu\n", good(TOTAL, 0));
+    printf("refused with 1: schema %zu\n", used(SCHEMA, 0, 0, WILLETCOFFER_REFUSED_LENGTH));
+    printf("a full page: schema %zu\n", good(SCHEMA, 0));
+    asking();
+    printf("a page that asks: schema %zu\n", good(SCHEMA, 0));
     measure_number("refused with 1", "0", 0, WILLETCOFFER_REFUSED_LENGTH);
     measure_number("a digit", "0", 1, 0);
     measure_number("40 bytes", "-0000000000000000000000000000000.999e+02", 1, 0);
