@@ -1,6 +1,6 @@
 /*
  * A panel in C: a card is loaded, runs, wants a page, gets it with speeds as their makers print them and a record that is skipped,
- * and runs to its end.
+ * and runs to its end. Then it publishes what it knows of the yard, and a second station takes that page in.
  *
  *     cc panel.c $(pkg-config --cflags --libs willetcoffer) -o panel && ./panel
  *
@@ -196,6 +196,66 @@ static int take_page(const struct bytes *page)
     return 1;
 }
 
+/* ---- what the station knows of the yard, for others ---- */
+
+/* a station: its card's terms, and its tables */
+struct station {
+    const struct bytes *terms;
+    uint8_t *term_table, *quad_table, *saved;
+    uint32_t yard; /* the number of its graph */
+};
+
+static uint8_t publish_report[WILLETCOFFER_PUBLISH_REPORT_WIDTH];
+
+/* writes the yard's graph as a page; 0 where that is refused */
+static int publish(const struct station *station, const uint8_t *its_script, size_t script_length, struct bytes *page)
+{
+    uint32_t refusal = willetcoffer_publish(
+        station->terms->at, station->terms->length, schema.at, schema.length, its_script, script_length,
+        station->term_table, WILLETCOFFER_TERM_TABLE_WIDTH, station->quad_table, WILLETCOFFER_QUAD_TABLE_WIDTH,
+        station->saved, WILLETCOFFER_SAVED_WIDTH, station->yard, page->at, sizeof page->at, publish_report, sizeof publish_report);
+    if (refusal != 0) {
+        printf("publish: refused %u\n", (unsigned)refusal);
+        return 0;
+    }
+    page->length = number(publish_report, 4);
+    return 1;
+}
+
+/* a second station, whose card has nothing but 60 and the yard, takes the page in, and has the same to publish */
+static int second_station(void)
+{
+    static const uint8_t success[] = { 0x71 };
+    static uint8_t its_terms[WILLETCOFFER_TERM_TABLE_WIDTH], its_quads[WILLETCOFFER_QUAD_TABLE_WIDTH], its_saved[WILLETCOFFER_SAVED_WIDTH];
+    static struct bytes listed, page, again;
+    const struct station first = { &terms, term_table, quad_table, saved, 0 };
+    const struct station second = { &listed, its_terms, its_quads, its_saved, 1 };
+    if (!publish(&first, script, sizeof script, &page))
+        return 0;
+    printf("publish: %u bytes\n", (unsigned)page.length);
+    put(&listed, 0x13);
+    put_number(&listed, 60);
+    put(&listed, 0x11);
+    put_uri(&listed, "http://club.example/yard");
+    if (willetcoffer_load(
+            willetcoffer_built_in_ranks, WILLETCOFFER_RANKS_WIDTH,
+            listed.at, listed.length, schema.at, schema.length, success, sizeof success,
+            its_terms, sizeof its_terms, its_quads, sizeof its_quads, its_saved, sizeof its_saved) != 0)
+        return 0;
+    if (willetcoffer_page(
+            willetcoffer_built_in_ranks, WILLETCOFFER_RANKS_WIDTH,
+            listed.at, listed.length, schema.at, schema.length, success, sizeof success,
+            its_terms, sizeof its_terms, its_quads, sizeof its_quads, its_saved, sizeof its_saved,
+            second.yard, page.at, page.length, page_report, sizeof page_report) != 0)
+        return 0;
+    printf("second station: %u skipped, %u quads stored\n", (unsigned)number(page_report, 4), (unsigned)number(its_saved + 2, 2));
+    if (!publish(&second, success, sizeof success, &again))
+        return 0;
+    printf("second station: %s\n", page.length == again.length && memcmp(page.at, again.at, page.length) == 0
+        ? "publishes the same bytes" : "publishes other bytes");
+    return 1;
+}
+
 static int write_page(struct bytes *page)
 {
     put_name(page, "u:1", "en", "Mallard");
@@ -210,5 +270,5 @@ int main(void)
 {
     static struct bytes page;
     write_card();
-    return write_page(&page) && load() && run(0) && take_page(&page) && run(0) ? 0 : 1;
+    return write_page(&page) && load() && run(0) && take_page(&page) && run(0) && second_station() ? 0 : 1;
 }

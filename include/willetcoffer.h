@@ -7,6 +7,7 @@
  *     willetcoffer_load(..)      once for a card
  *     willetcoffer_run(..)       until the report says wanted, waiting or ended
  *     willetcoffer_page(..)      for a wanted graph, and whenever a page has changed
+ *     willetcoffer_publish(..)   whenever what the station knows of a graph is to be put up as a page
  *     willetcoffer_total(..)     whenever a display wants to know how long the script takes
  *     willetcoffer_suggest(..)   where a load was refused with 9, for one written type that would do
  *     willetcoffer_number(..)    for a number as its maker prints it, on the way to a term or a page record
@@ -60,6 +61,8 @@ extern "C" {
 #define WILLETCOFFER_TOTAL_REPORT_WIDTH 4
 /* The report of a suggest call; see willetcoffer_suggest. */
 #define WILLETCOFFER_SUGGEST_REPORT_WIDTH 4
+/* The report of a publish call; see willetcoffer_publish. The buffer of its page may have any length. */
+#define WILLETCOFFER_PUBLISH_REPORT_WIDTH 4
 /* The record that a number call writes; see willetcoffer_number. */
 #define WILLETCOFFER_NUMBER_RECORD_WIDTH 9
 /* The buffer whose front a schema call fills: a schema of WILLETCOFFER_ENTRY_LIMIT entries; see willetcoffer_schema. */
@@ -203,6 +206,8 @@ static const uint8_t willetcoffer_built_in_ranks[WILLETCOFFER_RANKS_WIDTH] = {
 #define WILLETCOFFER_REFUSED_NUMBER_VALUE 17   /* a number outside the limits of its kind, or no whole count of millionths */
 #define WILLETCOFFER_REFUSED_TOO_MANY_ENTRIES 19 /* more than WILLETCOFFER_ENTRY_LIMIT subjects of a page would get an entry */
 #define WILLETCOFFER_REFUSED_RANKS 21          /* ranks that are not each rank from 0 to 94 once; straight after 1 */
+#define WILLETCOFFER_REFUSED_NOT_FETCHED 22    /* the graph is not among the fetched ones */
+#define WILLETCOFFER_REFUSED_SHORT_BUFFER 23   /* the lent buffer is shorter than the page */
 
 /* ---- the calls ------------------------------------------------------------------------------------------------------------ */
 
@@ -282,6 +287,36 @@ uint32_t willetcoffer_page(
     uint8_t *saved, size_t saved_length,
     uint64_t graph,
     const uint8_t *page, size_t page_length,
+    uint8_t *report, size_t report_length);
+
+/*
+ * Writes a fetched graph as a page: its triples as records in rising order of their bytes, each once. The order is that of the bytes one
+ * after the other, from 0 to 255: by kind, then subject, property and object, so that a number goes by its bytes from the lowest on and
+ * not by its amount. Two stations that hold the same triples of a graph write the same bytes, however their terms are numbered.
+ *
+ * A page call for the same graph takes that page in, if it has at most WILLETCOFFER_PAGE_LIMIT bytes, skips nothing of it and leaves the
+ * store as it was. A graph that a page call has filled fits into as many bytes as that page had. Any graph fits where each of its quads
+ * has room for the longest record, WILLETCOFFER_OBJECT_OFFSET + WILLETCOFFER_SLOT_WIDTH - 1 bytes.
+ *
+ *   terms, schema, script       the card that was loaded
+ *   term_table, quad_table      read: as the last call left them
+ *   saved       read: as the last call left it
+ *   graph       the graph's term number
+ *   page        written, any length: the page, at the front; the bytes after it stay as they are
+ *   report      written:
+ *                 at 0, 4 bytes  the page's length
+ *
+ * Refusals: 1, 10, 22, 23, in this order. No ranks are lent.
+ */
+uint32_t willetcoffer_publish(
+    const uint8_t *terms, size_t terms_length,
+    const uint8_t *schema, size_t schema_length,
+    const uint8_t *script, size_t script_length,
+    const uint8_t *term_table, size_t term_table_length,
+    const uint8_t *quad_table, size_t quad_table_length,
+    const uint8_t *saved, size_t saved_length,
+    uint64_t graph,
+    uint8_t *page, size_t page_length,
     uint8_t *report, size_t report_length);
 
 /*

@@ -1,5 +1,6 @@
 #!/usr/bin/env bash
-# The type printer on document 01's example, a season on one screen, a refused card with what the engine suggests, then a season by willet from text, Turtle and HTTP, all by the proved code.
+# The type printer on document 01's example, a season on one screen, a refused card with what the engine suggests, the yard's graph published
+# for a second station, then a season by willet from text, Turtle and HTTP, all by the proved code.
 # What is missing is proved and built first; each crate is told as it is proved, with its time.
 set -euo pipefail
 cd "$(dirname "$0")/.."

@@ -1,6 +1,6 @@
 #!/usr/bin/env bash
 # A season by willet, from text, Turtle and HTTP on loopback: a script is checked, a slip is told, a club is opened, the script runs over
-# its page and waits, the club rewrites the page, and the script ends. The engine's archive has to be there (`rt staticlib exports`).
+# its page and waits, the club rewrites the page, and the script ends; then what it knows of the yard is published. The engine's archive has to be there (`rt staticlib exports`).
 set -euo pipefail
 cd "$(dirname "$0")/.."
 export PATH="$HOME/.cargo/bin:$PATH"
@@ -46,3 +46,7 @@ waits_for run.log waiting
 mv later/yard.ttl pages/yard.ttl
 wait "$run"
 cat run.log roster.txt
+say "willet publish yard.page --fetch --map http://club.example/=$address -o published.ttl"
+"$willet" publish yard.page --fetch --map "http://club.example/=$address" --now 2026-03-01T12:00:00Z -q -o published.ttl
+say cat published.ttl
+cat published.ttl

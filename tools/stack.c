@@ -32,10 +32,11 @@ typedef struct {
     uint8_t report[WILLETCOFFER_PAGE_REPORT_WIDTH];
     uint8_t page[WILLETCOFFER_PAGE_LIMIT];
     size_t page_length;
+    uint8_t published[WILLETCOFFER_QUAD_LIMIT * (WILLETCOFFER_OBJECT_OFFSET + WILLETCOFFER_SLOT_WIDTH - 1)];
 } Station;
 
 /* CALLS of them are lent a card; the number call is lent a text alone, the schema call a page. */
-typedef enum { LOAD, RUN, PAGE, TOTAL, SUGGEST, CALLS, NUMBER = CALLS, SCHEMA } Call;
+typedef enum { LOAD, RUN, PAGE, PUBLISH, TOTAL, SUGGEST, CALLS, NUMBER = CALLS, SCHEMA } Call;
 
 static Card card;
 static Station station;
@@ -77,6 +78,10 @@ static uint32_t make(const Job *j) {
         return willetcoffer_schema(station.page, station.page_length, gathered, sizeof gathered, gathered_report, sizeof gathered_report - !j->report_length);
     case NUMBER:
         return willetcoffer_number((const uint8_t *)text, text_length, record, sizeof record - !j->report_length);
+    case PUBLISH:
+        return willetcoffer_publish(card.terms, card.terms_length, card.schema, card.schema_length, card.script, card.script_length,
+            station.term_table, table, station.quad_table, quads, station.saved, saved, j->graph, station.published, sizeof station.published,
+            station.report, j->report_length);
     default:
         return willetcoffer_total(card.terms, card.terms_length, card.schema, card.schema_length, card.script, card.script_length, station.report,
             j->report_length);
@@ -222,10 +227,20 @@ static void asking(void) {
     station.page_length = 2 * width;
 }
 
+/* whether a quad comes before another, by its four numbers */
+static int comes_before(const uint8_t *a, const uint8_t *b) {
+    for (int at = 0; at < WILLETCOFFER_QUAD_WIDTH; at += 2) {
+        int difference = (a[at] | a[at + 1] << 8) - (b[at] | b[at + 1] << 8);
+        if (difference != 0) return difference < 0;
+    }
+    return 0;
+}
+
 /* ---- the table -------------------------------------------------------------------------------------------------------------- */
 
 static void print_row(const char *name, const size_t bytes[CALLS]) {
-    printf("%s: load %zu, run %zu, page %zu, total %zu, suggest %zu\n", name, bytes[LOAD], bytes[RUN], bytes[PAGE], bytes[TOTAL], bytes[SUGGEST]);
+    printf("%s: load %zu, run %zu, page %zu, publish %zu, total %zu, suggest %zu\n", name, bytes[LOAD], bytes[RUN], bytes[PAGE],
+        bytes[PUBLISH], bytes[TOTAL], bytes[SUGGEST]);
 }
 
 static size_t good(Call call, size_t graph) {
@@ -251,6 +266,24 @@ static void measure_number(const char *name, const char *written, size_t report_
     printf("%s: number %zu\n", name, used(NUMBER, report_length, 0, expected));
 }
 
+/* All quads in one graph, as no page call leaves them, put in order anew. */
+static void one_graph(void) {
+    uint8_t quad[WILLETCOFFER_QUAD_WIDTH];
+    for (size_t i = 0; i < WILLETCOFFER_QUAD_LIMIT; i++) {
+        uint8_t *at = station.quad_table + i * WILLETCOFFER_QUAD_WIDTH;
+        at[0] = FIRST_URI;
+        at[1] = 0;
+    }
+    for (size_t i = 1; i < WILLETCOFFER_QUAD_LIMIT; i++) {
+        size_t to = i;
+        memcpy(quad, station.quad_table + i * WILLETCOFFER_QUAD_WIDTH, sizeof quad);
+        while (to > 0 && comes_before(quad, station.quad_table + (to - 1) * WILLETCOFFER_QUAD_WIDTH)) to--;
+        memmove(station.quad_table + (to + 1) * WILLETCOFFER_QUAD_WIDTH, station.quad_table + to * WILLETCOFFER_QUAD_WIDTH,
+            (i - to) * WILLETCOFFER_QUAD_WIDTH);
+        memcpy(station.quad_table + to * WILLETCOFFER_QUAD_WIDTH, quad, sizeof quad);
+    }
+}
+
 static void measure_full(const char *name) {
     size_t bytes[CALLS];
     bytes[TOTAL] = good(TOTAL, 0);
@@ -258,6 +291,8 @@ static void measure_full(const char *name) {
     bytes[LOAD] = good(LOAD, 0);
     bytes[PAGE] = fill_store();
     bytes[RUN] = good(RUN, 0);
+    one_graph();
+    bytes[PUBLISH] = good(PUBLISH, FIRST_URI);
     print_row(name, bytes);
 }
 
@@ -267,8 +302,9 @@ int main(void) {
     for (Call c = LOAD; c < CALLS; c++) bytes[c] = used(c, 0, 0, WILLETCOFFER_REFUSED_LENGTH);
     print_row("refused with 1", bytes);
     for (Call c = LOAD; c < CALLS; c++) {
-        smallest(c == PAGE);
-        if (c == PAGE) good(LOAD, 0);
+        smallest(c == PAGE || c == PUBLISH);
+        if (c == PAGE || c == PUBLISH) good(LOAD, 0);
+        if (c == PUBLISH) good(PAGE, 0);
         bytes[c] = good(c, 0);
     }
     print_row("smallest card", bytes);

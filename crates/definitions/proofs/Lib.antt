@@ -7,3 +7,4 @@ pub mod NumeralExamples
 pub mod ExportExamples
 pub mod GatheringExamples
 pub mod OrderExamples
+pub mod PublishExamples

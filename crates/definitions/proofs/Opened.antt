@@ -22,6 +22,7 @@ use Rattle.definitions.specs.Evaluate as Evaluate
 use Rattle.definitions.specs.Evaluated as Evaluated
 use Rattle.definitions.specs.Search as Search
 use Rattle.definitions.specs.Machine as Machine
+use Rattle.definitions.specs.Publish as Publish
 use Rattle.definitions.specs.Saved as Saved
 use Rattle.definitions.specs.Sound as Sound
 use Rattle.definitions.specs.Result as Result
@@ -129,6 +130,10 @@ unfolding Machine.loaded Machine.enterNamed Machine.enterOnce Machine.enterEach 
     Machine.withPage Machine.inLimits
 openMachine = tt
 
+unfoldable pub openPublish : Unit {0}
+unfolding Publish.uriOf Publish.tripleOf Publish.triplesIn Publish.triplesOf Publish.tripleBytes Publish.withRecord Publish.risingOnce Publish.pageOf Publish.published
+openPublish = tt
+
 unfoldable pub openSaved : Unit {0}
 unfolding Saved.slots Saved.termTable Saved.slotTerm Saved.termsFrom Saved.termsIn Saved.quadBytes Saved.quadTable Saved.quadsFrom Saved.quadsIn Saved.placeFrom Saved.placeIn
     Saved.lastTuple Saved.stackFrom Saved.savedItem Saved.savedItems Saved.bindingsIn Saved.heldControl Saved.heldStore Saved.savedControl Saved.savedStore Saved.held
@@ -146,7 +151,7 @@ unfoldable pub openCalls : Unit {0}
 unfolding Calls.recordTests Calls.sizesFit Calls.scriptTests Calls.readTests Calls.constantsOf Calls.typesOf Calls.typeTests Calls.check Calls.reportedTypes Calls.tablesFit
     Calls.loadTests Calls.loadResult Calls.load Calls.checkedOf Calls.soundIn Calls.entryTests Calls.runIn Calls.runTests Calls.ranOf Calls.runResult Calls.runCall Calls.pageIn
     Calls.takeIn Calls.pageTests Calls.pageResult Calls.pageCall Calls.totalResult Calls.total Calls.numberCall Calls.suggestAnswer Calls.suggestFor Calls.suggestResult
-    Calls.suggest Calls.schemaTests Calls.written Calls.schemaResult Calls.schemaCall
+    Calls.suggest Calls.schemaTests Calls.written Calls.schemaResult Calls.schemaCall Calls.publishIn Calls.publishTests Calls.publishResult Calls.publishCall
 openCalls = tt
 
 unfoldable pub openCallList : Unit {0}
@@ -155,8 +160,8 @@ openCallList = tt
 
 unfoldable pub openExports : Unit {0}
 unfolding Exports.words Exports.itemsBytes Exports.savedBytes Exports.wordsFrom Exports.itemsFrom Exports.itemsGood Exports.savedFrom Exports.runReport Exports.pageReport
-    Exports.totalReport Exports.recordAfter Exports.suggestReport Exports.schemaReport Exports.loadExport Exports.runExport Exports.pageExport Exports.totalExport
-    Exports.numberExport Exports.suggestExport Exports.schemaExport
+    Exports.totalReport Exports.publishReport Exports.recordAfter Exports.suggestReport Exports.schemaReport Exports.loadExport Exports.runExport Exports.pageExport
+    Exports.totalExport Exports.numberExport Exports.suggestExport Exports.schemaExport Exports.publishExport
 openExports = tt
 
 unfoldable pub openPrinter : Unit {0}
@@ -166,5 +171,5 @@ openPrinter = tt
 
 unfoldable pub opened : Unit {0}
 unfolding openLists openAlphabet openAscii openBytes openTypes openTerms openGathering openText openReading openScope openTotal openTyping openSuggest openCalendar openOutcome
-    openTruth openValues openNumerals openEvaluate openEvaluated openSearch openMachine openSaved openSound openResult openCalls openCallList openExports openPrinter
+    openTruth openValues openNumerals openEvaluate openEvaluated openSearch openMachine openPublish openSaved openSound openResult openCalls openCallList openExports openPrinter
 opened = tt

@@ -9,7 +9,7 @@ use Rattle.definitions.specs.Alphabet.{below, builtIn}
 use Rattle.definitions.specs.Ascii.{ascii}
 use Rattle.definitions.specs.Bytes.{filled, littleBytes, unsigned}
 use Rattle.definitions.specs.Outcome.{Outcome, ok, fault}
-use Rattle.definitions.specs.Calls.{Lengths, Lent, load, runCall, PageResult, pageCall}
+use Rattle.definitions.specs.Calls.{Lengths, Lent, load, runCall, PageResult, pageCall, PublishResult, publishCall}
 use Rattle.definitions.specs.CallList.{Call, running, paging, Answer, ran, paged}
 use Rattle.definitions.specs.declared.SavedRun.{SavedRun}
 use Rattle.definitions.specs.declared.Ran.{Ran}
@@ -17,6 +17,7 @@ use Rattle.definitions.specs.declared.RunState.{RunState}
 use Rattle.definitions.specs.declared.RunState.the-variants.{Ended, Wanted, Spent}
 use Rattle.definitions.specs.declared.RunAnswer.the-variants as RunAnswers
 use Rattle.definitions.specs.declared.PageAnswer.the-variants as PageAnswers
+use Rattle.definitions.specs.declared.PublishAnswer.the-variants as PublishAnswers
 use Rattle.definitions.proofs.Opened.{opened}
 
 -- ── calls one after the other, each with the tables and the saved run as the one before left them ──
@@ -156,6 +157,31 @@ unsound :
     ≡ ran (RunAnswers.Refused 10) ∷ paged (PageAnswers.Refused 10) ∷ []
 unfolding withTables afterRun afterPage afterCall afterCalls afterLoad uri number card triple page runFor take filledCard withObject600 opened
 unsound = refl
+
+-- ── publishing (document 02, Ask 11) ────────────────────────────────────────────────────────
+
+publish : Left → (graph : ℕ) → (buffer : List ℕ) → PublishResult
+publish x g buffer = publishCall (x .lent) (x .saved) g buffer
+
+-- what the page left, l:1 once: the rest of the buffer is untouched; a graph that is not fetched; a buffer a byte too short; an unsound table
+publishing :
+    publish filledCard 1 (replicate 403 7)
+    ∷ publish filledCard 2 []
+    ∷ publish filledCard 1 (replicate 401 7)
+    ∷ publish (withObject600 filledCard) 2 []
+    ∷ []
+    ≡ record {
+      returned = PublishAnswers.Published 402;
+      page =
+          triple 0x83 (ascii "l:1") (ascii "p:speed") (number (pos 3))
+          ++ (triple 0x84 (ascii "l:2") (ascii "p:speed") (number (negsuc 4)) ++ (7 ∷ []));
+    }
+    ∷ record { returned = PublishAnswers.Refused 22; page = [] }
+    ∷ record { returned = PublishAnswers.Refused 23; page = replicate 401 7 }
+    ∷ record { returned = PublishAnswers.Refused 10; page = [] }
+    ∷ []
+unfolding withTables afterRun afterPage afterCall afterCalls afterLoad uri number card triple page take filledCard withObject600 publish opened
+publishing = refl
 
 -- ── refusal 14: a 65th graph ────────────────────────────────────────────────────────────────
 

@@ -7,7 +7,7 @@ use lib.Dec.{eqb, leb}
 use lib.ListN.{length, getD, getElem?, drop}
 use lib.IntN.{ℤ}
 use Rattle.definitions.specs.Limits.{termLimit, entryLimit, scriptLimit, budgetLimit, pageLimit, ranksWidth, termTableWidth, quadTableWidth, schemaWidth}
-use Rattle.definitions.specs.Lists.{distinct}
+use Rattle.definitions.specs.Lists.{distinct, isIn}
 use Rattle.definitions.specs.Alphabet.{isAlphabet}
 use Rattle.definitions.specs.Bytes.{sameBytes, provided, onward}
 use Rattle.definitions.specs.Types.{Ty, typeCode}
@@ -22,7 +22,8 @@ use Rattle.definitions.specs.Typing.{Written, unbound, undecided, fixed,
 use Rattle.definitions.specs.Suggest.{Suggestion, suggestion}
 use Rattle.definitions.specs.Outcome as Outcomes
 use Rattle.definitions.specs.Outcome.{Outcome, ok}
-use Rattle.definitions.specs.Machine.{State, Run, run, lastOf, loaded, withProperties, Taken, taken, withPage, inLimits}
+use Rattle.definitions.specs.Machine.{Store, State, Run, run, lastOf, loaded, withProperties, Taken, taken, withPage, inLimits}
+use Rattle.definitions.specs.Publish.{published}
 use Rattle.definitions.specs.Saved.{termTable, quadTable, held, savedOf, noRun}
 use Rattle.definitions.specs.Evaluate.{Setting, isURI}
 use Rattle.definitions.specs.Sound.{stateSound}
@@ -34,12 +35,14 @@ use Rattle.definitions.specs.declared.Paged.{Paged}
 use Rattle.definitions.specs.declared.TotalAnswer.{TotalAnswer}
 use Rattle.definitions.specs.declared.SuggestAnswer.{SuggestAnswer}
 use Rattle.definitions.specs.declared.SchemaAnswer.{SchemaAnswer}
+use Rattle.definitions.specs.declared.PublishAnswer.{PublishAnswer}
 use Rattle.definitions.specs.declared.LoadAnswer.the-variants as LoadAnswers
 use Rattle.definitions.specs.declared.RunAnswer.the-variants as RunAnswers
 use Rattle.definitions.specs.declared.PageAnswer.the-variants as PageAnswers
 use Rattle.definitions.specs.declared.TotalAnswer.the-variants as TotalAnswers
 use Rattle.definitions.specs.declared.SuggestAnswer.the-variants as SuggestAnswers
 use Rattle.definitions.specs.declared.SchemaAnswer.the-variants as SchemaAnswers
+use Rattle.definitions.specs.declared.PublishAnswer.the-variants as PublishAnswers
 
 -- ── terms, schema and script: 2 to 9 ────────────────────────────────────────────────────────
 
@@ -144,9 +147,12 @@ pub record Lengths : Type 0 where
 abbrev pub lengthsOf : Lent → Lengths
 lengthsOf l = record { ranks = length (l .ranks); termTable = length (l .termTable); quadTable = length (l .quadTable) }
 
--- 1: ranks or a lent table of another length
+-- 1: a lent table of another length; ranks or a lent table
+abbrev pub bothTablesFit : Lengths → Bool
+bothTablesFit n = eqb (n .termTable) termTableWidth && eqb (n .quadTable) quadTableWidth
+
 unfoldable pub tablesFit : Lengths → Bool
-tablesFit n = eqb (n .ranks) ranksWidth && (eqb (n .termTable) termTableWidth && eqb (n .quadTable) quadTableWidth)
+tablesFit n = eqb (n .ranks) ranksWidth && bothTablesFit n
 
 abbrev pub lengthsFit : Lent → Bool
 lengthsFit l = tablesFit (lengthsOf l)
@@ -363,3 +369,33 @@ schemaResult schema (passed g) =
 
 unfoldable pub schemaCall : (page schema : List ℕ) → SchemaResult
 schemaCall page schema = schemaResult schema (schemaTests page schema)
+
+-- ── publish: 1, 10, 22, 23 ──────────────────────────────────────────────────────────────────
+
+-- the page of a fetched graph, for a buffer with room for so many bytes
+unfoldable pub publishIn : (graph room : ℕ) → Store → Result (List ℕ)
+publishIn g room s = do
+  require 22 (isIn g (s .fetched))
+  require 23 (leb (length (published g s)) room)
+  passed (published g s)
+
+-- it is lent no ranks: those that stand here are not looked at
+unfoldable pub publishTests : Lent → SavedRun → (graph room : ℕ) → Result (List ℕ)
+publishTests l saved g room = do
+  require 1 (bothTablesFit (lengthsOf l))
+  x ← given 10 (soundIn l saved)
+  publishIn g room (x .state .store)
+
+-- what the call returns, and the buffer at its end; tables and saved run are only read
+pub record PublishResult : Type 0 where
+  pub returned : PublishAnswer
+  pub page : List ℕ
+
+-- the page stands first, and the rest of the buffer is untouched
+unfoldable pub publishResult : (buffer : List ℕ) → Result (List ℕ) → PublishResult
+publishResult buffer (refused n) = record { returned = PublishAnswers.Refused n; page = buffer }
+publishResult buffer (passed page) =
+    record { returned = PublishAnswers.Published (length page); page = page ++ drop (length page) buffer }
+
+unfoldable pub publishCall : Lent → SavedRun → (graph : ℕ) → (buffer : List ℕ) → PublishResult
+publishCall l saved g buffer = publishResult buffer (publishTests l saved g (length buffer))

@@ -8,7 +8,7 @@ use lib.IntN.{ℤ}
 use lib.ListN.{length}
 use Rattle.definitions.specs.Limits.{variableLimit, graphLimit, depthLimit, pairLimit}
 use Rattle.definitions.specs.Limits.{typesOffset, boundOffset, bindingsOffset, fetchedOffset, itemsOffset, itemWidth, savedWidth}
-use Rattle.definitions.specs.Limits.{runReportWidth, pageReportWidth, totalReportWidth, numberRecordWidth, suggestReportWidth, schemaReportWidth}
+use Rattle.definitions.specs.Limits.{runReportWidth, pageReportWidth, totalReportWidth, numberRecordWidth, suggestReportWidth, schemaReportWidth, publishReportWidth}
 use Rattle.definitions.specs.Lists.{every}
 use Rattle.definitions.specs.Alphabet.{isAlphabet}
 use Rattle.definitions.specs.Bytes.{byte, word, littleBytes, part, provided}
@@ -16,8 +16,8 @@ use Rattle.definitions.specs.Terms.{Term, recordOf}
 use Rattle.definitions.specs.Outcome.{Outcome, ok, _>>=_}
 use Rattle.definitions.specs.Result.{Result, refused, passed}
 use Rattle.definitions.specs.Saved.{zeroItem}
-use Rattle.definitions.specs.Calls.{Lent, lengthsFit, load, runCall, PageResult, pageCall, total, numberCall, suggest, schemaCall}
-use Rattle.definitions.specs.Numbers.{loadNumber, runNumber, pageNumber, totalNumber, resultNumber, stateNumber, wantedGraph, suggestNumber, schemaNumber}
+use Rattle.definitions.specs.Calls.{Lent, lengthsFit, load, runCall, PageResult, pageCall, total, numberCall, suggest, schemaCall, lengthsOf, bothTablesFit, PublishResult, publishCall}
+use Rattle.definitions.specs.Numbers.{loadNumber, runNumber, pageNumber, totalNumber, resultNumber, stateNumber, wantedGraph, suggestNumber, schemaNumber, publishNumber}
 use Rattle.definitions.specs.declared.SavedItem.{SavedItem}
 use Rattle.definitions.specs.declared.SavedRun.{SavedRun}
 use Rattle.definitions.specs.declared.Ran.{Ran}
@@ -31,6 +31,8 @@ use Rattle.definitions.specs.declared.TotalAnswer.the-variants as TotalA
 use Rattle.definitions.specs.declared.SuggestAnswer.the-variants as SuggestAnswers
 use Rattle.definitions.specs.declared.SchemaAnswer.{SchemaAnswer}
 use Rattle.definitions.specs.declared.SchemaAnswer.the-variants as SchemaAnswers
+use Rattle.definitions.specs.declared.PublishAnswer.{PublishAnswer}
+use Rattle.definitions.specs.declared.PublishAnswer.the-variants as PublishAnswers
 
 -- ── the saved run as bytes ────────────────────────────────────────────────────────────────
 
@@ -111,6 +113,11 @@ unfoldable pub totalReport : List ℕ → TotalAnswer → List ℕ
 totalReport report (TotalAnswers.Total n) = littleBytes 4 n
 totalReport report (TotalAnswers.Refused n) = report
 
+-- the page's length
+unfoldable pub publishReport : List ℕ → PublishAnswer → List ℕ
+publishReport report (PublishAnswers.Published n) = littleBytes 4 n
+publishReport report (PublishAnswers.Refused n) = report
+
 -- the record of the term that a text reads as
 unfoldable pub recordAfter : List ℕ → Result Term → List ℕ
 recordAfter lent (refused n) = lent
@@ -163,6 +170,11 @@ pub record SuggestExport : Type 0 where
 pub record SchemaExport : Type 0 where
   pub number : ℕ
   pub schema : List ℕ
+  pub report : List ℕ
+
+pub record PublishExport : Type 0 where
+  pub number : ℕ
+  pub page : List ℕ
   pub report : List ℕ
 
 -- the saved run's bytes where nothing was refused, else those that were lent
@@ -260,4 +272,23 @@ schemaExport page schema report =
     elim (eqb (length report) schemaReportWidth) [
       | true ↦ record { number = schemaNumber (r .answer); schema = r .schema; report = schemaReport report (r .answer) }
       | false ↦ record { number = 1; schema = schema; report = report }
+    ]
+
+abbrev pub refusedPublish : ℕ → (page report : List ℕ) → PublishExport
+refusedPublish n page report = record { number = n; page = page; report = report }
+
+abbrev pub publishedExport : (report : List ℕ) → PublishResult → PublishExport
+publishedExport report r =
+    record { number = publishNumber (r .returned); page = r .page; report = publishReport report (r .returned) }
+
+abbrev pub publishOn : Lent → (graph : ℕ) → (page report : List ℕ) → Option SavedRun → PublishExport
+publishOn l g page report none = refusedPublish 10 page report
+publishOn l g page report (some r) = publishedExport report (publishCall l r g page)
+
+-- it is lent no ranks: those that stand here are not looked at
+unfoldable pub publishExport : Lent → (saved : List ℕ) → (graph : ℕ) → (page report : List ℕ) → PublishExport
+publishExport l saved g page report =
+    elim (bothTablesFit (lengthsOf l) && (eqb (length saved) savedWidth && eqb (length report) publishReportWidth)) [
+      | true ↦ publishOn l g page report (savedFrom saved)
+      | false ↦ refusedPublish 1 page report
     ]

@@ -22,6 +22,7 @@ pub mod Evaluate
 pub mod Evaluated
 pub mod Search
 pub mod Machine
+pub mod Publish
 pub mod Saved
 pub mod Sound
 pub mod Result

@@ -1,5 +1,6 @@
 -- Document 01's number for every case of an enum answer, the graph that a wanted one carries, and the term that a number's text reads as. What else an answer
--- carries stands in the reports (`Exports.runReport`, `Exports.pageReport`, `Exports.totalReport`, `Exports.suggestReport`, `Exports.schemaReport`).
+-- carries stands in the reports (`Exports.runReport`, `Exports.pageReport`, `Exports.totalReport`, `Exports.suggestReport`, `Exports.schemaReport`,
+-- `Exports.publishReport`).
 use Prim.Native.Nat.{ℕ}
 use Rattle.definitions.specs.Bytes.{signed}
 use Rattle.definitions.specs.Terms.{Term}
@@ -13,6 +14,7 @@ use Rattle.definitions.specs.declared.TotalAnswer.{TotalAnswer}
 use Rattle.definitions.specs.declared.NumberAnswer.{NumberAnswer}
 use Rattle.definitions.specs.declared.SuggestAnswer.{SuggestAnswer}
 use Rattle.definitions.specs.declared.SchemaAnswer.{SchemaAnswer}
+use Rattle.definitions.specs.declared.PublishAnswer.{PublishAnswer}
 use Rattle.definitions.specs.declared.LoadAnswer.the-variants as LoadAnswers
 use Rattle.definitions.specs.declared.RunAnswer.the-variants as RunAnswers
 use Rattle.definitions.specs.declared.PageAnswer.the-variants as PageAnswers
@@ -20,6 +22,7 @@ use Rattle.definitions.specs.declared.TotalAnswer.the-variants as TotalA
 use Rattle.definitions.specs.declared.NumberAnswer.the-variants as NumberAnswers
 use Rattle.definitions.specs.declared.SuggestAnswer.the-variants as SuggestAnswers
 use Rattle.definitions.specs.declared.SchemaAnswer.the-variants as SchemaAnswers
+use Rattle.definitions.specs.declared.PublishAnswer.the-variants as PublishAnswers
 
 -- 0, or the refusal's number
 abbrev pub loadNumber : LoadAnswer → ℕ
@@ -37,6 +40,10 @@ pageNumber (PageAnswers.Refused n) = n
 abbrev pub totalNumber : TotalAnswer → ℕ
 totalNumber (TotalAnswers.Total n) = 0
 totalNumber (TotalAnswers.Refused n) = n
+
+abbrev pub publishNumber : PublishAnswer → ℕ
+publishNumber (PublishAnswers.Published length) = 0
+publishNumber (PublishAnswers.Refused n) = n
 
 abbrev pub resultNumber : {A : Type 0} → Result A → ℕ
 resultNumber (refused n) = n

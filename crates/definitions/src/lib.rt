@@ -118,6 +118,8 @@ pub const SUGGEST_REPORT_WIDTH: usize = 4;
 
 pub const SCHEMA_REPORT_WIDTH: usize = 8;
 
+pub const PUBLISH_REPORT_WIDTH: usize = 4;
+
 // The refusals, by document 01's numbers.
 pub const WRONG_LENGTH: u8 = 1;
 
@@ -147,7 +149,8 @@ pub const BAD_PAGE: u8 = 13;
 
 pub const NO_ROOM: u8 = 14;
 
-// Document 02's: a text that is no number's, or whose number no term has; a page that asks for more entries than a schema has; ranks that are no alphabet.
+// Document 02's: a text that is no number's, or whose number no term has; a page that asks for more entries than a schema has; ranks
+// that are no alphabet; a graph that is not fetched, a buffer shorter than its page.
 pub const BAD_NUMBER_TEXT: u8 = 16;
 
 pub const NO_SUCH_NUMBER: u8 = 17;
@@ -155,6 +158,10 @@ pub const NO_SUCH_NUMBER: u8 = 17;
 pub const TOO_MANY_ENTRIES: u8 = 19;
 
 pub const BAD_RANKS: u8 = 21;
+
+pub const NOT_FETCHED: u8 = 22;
+
+pub const SHORT_BUFFER: u8 = 23;
 
 // What reading a record gives: the offset after it, or that it is malformed.
 pub enum Read {
@@ -208,7 +215,7 @@ pub enum RunState {
 
 // The answers of the calls: a refusal's number, or the result: steps and state of a run, the skipped count of a page, the total of
 // a script, the integer or the millionths that a text reads as, in two's complement, a variable and the code of the type to write at
-// it, the entries of a schema out of a page and the subjects left out.
+// it, the entries of a schema out of a page and the subjects left out, the length of a published page.
 pub enum LoadAnswer {
     Accepted,
     Refused(u8),
@@ -244,6 +251,11 @@ pub enum SuggestAnswer {
 
 pub enum SchemaAnswer {
     Gathered(u32, u32),
+    Refused(u8),
+}
+
+pub enum PublishAnswer {
+    Published(u32),
     Refused(u8),
 }
 

@@ -81,7 +81,8 @@ fn counted(loading: &[u8], loaded: usize, table: &[u8]) -> Counted
 }
 
 // Refusal 10 of tables that have their lengths. The codes of least types go on from those of loading's terms, where the table begins with these.
-fn sound(
+// Ruled out: a saved run of other types than those worked out; codes of least types that begin elsewhere.
+pub fn sound(
     terms: &[u8],
     schema: &[u8],
     script: &[u8],

@@ -6,10 +6,10 @@ use mathlib.Core.Bool.{Bool, false, not, _&&_}
 use lib.Dec.{T, eqb, eqb→eq}
 use borrow.Author.Tests.{not-false}
 use Rattle.definitions.specs.Calls.{Lengths, tablesFit}
-use Rattle.definitions.specs.Limits.{ranksWidth, savedWidth}
+use Rattle.definitions.specs.Limits.{ranksWidth, savedWidth, termTableWidth, quadTableWidth}
 use Rattle.definitions.specs.Exports.{savedBytes, savedAfter}
 use Rattle.definitions.specs.declared.SavedRun.{SavedRun}
-use Rattle.exports.specs.Buffers.{buffersFit}
+use Rattle.exports.specs.Buffers.{buffersFit, savedFits}
 use Rattle.laws.proofs.Tests.{andLeft, andRight, isTrue, trueIs}
 use Rattle.entry.proofs.EntryLaws.{fit-ranks}
 
@@ -34,6 +34,24 @@ module _ (lent : Lengths) (saved report width : ℕ) {b : Bool} (is : b ≡ buff
 
   pub report-fits : report ≡ width
   report-fits = eqb→eq report width (andRight (eqb saved savedWidth) (eqb report width) (andRight (tablesFit lent) others all))
+
+-- without ranks
+module _ (terms quads saved report width : ℕ) {b : Bool} (is : b ≡ savedFits terms quads saved report width) (t : not b ≡ false) where
+  abbrev bothTables : Bool
+  bothTables = eqb terms termTableWidth && eqb quads quadTableWidth
+
+  abbrev lastTwo : Bool
+  lastTwo = eqb saved savedWidth && eqb report width
+
+  allFour : T (bothTables && lastTwo)
+  unfolding savedFits
+  allFour = trueIs (bothTables && lastTwo) (sym is ∙ not-false b t)
+
+  pub saved-is : saved ≡ savedWidth
+  saved-is = eqb→eq saved savedWidth (andLeft (eqb saved savedWidth) (eqb report width) (andRight bothTables lastTwo allFour))
+
+  pub report-is : report ≡ width
+  report-is = eqb→eq report width (andRight (eqb saved savedWidth) (eqb report width) (andRight bothTables lastTwo allFour))
 
 -- ── the saved run handed back ───────────────────────────────────────────────────────────────
 

@@ -1,5 +1,5 @@
 -- The demands and requests, held together with the code. The definitions of the calls say what each call gives: answer, saved run and both tables, on refusals too,
--- and at the C interface the number returned and every lent buffer. The first fourteen fields say that the code gives exactly that: they are the contracts of the
+-- and at the C interface the number returned and every lent buffer. The first sixteen fields say that the code gives exactly that: they are the contracts of the
 -- calls and of the exports, met. The others say what follows from the definitions.
 use mathlib.Core.Path.{_≡_}
 use mathlib.Core.List.{List}
@@ -22,6 +22,8 @@ use Rattle.card_calls.proofs.suggest.suggest.Statement as suggest-call
 use Rattle.card_calls.proofs.suggest.suggest.Met as suggest-met
 use Rattle.gathering.proofs.gather.Statement as schema-call
 use Rattle.gathering.proofs.gather.Met as schema-met
+use Rattle.publishing.proofs.publish.Statement as publish-call
+use Rattle.publishing.proofs.publish.Met as publish-met
 use Rattle.exports.proofs.willetcoffer_load.Statement as load-export
 use Rattle.exports.proofs.willetcoffer_load.Met as load-export-met
 use Rattle.exports.proofs.willetcoffer_run.Statement as run-export
@@ -36,6 +38,8 @@ use Rattle.exports.proofs.willetcoffer_suggest.Statement as suggest-exp
 use Rattle.exports.proofs.willetcoffer_suggest.Met as suggest-export-met
 use Rattle.exports.proofs.willetcoffer_schema.Statement as schema-export
 use Rattle.exports.proofs.willetcoffer_schema.Met as schema-export-met
+use Rattle.exports.proofs.willetcoffer_publish.Statement as publish-export
+use Rattle.exports.proofs.willetcoffer_publish.Met as publish-export-met
 use Rattle.theorems.specs.Hosts.{HostCall}
 use Rattle.theorems.specs.Demand1.{Demand1}
 use Rattle.theorems.specs.Demand2.{Demand2}
@@ -49,6 +53,7 @@ use Rattle.theorems.specs.Alphabets.{Alphabets}
 use Rattle.theorems.specs.NumberTexts.{NumberTexts}
 use Rattle.theorems.specs.OneType.{OneTypes}
 use Rattle.theorems.specs.PageSchema.{PageSchemas}
+use Rattle.theorems.specs.Publishing.{Publishing}
 use Rattle.theorems.proofs.Demand1.{demand-1}
 use Rattle.theorems.proofs.Demand2.{demand-2}
 use Rattle.theorems.proofs.Demand3.{demand-3}
@@ -61,6 +66,7 @@ use Rattle.theorems.proofs.Alphabets.{alphabets}
 use Rattle.theorems.proofs.NumberTexts.{number-texts}
 use Rattle.theorems.proofs.OneType.{one-types}
 use Rattle.theorems.proofs.PageSchema.{page-schemas}
+use Rattle.theorems.proofs.Publishing.{publishing}
 
 pub record Demands (M : Type 1) : Type 2 where
   -- the code of each call does what the call's definition says
@@ -71,6 +77,7 @@ pub record Demands (M : Type 1) : Type 2 where
   pub numbers : number-call.statement M
   pub suggestions : suggest-call.statement M
   pub schemas : schema-call.statement M
+  pub publishes : publish-call.statement M
   -- and that of each export what the definition on bytes says
   pub loadExports : load-export.statement M
   pub runExports : run-export.statement M
@@ -79,6 +86,7 @@ pub record Demands (M : Type 1) : Type 2 where
   pub numberExports : number-export.statement M
   pub suggestExports : suggest-export.statement M
   pub schemaExports : schema-export.statement M
+  pub publishExports : publish-export.statement M
   -- refusals, of the calls and at the C interface
   pub first : Demand1
   pub firstOnBytes : ExportRefusals
@@ -102,6 +110,8 @@ pub record Demands (M : Type 1) : Type 2 where
   pub oneTypes : OneTypes
   -- Ask 7: what a schema call leaves is a schema, each datatype the least that meets what is asked
   pub pageSchemas : PageSchemas
+  -- Ask 11: a published page is read as the graph's triples, taken in again it changes nothing, it fits, and the same triples give the same bytes
+  pub publishing : Publishing
 
 pub demands : {M : Type 1} → Demands M
 demands =
@@ -113,6 +123,7 @@ demands =
       numbers = number-met.met;
       suggestions = suggest-met.met;
       schemas = schema-met.met;
+      publishes = publish-met.met;
       loadExports = load-export-met.met;
       runExports = run-export-met.met;
       pageExports = page-export-met.met;
@@ -120,6 +131,7 @@ demands =
       numberExports = number-export-met.met;
       suggestExports = suggest-export-met.met;
       schemaExports = schema-export-met.met;
+      publishExports = publish-export-met.met;
       first = demand-1;
       firstOnBytes = export-refusals;
       second = demand-2;
@@ -132,4 +144,5 @@ demands =
       numberTexts = number-texts;
       oneTypes = one-types;
       pageSchemas = page-schemas;
+      publishing = publishing;
     }

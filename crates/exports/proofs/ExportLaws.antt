@@ -10,12 +10,13 @@ use borrow.Author.Tests.{eq-eqb, ne-eqb, not-true, not-false}
 use Rattle.definitions.specs.Terms.{Term}
 use Rattle.definitions.specs.Outcome.{ok, _>>=_}
 use Rattle.definitions.specs.Result.{Result}
-use Rattle.definitions.specs.Calls.{Lent, lengthsOf, load, runCall, pageCall, total, numberCall, suggest, SchemaResult, schemaCall}
+use Rattle.definitions.specs.Calls.{Lent, lengthsOf, load, runCall, pageCall, total, numberCall, suggest, SchemaResult, schemaCall, publishCall}
 use Rattle.definitions.specs.Alphabet.{isAlphabet}
-use Rattle.definitions.specs.Numbers.{loadNumber, runNumber, pageNumber, totalNumber, resultNumber, suggestNumber, schemaNumber}
-use Rattle.definitions.specs.Limits.{savedWidth, runReportWidth, pageReportWidth, totalReportWidth, numberRecordWidth, suggestReportWidth, schemaReportWidth}
-use Rattle.definitions.specs.Exports.{savedFrom, savedAfter, runReport, pageReport, totalReport, recordAfter, suggestReport, schemaReport}
+use Rattle.definitions.specs.Numbers.{loadNumber, runNumber, pageNumber, totalNumber, resultNumber, suggestNumber, schemaNumber, publishNumber}
+use Rattle.definitions.specs.Limits.{savedWidth, runReportWidth, pageReportWidth, totalReportWidth, numberRecordWidth, suggestReportWidth, schemaReportWidth, publishReportWidth}
+use Rattle.definitions.specs.Exports.{savedFrom, savedAfter, runReport, pageReport, totalReport, recordAfter, suggestReport, schemaReport, publishReport}
 use Rattle.definitions.specs.Exports.{loadExport, refusedRun, ranExport, runExport, refusedPage, pagedExport, pageExport, totalExport, numberExport, suggestExport, schemaExport}
+use Rattle.definitions.specs.Exports.{publishExport}
 use Rattle.definitions.specs.declared.SavedRun.{SavedRun}
 use Rattle.definitions.specs.declared.Loaded.{Loaded}
 use Rattle.definitions.specs.declared.Ran.{Ran}
@@ -23,11 +24,12 @@ use Rattle.definitions.specs.declared.Paged.{Paged}
 use Rattle.definitions.specs.declared.TotalAnswer.{TotalAnswer}
 use Rattle.definitions.specs.declared.SuggestAnswer.{SuggestAnswer}
 use Rattle.definitions.specs.declared.SchemaAnswer.{SchemaAnswer}
+use Rattle.definitions.specs.declared.PublishAnswer.{PublishAnswer}
 use Rattle.laws.proofs.SoundIn.{entry-ranks}
 use Rattle.entry.specs.Entry.{unreadNumber}
 use Rattle.engine.proofs.RunLaws as RunLaws
 use Rattle.engine.proofs.PageLaws as PageLaws
-use Rattle.exports.specs.Buffers.{buffersFit}
+use Rattle.exports.specs.Buffers.{buffersFit, savedFits}
 use Rattle.exports.proofs.BufferLaws.{tables-fit}
 
 -- ── load ────────────────────────────────────────────────────────────────────────────────────
@@ -185,3 +187,24 @@ module _ (page schema report : List ℕ) where
       let x : SchemaResult = record { answer = answer; schema = after } in
       rw (schemaExport, eq-eqb (length report) schemaReportWidth h, call)
       (λ i. record { number = sym number i; schema = x .schema; report = sym written i })
+
+-- ── publish ─────────────────────────────────────────────────────────────────────────────────
+
+module _ (l : Lent) (saved : List ℕ) (g : ℕ) (page report : List ℕ) where
+  abbrev publishFits : Bool
+  publishFits = savedFits (length (l .termTable)) (length (l .quadTable)) (length saved) (length report) publishReportWidth
+
+  pub publish-length : {b : Bool} → b ≡ publishFits → not b ≡ true → publishExport l saved g page report ≡ record { number = 1; page = page; report = report }
+  unfolding publishExport savedFits
+  publish-length e t = rw (publishExport, sym e ∙ not-true _ t)
+
+  module _ {b : Bool} (e : b ≡ publishFits) (t : not b ≡ false) where
+    pub publish-unread : savedFrom saved ≡ none → publishExport l saved g page report ≡ record { number = 10; page = page; report = report }
+    unfolding publishExport savedFits
+    publish-unread u = rw (publishExport, sym e ∙ not-false b t, u) refl
+
+    pub publish-done : {r : SavedRun} {x : PublishAnswer} {q p : List ℕ} {n : ℕ} → savedFrom saved ≡ some r → publishCall l r g page ≡ record { returned = x; page = q }
+        → p ≡ publishReport report x → n ≡ publishNumber x → publishExport l saved g page report ≡ record { number = n; page = q; report = p }
+    unfolding publishExport savedFits
+    publish-done {q = q} u call written number =
+        rw (publishExport, sym e ∙ not-false b t, u, call) (λ i. record { number = sym number i; page = q; report = sym written i })

@@ -2,7 +2,7 @@
 ghost use mathlib.Core.Path.{_≡_};
 ghost use Rattle.definitions.specs.Limits.{savedWidth};
 ghost use Rattle.definitions.specs.Exports.{savedAfter};
-ghost use Rattle.exports.specs.Buffers.{buffersFit};
+ghost use Rattle.exports.specs.Buffers.{buffersFit, savedFits};
 use definitions::QUAD_TABLE_WIDTH;
 use definitions::RANKS_WIDTH;
 use definitions::SAVED_WIDTH;
@@ -23,6 +23,15 @@ pub fn buffers_fit(
     ensures { λ r. ⌜ r ≡ buffersFit (record { ranks = ranks; termTable = terms; quadTable = quads }) saved report width ⌝ }
 {
     ((ranks == RANKS_WIDTH) & ((terms == TERM_TABLE_WIDTH) & (quads == QUAD_TABLE_WIDTH)))
+        & ((saved == SAVED_WIDTH) & (report == width))
+}
+
+// Tables, saved run and report have their lengths, of a call that is lent no ranks.
+// Ruled out: a saved run of another length taken for good; a test of the report alone.
+pub fn saved_fits(terms: usize, quads: usize, saved: usize, report: usize, width: usize) -> bool
+    ensures { λ r. ⌜ r ≡ savedFits terms quads saved report width ⌝ }
+{
+    ((terms == TERM_TABLE_WIDTH) & (quads == QUAD_TABLE_WIDTH))
         & ((saved == SAVED_WIDTH) & (report == width))
 }
 

@@ -2,15 +2,19 @@
 pub mod handing; // handing.rt: what load, run and page have in common
 
 ghost use mathlib.Core.Path.{_≡_};
+ghost use mathlib.Core.List.{List};
+ghost use Prim.Native.Nat.{ℕ};
 ghost use Rattle.definitions.specs.Outcome.{ok};
-ghost use Rattle.definitions.specs.Exports.{loadExport, runExport, pageExport, totalExport, numberExport, suggestExport, schemaExport};
+ghost use Rattle.definitions.specs.Exports.{loadExport, runExport, pageExport, totalExport, numberExport, suggestExport, schemaExport, publishExport};
 use definitions::NUMBER_RECORD_WIDTH;
 use definitions::PAGE_REPORT_WIDTH;
+use definitions::PUBLISH_REPORT_WIDTH;
 use definitions::RUN_REPORT_WIDTH;
 use definitions::SAVED_WIDTH;
 use definitions::SCHEMA_REPORT_WIDTH;
 use definitions::SUGGEST_REPORT_WIDTH;
 use definitions::TOTAL_REPORT_WIDTH;
+use definitions::UNSOUND;
 use layout::reading;
 
 // Load: 1, 21, 2 to 9.
@@ -248,4 +252,58 @@ pub extern "C" fn willetcoffer_schema(page: &[u8], schema: &mut [u8], report: &m
     let answer = gathering::gather(page, schema);
     reports::write_schema_report(answer, report);
     reports::schema_number(answer)
+}
+
+// Publish: 1, 10, 22, 23.
+// Ruled out: a publish that takes a report of any length; one that reports the length of a page that it does not write.
+#[no_mangle]
+pub extern "C" fn willetcoffer_publish(
+    terms: &[u8],
+    schema: &[u8],
+    script: &[u8],
+    term_table: &[u8],
+    quad_table: &[u8],
+    saved: &[u8],
+    graph: u64,
+    page: &mut [u8],
+    report: &mut [u8],
+) -> u32
+    ensures { λ r. ⌜ ((ranks : List ℕ) → publishExport
+        (record {
+          ranks = ranks;
+          terms = now (terms .entry);
+          schema = now (schema .entry);
+          script = now (script .entry);
+          termTable = now («term_table» .entry);
+          quadTable = now («quad_table» .entry);
+        })
+        (now (saved .entry)) graph (now (page .entry)) (now (report .entry))
+        ≡ record { number = r; page = now (page .exit); report = now (report .exit) }) ⌝ }
+{
+    if !handing::saved_fits(
+        term_table.len(),
+        quad_table.len(),
+        saved.len(),
+        report.len(),
+        PUBLISH_REPORT_WIDTH,
+    ) {
+        return 1;
+    }
+    let read = reading::read_saved(saved);
+    if !read.ok {
+        return UNSOUND as u32;
+    }
+    let before = read.saved;
+    let answer = publishing::publish(
+        terms,
+        schema,
+        script,
+        term_table,
+        quad_table,
+        before,
+        graph,
+        page,
+    );
+    reports::write_publish_report(answer, report);
+    reports::publish_number(answer)
 }

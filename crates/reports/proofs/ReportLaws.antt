@@ -6,18 +6,20 @@ use Rattle.definitions.specs.Bytes.{littleBytes}
 use Rattle.definitions.specs.Limits.{numberWidth, suggestReportWidth}
 use Rattle.definitions.specs.Terms.{bodyOf}
 use Rattle.definitions.specs.Numbers.{stateNumber, wantedGraph, termRead}
-use Rattle.definitions.specs.Exports.{runReport, pageReport, totalReport, recordAfter, suggestReport, schemaReport}
+use Rattle.definitions.specs.Exports.{runReport, pageReport, totalReport, recordAfter, suggestReport, schemaReport, publishReport}
 use native.Mathlib.Omega.{arith}
 use lib.ListN.{length, set}
 use Rattle.definitions.specs.declared.RunState.{RunState}
 use Rattle.definitions.specs.declared.RunAnswer.{RunAnswer}
 use Rattle.definitions.specs.declared.PageAnswer.{PageAnswer}
 use Rattle.definitions.specs.declared.TotalAnswer.{TotalAnswer}
+use Rattle.definitions.specs.declared.PublishAnswer.{PublishAnswer}
 use Rattle.definitions.specs.declared.NumberAnswer.{NumberAnswer}
 use Rattle.definitions.specs.declared.SchemaAnswer.{SchemaAnswer}
 use Rattle.definitions.specs.declared.RunAnswer.the-variants as RunAnswers
 use Rattle.definitions.specs.declared.PageAnswer.the-variants as PageAnswers
 use Rattle.definitions.specs.declared.TotalAnswer.the-variants as TotalAnswers
+use Rattle.definitions.specs.declared.PublishAnswer.the-variants as PublishAnswers
 use Rattle.definitions.specs.declared.NumberAnswer.the-variants as NumberAnswers
 use Rattle.definitions.specs.declared.SchemaAnswer.the-variants as SchemaAnswers
 use Rattle.laws.proofs.Bytes.{unsigned-signed}
@@ -51,6 +53,15 @@ module _ (report : List ℕ) {answer : TotalAnswer} where
   pub total-told : {steps : ℕ} → answer ≡ TotalAnswers.Total steps → {p : List ℕ} → p ≡ littleBytes 4 steps → p ≡ totalReport report answer
   unfolding totalReport
   total-told e s = s ∙ ap (totalReport report) (sym e)
+
+module _ (report : List ℕ) {answer : PublishAnswer} where
+  pub publish-refused : {n : ℕ} → answer ≡ PublishAnswers.Refused n → report ≡ publishReport report answer
+  unfolding publishReport
+  publish-refused e = rw e
+
+  pub publish-told : {n : ℕ} → answer ≡ PublishAnswers.Published n → {p : List ℕ} → p ≡ littleBytes 4 n → p ≡ publishReport report answer
+  unfolding publishReport
+  publish-told e s = s ∙ ap (publishReport report) (sym e)
 
 module _ (lent : List ℕ) {answer : NumberAnswer} where
   pub number-refused : {n : ℕ} → answer ≡ NumberAnswers.Refused n → lent ≡ recordAfter lent (termRead answer)

@@ -1,15 +1,16 @@
-// The numbers of the answers, the reports of a run, of a page, of a total, of a suggestion and of a schema out of a page, and the
-// record of a number.
+// The numbers of the answers, the reports of a run, of a page, of a total, of a suggestion, of a schema out of a page and of a
+// published page, and the record of a number.
 ghost use mathlib.Core.Path.{_≡_};
 ghost use mathlib.Core.List.{[], _∷_};
 ghost use Rattle.definitions.specs.Bytes.{littleBytes};
-ghost use Rattle.definitions.specs.Numbers.{loadNumber, runNumber, pageNumber, totalNumber, resultNumber, termRead, suggestNumber, stateNumber, wantedGraph, schemaNumber};
-ghost use Rattle.definitions.specs.Limits.{numberWidth, numberRecordWidth, runReportWidth, pageReportWidth, totalReportWidth, suggestReportWidth, schemaReportWidth};
-ghost use Rattle.definitions.specs.Exports.{runReport, pageReport, totalReport, recordAfter, suggestReport, schemaReport};
+ghost use Rattle.definitions.specs.Numbers.{loadNumber, runNumber, pageNumber, totalNumber, resultNumber, termRead, suggestNumber, stateNumber, wantedGraph, schemaNumber, publishNumber};
+ghost use Rattle.definitions.specs.Limits.{numberWidth, numberRecordWidth, runReportWidth, pageReportWidth, totalReportWidth, suggestReportWidth, schemaReportWidth, publishReportWidth};
+ghost use Rattle.definitions.specs.Exports.{runReport, pageReport, totalReport, recordAfter, suggestReport, schemaReport, publishReport};
 use definitions::LoadAnswer;
 use definitions::NUMBER_RECORD_WIDTH;
 use definitions::NumberAnswer;
 use definitions::PageAnswer;
+use definitions::PublishAnswer;
 use definitions::RunAnswer;
 use definitions::RunState;
 use definitions::SchemaAnswer;
@@ -51,6 +52,15 @@ pub fn total_number(answer: TotalAnswer) -> u32
     match answer {
         TotalAnswer::Total(_) => 0,
         TotalAnswer::Refused(n) => n as u32,
+    }
+}
+
+pub fn publish_number(answer: PublishAnswer) -> u32
+    ensures { λ r. ⌜ r ≡ publishNumber answer ⌝ }
+{
+    match answer {
+        PublishAnswer::Published(_) => 0,
+        PublishAnswer::Refused(n) => n as u32,
     }
 }
 
@@ -141,6 +151,17 @@ pub fn write_total_report(answer: TotalAnswer, out: &mut [u8])
         return;
     };
     writing::write_number(steps as u64, out);
+}
+
+// The published page's length; a refused call leaves the report as it was.
+pub fn write_publish_report(answer: PublishAnswer, out: &mut [u8])
+    requires { do ⌜ (← ⟦out.len()⟧) ≡ publishReportWidth ⌝ }
+    ensures { λ r. ⌜ now (out .exit) ≡ publishReport (now (out .entry)) answer ⌝ }
+{
+    let PublishAnswer::Published(length) = answer else {
+        return;
+    };
+    writing::write_number(length as u64, out);
 }
 
 // A number's record.

@@ -9,7 +9,7 @@ use lib.Dec.{eqb, leb}
 use lib.ListN.{length, getElem?}
 use lib.IntN.{ℤ}
 use Rattle.definitions.specs.Limits.{entryLimit, budgetLimit, schemaWidth}
-use Rattle.definitions.specs.Lists.{every, some?, distinct, isEmpty}
+use Rattle.definitions.specs.Lists.{every, some?, distinct, isEmpty, isIn}
 use Rattle.definitions.specs.Alphabet.{isAlphabet}
 use Rattle.definitions.specs.Bytes.{onward}
 use Rattle.definitions.specs.Types.{Ty}
@@ -29,16 +29,17 @@ use Rattle.definitions.specs.Calls.{recordTests, sizesFit, scriptTests, Parsed,
 use Rattle.definitions.specs.Calls.{Checked, constantsOf, typesOf, typeTests, check, Lent, lengthsFit, loadTests, loadResult, load, soundIn, entryTests}
 use Rattle.definitions.specs.Calls.{runIn, Running, runTests, ranOf, runResult, runCall}
 use Rattle.definitions.specs.Calls.{isGraph, pageIn, takeIn, Taking, pageTests, pageResult, pageCall, totalResult, total, numberCall, schemaTests, schemaResult, schemaCall}
-use Rattle.definitions.specs.Calls.{suggestAnswer, suggestFor, suggestResult, suggest}
+use Rattle.definitions.specs.Calls.{suggestAnswer, suggestFor, suggestResult, suggest, lengthsOf, bothTablesFit, publishIn, publishTests, publishResult, publishCall}
 use Rattle.definitions.specs.Numbers.{suggestNumber}
+use Rattle.definitions.specs.Publish.{published}
 use Rattle.definitions.specs.declared.SavedRun.{SavedRun}
 use Rattle.definitions.specs.declared.RunAnswer.the-variants as RunAnswers
 use Rattle.definitions.specs.declared.SuggestAnswer.{SuggestAnswer}
 use Rattle.definitions.specs.declared.SuggestAnswer.the-variants as SuggestAnswers
 use Rattle.laws.proofs.Results.{by-bind, by-after}
 use Rattle.theorems.proofs.CallsPassed.{run-passed, run-fine, run-gives}
-use Rattle.theorems.specs.Demand1.{firstBroken, isThere, ifThere, readRules, loadRules, runRules, pageRules, numberRules, schemaRules, suggestRules}
-use Rattle.theorems.specs.Demand1.{LoadRefuses, RunRefuses, PageRefuses, TotalRefuses, NumberRefuses, SchemaRefuses, SuggestRefuses, Demand1}
+use Rattle.theorems.specs.Demand1.{firstBroken, isThere, ifThere, readRules, loadRules, runRules, pageRules, numberRules, schemaRules, suggestRules, publishRules}
+use Rattle.theorems.specs.Demand1.{LoadRefuses, RunRefuses, PageRefuses, TotalRefuses, NumberRefuses, SchemaRefuses, SuggestRefuses, PublishRefuses, Demand1}
 
 -- ── the proof: tests follow a table ─────────────────────────────────────────────────────────
 
@@ -315,6 +316,25 @@ module _ (page schema : List ℕ) where
   schema-refuses (refused n) (refuses e h) q = record { number = rw q e; keeps = λ k. rw q refl; answers = λ z. absurd (h (e ∙ z)) }
   schema-refuses (passed g) (passes e) q = record { number = rw q (sym e); keeps = λ k. absurd (k e); answers = λ z. (length (g .entries), g .leftOut, rw q refl) }
 
+-- ── the proof: publish ──────────────────────────────────────────────────────────────────────
+
+module _ (l : Lent) (saved : SavedRun) (g : ℕ) (buffer : List ℕ) where
+  abbrev publishTable : List (ℕ × Bool)
+  publishTable = publishRules (bothTablesFit (lengthsOf l)) (soundIn l saved) g (length buffer)
+
+  publish-follows : Follows (publishTests l saved g (length buffer)) publishTable
+  unfolding publishTests publishIn ifThere
+  publish-follows =
+      rule 1 (λ e. omega (arith, e)) (bothTablesFit (lengthsOf l))
+      (there 10 (λ e. omega (arith, e)) (soundIn l saved) λ x e₁₀. rw e₁₀
+      (rule 22 (λ e. omega (arith, e)) (isIn g (x .state .store .fetched))
+      (rule 23 (λ e. omega (arith, e)) (leb (length (published g (x .state .store))) (length buffer)) end)))
+
+  publish-refuses : (r : Result (List ℕ)) → Follows r publishTable → publishTests l saved g (length buffer) ≡ r → PublishRefuses l saved g buffer
+  unfolding publishCall publishResult
+  publish-refuses (refused n) (refuses e h) q = record { number = rw q e; keeps = λ k. rw q refl; answers = λ z. absurd (h (e ∙ z)) }
+  publish-refuses (passed page) (passes e) q = record { number = rw q (sym e); keeps = λ k. absurd (k e); answers = λ z. (length page, rw q refl) }
+
 -- ── the theorem ─────────────────────────────────────────────────────────────────────────────
 
 pub demand-1 : Demand1
@@ -328,4 +348,5 @@ demand-1 = record {
   number = λ text. number-refuses text (numberCall text) (number-follows text) refl;
   suggest = λ terms schema script. suggest-refuses terms schema script (readTests terms schema script) (suggest-follows terms schema script) refl;
   schema = λ page schema. schema-refuses page schema (schemaTests page schema) (schema-follows page schema) refl;
+  publish = λ l saved g buffer. publish-refuses l saved g buffer (publishTests l saved g (length buffer)) (publish-follows l saved g buffer) refl;
 }

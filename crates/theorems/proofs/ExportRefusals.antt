@@ -12,11 +12,12 @@ use Rattle.definitions.specs.Terms.{Term}
 use Rattle.definitions.specs.Outcome.{ok, _>>=_}
 use Rattle.definitions.specs.Result.{Result, refused, passed}
 use Rattle.definitions.specs.Alphabet.{isAlphabet}
-use Rattle.definitions.specs.Calls.{Lent, lengthsFit, load, soundIn, pageCall, total, numberCall, suggest, schemaCall}
-use Rattle.definitions.specs.Numbers.{loadNumber, runNumber, pageNumber, totalNumber, resultNumber, suggestNumber, schemaNumber}
-use Rattle.definitions.specs.Limits.{savedWidth, runReportWidth, pageReportWidth, totalReportWidth, numberRecordWidth, suggestReportWidth, schemaReportWidth}
-use Rattle.definitions.specs.Exports.{savedFrom, runReport, pageReport, totalReport, savedAfter, recordAfter, suggestReport, schemaReport}
+use Rattle.definitions.specs.Calls.{Lent, lengthsFit, load, soundIn, pageCall, total, numberCall, suggest, schemaCall, lengthsOf, bothTablesFit, publishCall}
+use Rattle.definitions.specs.Numbers.{loadNumber, runNumber, pageNumber, totalNumber, resultNumber, suggestNumber, schemaNumber, publishNumber}
+use Rattle.definitions.specs.Limits.{savedWidth, runReportWidth, pageReportWidth, totalReportWidth, numberRecordWidth, suggestReportWidth, schemaReportWidth, publishReportWidth}
+use Rattle.definitions.specs.Exports.{savedFrom, runReport, pageReport, totalReport, savedAfter, recordAfter, suggestReport, schemaReport, publishReport}
 use Rattle.definitions.specs.Exports.{loadExport, RunExport, runOn, runExport, pageOn, pageExport, ranExport, totalExport, numberExport, suggestExport, schemaExport}
+use Rattle.definitions.specs.Exports.{publishOn, publishExport}
 use Rattle.definitions.specs.declared.SavedRun.{SavedRun}
 use Rattle.definitions.specs.declared.RunAnswer.{RunAnswer}
 use Rattle.definitions.specs.declared.PageAnswer.{PageAnswer}
@@ -26,10 +27,13 @@ use Rattle.definitions.specs.declared.RunAnswer.the-variants as RunAnswers
 use Rattle.definitions.specs.declared.PageAnswer.the-variants as PageAnswers
 use Rattle.definitions.specs.declared.TotalAnswer.the-variants as TotalAnswers
 use Rattle.definitions.specs.declared.SuggestAnswer.the-variants as SuggestAnswers
+use Rattle.definitions.specs.declared.PublishAnswer.{PublishAnswer}
+use Rattle.definitions.specs.declared.PublishAnswer.the-variants as PublishAnswers
 use Rattle.laws.proofs.Tests.{andLeft, isTrue, trueIs}
-use Rattle.theorems.specs.Demand1.{firstBroken, isThere, loadRules, runRules, pageRules}
+use Rattle.theorems.specs.Demand1.{firstBroken, isThere, loadRules, runRules, pageRules, publishRules}
 use Rattle.theorems.proofs.Demand1.{demand-1}
 use Rattle.theorems.specs.ExportRefusals.{buffersFit, loadBroken, LoadRefuses, RunRefuses, PageRefuses, TotalRefuses, NumberRefuses, ExportRefusals, SuggestRefuses, SchemaRefuses}
+use Rattle.theorems.specs.ExportRefusals.{savedFits, PublishRefuses}
 use Rattle.definitions.specs.declared.SchemaAnswer.{SchemaAnswer}
 use Rattle.definitions.specs.declared.SchemaAnswer.the-variants as SchemaAnswers
 
@@ -228,6 +232,32 @@ module _ (page schema report : List ℕ) where
         keeps = rw (e, schemaExport) (λ h. (d .keeps h, schema-report-kept (schemaCall page schema .answer) (λ z. h (sym (d .number) ∙ z))));
       }
 
+module _ (l : Lent) (saved : List ℕ) (g : ℕ) (page report : List ℕ) where
+  publish-report-kept : (a : PublishAnswer) → (publishNumber a ≡ 0 → ⊥) → publishReport report a ≡ report
+  unfolding publishReport
+  publish-report-kept (PublishAnswers.Published n) h = absurd (h refl)
+  publish-report-kept (PublishAnswers.Refused n) h = refl
+
+  publish-on : (o : Option SavedRun) → T (bothTablesFit (lengthsOf l)) → let r = publishOn l g page report o in
+      (r .number ≡ firstBroken (publishRules true (onward o (soundIn l)) g (length page)))
+      × ((firstBroken (publishRules true (onward o (soundIn l)) g (length page)) ≡ 0 → ⊥) → (r .page ≡ page) × (r .report ≡ report))
+  unfolding onward firstBroken isThere
+  publish-on none fit = (refl, λ h. (refl, refl))
+  publish-on (some r) fit =
+      let d = demand-1 .publish l r g page in
+      let same : firstBroken (publishRules (bothTablesFit (lengthsOf l)) (soundIn l r) g (length page)) ≡ firstBroken (publishRules true (soundIn l r) g (length page)) =
+      rw (isTrue (bothTablesFit (lengthsOf l)) fit) refl in
+      let n = d .number ∙ same in
+      (n, λ h. (d .keeps (λ z. h (sym same ∙ z)), publish-report-kept (publishCall l r g page .returned) (λ z. h (sym n ∙ z))))
+
+  publish-refuses : (b : Bool) → savedFits l saved report publishReportWidth ≡ b → PublishRefuses l saved g page report
+  unfolding publishExport firstBroken
+  publish-refuses false e = record { number = rw (e, publishExport) refl; keeps = λ h. rw (e, publishExport) (refl, refl) }
+  publish-refuses true e =
+      let others = eqb (length saved) savedWidth && eqb (length report) publishReportWidth in
+      let x = publish-on (savedFrom saved) (andLeft (bothTablesFit (lengthsOf l)) others (trueIs (bothTablesFit (lengthsOf l) && others) e)) in
+      record { number = rw (e, publishExport) (x .0); keeps = rw (e, publishExport) (x .1) }
+
 -- ── the theorem ─────────────────────────────────────────────────────────────────────────────
 
 pub export-refusals : ExportRefusals
@@ -239,4 +269,5 @@ export-refusals = record {
   number = λ text lent. number-refuses text lent (eqb (length lent) numberRecordWidth) refl;
   suggest = λ terms schema script report. suggest-refuses terms schema script report (eqb (length report) suggestReportWidth) refl;
   schema = λ page schema report. schema-refuses page schema report (eqb (length report) schemaReportWidth) refl;
+  publish = λ l saved g page report. publish-refuses l saved g page report (savedFits l saved report publishReportWidth) refl;
 }

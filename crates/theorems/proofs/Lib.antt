@@ -28,3 +28,4 @@ pub mod NumeralForms
 pub mod PrintedDigits
 pub mod NumberTexts
 pub mod PageSchema
+pub mod Publishing

@@ -3,7 +3,7 @@ use Prim.Native.Nat.{ℕ, zero, _+_}
 use native.Mathlib.Omega.{arith}
 use mathlib.Core.Path.{_≡_, refl, sym, ap, _∙_, subst, subst⁻¹}
 use mathlib.Core.Logic.{⊎-elim}
-use mathlib.Core.List.{List, [], _∷_, _++_, List·Memᴰ·not-nil, List·Memᴰ·cases-cons}
+use mathlib.Core.List.{List, [], _∷_, List·Memᴰ·not-nil, List·Memᴰ·cases-cons}
 use mathlib.Core.Bool.{Bool, true, false, cond, not, _||_}
 use mathlib.Core.Option.{some, Option·some-injective}
 use lib.Dec.{T, eqb→eq, T-not, not-T}
@@ -15,19 +15,19 @@ use Rattle.definitions.specs.Evaluate.{Quad, sameQuad, stored}
 use Rattle.definitions.specs.Machine.{State, Taken, skip, inOrder, withQuad, store, wellTyped, takeOne, takeAll, joined, ofGraph, taken, withPage}
 use Rattle.definitions.specs.Result.{passed}
 use Rattle.definitions.specs.Calls.{Checked, pageIn, PageTaken, pageTaken, takeIn}
-use Rattle.laws.proofs.Tests.{isFalse, trueIs, falseIs, notBoth, by-test}
+use Rattle.laws.proofs.Tests.{isFalse, trueIs, falseIs, notBoth}
 use Rattle.laws.specs.Lists.{All}
 use Rattle.laws.proofs.All.{kept, all-weaken, all-at}
 use Rattle.laws.specs.Lists.{_∈_}
 use Rattle.laws.proofs.Equality.{same-quad, quad-refl}
 use Rattle.laws.specs.Bindings.{Extends}
-use Rattle.laws.proofs.TermNumbers.{number-unique}
 use Rattle.laws.specs.Quads.{Names}
 use Rattle.laws.proofs.QuadOrder.{in-order-apart, with-quad-all, with-quad-keep, stored-now, stored-still}
 use Rattle.laws.proofs.Taking.{names-more, stored-one, joined-has, joined-keeps, joined-cases, take-one, take-all}
 use Rattle.laws.proofs.PageCheck.{page-passed}
 use Rattle.laws.specs.Sound.{Accepted, Sound}
 use Rattle.laws.proofs.SoundMeans.{Facts, facts}
+use Rattle.triples.proofs.Graphs.{names-tell}
 use Rattle.safety.proofs.PageSound.{page-sound}
 use Rattle.theorems.specs.PageLeaves.{FromPage, notOf, PageLeaves}
 
@@ -130,14 +130,6 @@ module _ (S : Schema) (g : ℕ) where
           take-one S g (λ j. Ends x (takeAll S g rs j)) x k
           (λ v. let n = now-there x k in (n .0, n .1, still-there (n .0) x rs (store g x k) (n .2))) (λ v. absurd (notBoth (wellTyped S x) u v))
 
--- two quads of one graph with the numbers of the same terms are one
-same-names : (terms : List Term) → T (distinct sameTerm terms) → (p q : Quad) → p .graph ≡ q .graph → (r : Triple) → Names terms p r → Names terms q r → p ≡ q
-same-names terms h p q e r a b =
-    let s = number-unique (Term.uri (r .subject)) terms h (p .subject) (q .subject) (a .subject) (b .subject) in
-    let y = number-unique (Term.uri (r .property)) terms h (p .property) (q .property) (a .property) (b .property) in
-    let o = number-unique (r .object) terms h (p .object) (q .object) (a .object) (b .object) in
-    λ i. record { graph = e i; subject = s i; property = y i; object = o i }
-
 -- ── terms and the skipped count ─────────────────────────────────────────────────────────────
 
 all-extends : (S : Schema) (g : ℕ) (page : List Triple) (k : Taken) → Extends (k .terms) (takeAll S g page k .terms)
@@ -179,7 +171,7 @@ module _ (S : Schema) (g : ℕ) (page : List Triple) (s : State) where
       (λ q n e. absurd (T-not (ofGraph g q) n (trueIs (ofGraph g q) (eq-eqb (q .graph) g e))))
       (keep (notOf g) (s .store .quads)) (kept (notOf g) (s .store .quads))
 
-  leaves : T (distinct sameTerm (end .terms)) → T (inOrder (end .quads)) → PageLeaves S g page s (pageTaken g (taken S g page (s .store)) s)
+  pub leaves : T (distinct sameTerm (end .terms)) → T (inOrder (end .quads)) → PageLeaves S g page s (pageTaken g (taken S g page (s .store)) s)
   unfolding taken withPage stored
   leaves apart order =
       let others = all-others S g page start ∙ keep-keep (notOf g) (s .store .quads) in
@@ -190,7 +182,7 @@ module _ (S : Schema) (g : ℕ) (page : List Triple) (s : State) where
           λ m. all-at sameQuad same-quad quad-refl (λ q. q .graph ≡ g → FromPage S page (end .terms) q) q (end .quads) (all-own S g page start none-own) m e,
           λ f.
               let x = all-there S g page start (f .triple) (f .inPage) (f .typed) in
-              let one = same-names (end .terms) apart q (x .0) (e ∙ sym (x .1)) (f .triple) (f .names) (x .2 .names) in
+              let one = names-tell (end .terms) apart q (x .0) (e ∙ sym (x .1)) (f .triple) (f .names) (x .2 .names) in
               subst⁻¹ (λ q. T (stored q (end .quads))) one (x .2 .isStored),
         );
         others = others;

@@ -14,7 +14,7 @@ use lib.Dec.{eqb, leb}
 use lib.ListN.{length, getElem?}
 use lib.IntN.{ℤ}
 use Rattle.definitions.specs.Limits.{entryLimit, budgetLimit, schemaWidth}
-use Rattle.definitions.specs.Lists.{every, some?, distinct, isEmpty}
+use Rattle.definitions.specs.Lists.{every, some?, distinct, isEmpty, isIn}
 use Rattle.definitions.specs.Alphabet.{isAlphabet}
 use Rattle.definitions.specs.Bytes.{onward}
 use Rattle.definitions.specs.Types.{Ty}
@@ -26,10 +26,12 @@ use Rattle.definitions.specs.Scope.{inScope}
 use Rattle.definitions.specs.Typing.{writtenTypes, typings, above}
 use Rattle.definitions.specs.Outcome.{ok}
 use Rattle.definitions.specs.Machine.{withProperties, taken, withPage, inLimits}
+use Rattle.definitions.specs.Publish.{published}
 use Rattle.definitions.specs.Result.{passed, given}
 use Rattle.definitions.specs.Numerals.{numeralOf, termOf}
 use Rattle.definitions.specs.Calls.{constantsOf, sizesFit, Lent, lengthsFit, load, Sound, soundIn, runCall, isGraph, pageIn, pageCall, total, numberCall, suggest, schemaCall}
-use Rattle.definitions.specs.Numbers.{loadNumber, runNumber, pageNumber, totalNumber, resultNumber, suggestNumber, schemaNumber}
+use Rattle.definitions.specs.Calls.{lengthsOf, bothTablesFit, publishCall}
+use Rattle.definitions.specs.Numbers.{loadNumber, runNumber, pageNumber, totalNumber, resultNumber, suggestNumber, schemaNumber, publishNumber}
 use Rattle.definitions.specs.declared.SavedRun.{SavedRun}
 use Rattle.definitions.specs.declared.RunState.{RunState}
 use Rattle.definitions.specs.declared.Ran.{Ran}
@@ -39,6 +41,7 @@ use Rattle.definitions.specs.declared.PageAnswer.the-variants as PageAnswers
 use Rattle.definitions.specs.declared.TotalAnswer.the-variants as TotalAnswers
 use Rattle.definitions.specs.declared.SuggestAnswer.the-variants as SuggestAnswers
 use Rattle.definitions.specs.declared.SchemaAnswer.the-variants as SchemaAnswers
+use Rattle.definitions.specs.declared.PublishAnswer.the-variants as PublishAnswers
 
 -- ── rules in order ──────────────────────────────────────────────────────────────────────────
 
@@ -135,6 +138,15 @@ schemaRules lengths page =
     ∷ (19, ifThere triples (λ rs. leb (length (gathered rs .entries)) entryLimit))  -- more subjects would get an entry than a schema has
     ∷ []
 
+-- Publishing: 1, 10, 22, 23. (`room`: the bytes of the buffer.)
+abbrev pub publishRules : (lengths : Bool) → (found : Option Sound) → (graph room : ℕ) → List (ℕ × Bool)
+publishRules lengths found g room =
+    (1, lengths)
+    ∷ (10, isThere found)
+    ∷ (22, ifThere found (λ x. isIn g (x .state .store .fetched)))  -- graph not fetched
+    ∷ (23, ifThere found (λ x. leb (length (published g (x .state .store))) room))  -- buffer shorter than the page
+    ∷ []
+
 -- ── the calls ───────────────────────────────────────────────────────────────────────────────
 
 -- the first rule broken by what a call is handed, 0 where none is
@@ -161,6 +173,9 @@ suggestBroken terms schema script = firstBroken (suggestRules terms schema scrip
 -- the buffer for the schema is lent
 abbrev pub schemaBroken : (page schema : List ℕ) → ℕ
 schemaBroken page schema = firstBroken (schemaRules (eqb (length schema) schemaWidth) page)
+
+abbrev pub publishBroken : Lent → SavedRun → (graph : ℕ) → (buffer : List ℕ) → ℕ
+publishBroken l saved g buffer = firstBroken (publishRules (bothTablesFit (lengthsOf l)) (soundIn l saved) g (length buffer))
 
 pub record LoadRefuses (l : Lent) : Type 0 where
   -- the call gives the number of the first rule broken
@@ -204,6 +219,12 @@ pub record SchemaRefuses (page schema : List ℕ) : Type 0 where
   pub keeps : (schemaBroken page schema ≡ 0 → ⊥) → schemaCall page schema .schema ≡ schema
   pub answers : schemaBroken page schema ≡ 0 → (entries leftOut : ℕ) × (schemaCall page schema .answer ≡ SchemaAnswers.Gathered entries leftOut)
 
+-- publishing writes its buffer alone
+pub record PublishRefuses (l : Lent) (saved : SavedRun) (graph : ℕ) (buffer : List ℕ) : Type 0 where
+  pub number : publishNumber (publishCall l saved graph buffer .returned) ≡ publishBroken l saved graph buffer
+  pub keeps : (publishBroken l saved graph buffer ≡ 0 → ⊥) → publishCall l saved graph buffer .page ≡ buffer
+  pub answers : publishBroken l saved graph buffer ≡ 0 → (n : ℕ) × (publishCall l saved graph buffer .returned ≡ PublishAnswers.Published n)
+
 pub record Demand1 : Type 0 where
   pub load : (l : Lent) → LoadRefuses l
   pub run : (l : Lent) (saved : SavedRun) (budget : ℕ) (now : ℤ) → RunRefuses l saved budget now
@@ -212,3 +233,4 @@ pub record Demand1 : Type 0 where
   pub number : (text : List ℕ) → NumberRefuses text
   pub suggest : (terms schema script : List ℕ) → SuggestRefuses terms schema script
   pub schema : (page schema : List ℕ) → SchemaRefuses page schema
+  pub publish : (l : Lent) (saved : SavedRun) (graph : ℕ) (buffer : List ℕ) → PublishRefuses l saved graph buffer

@@ -10,10 +10,10 @@ use lib.ListN.{length}
 use lib.IntN.{ℤ}
 use Rattle.definitions.specs.Bytes.{onward}
 use Rattle.definitions.specs.Outcome.{ok}
-use Rattle.definitions.specs.Calls.{Lent, lengthsFit, load, Sound, soundIn}
-use Rattle.definitions.specs.Limits.{savedWidth, runReportWidth, pageReportWidth, totalReportWidth, numberRecordWidth, suggestReportWidth, schemaWidth, schemaReportWidth}
-use Rattle.definitions.specs.Exports.{savedFrom, loadExport, RunExport, runExport, pageExport, totalExport, numberExport, suggestExport, schemaExport}
-use Rattle.theorems.specs.Demand1.{firstBroken, readRules, loadRules, runRules, pageRules, numberRules, suggestRules, schemaRules}
+use Rattle.definitions.specs.Calls.{Lent, lengthsFit, load, Sound, soundIn, lengthsOf, bothTablesFit}
+use Rattle.definitions.specs.Limits.{savedWidth, runReportWidth, pageReportWidth, totalReportWidth, numberRecordWidth, suggestReportWidth, schemaWidth, schemaReportWidth, publishReportWidth}
+use Rattle.definitions.specs.Exports.{savedFrom, loadExport, RunExport, runExport, pageExport, totalExport, numberExport, suggestExport, schemaExport, publishExport}
+use Rattle.theorems.specs.Demand1.{firstBroken, readRules, loadRules, runRules, pageRules, numberRules, suggestRules, schemaRules, publishRules}
 
 -- bytes that no saved run has are unsound
 abbrev pub soundBytes : Lent → (saved : List ℕ) → Option Sound
@@ -22,6 +22,10 @@ soundBytes l saved = onward (savedFrom saved) (soundIn l)
 -- tables, saved run and report have their lengths
 abbrev pub buffersFit : Lent → (saved report : List ℕ) → (reportWidth : ℕ) → Bool
 buffersFit l saved report width = lengthsFit l && (eqb (length saved) savedWidth && eqb (length report) width)
+
+-- the same without ranks
+abbrev pub savedFits : Lent → (saved report : List ℕ) → (reportWidth : ℕ) → Bool
+savedFits l saved report width = bothTablesFit (lengthsOf l) && (eqb (length saved) savedWidth && eqb (length report) width)
 
 abbrev pub loadBroken : Lent → (saved : List ℕ) → ℕ
 loadBroken l saved = firstBroken (loadRules (lengthsFit l && eqb (length saved) savedWidth) l)
@@ -45,6 +49,9 @@ suggestBroken terms schema script report = firstBroken ((1, eqb (length report) 
 -- the buffer for the schema, and the report
 abbrev pub schemaBroken : (page schema report : List ℕ) → ℕ
 schemaBroken page schema report = firstBroken (schemaRules (eqb (length report) schemaReportWidth && eqb (length schema) schemaWidth) page)
+
+abbrev pub publishBroken : Lent → (saved : List ℕ) → (graph : ℕ) → (page report : List ℕ) → ℕ
+publishBroken l saved g page report = firstBroken (publishRules (savedFits l saved report publishReportWidth) (soundBytes l saved) g (length page))
 
 pub record LoadRefuses (l : Lent) (saved : List ℕ) : Type 0 where
   pub number : loadExport l saved .number ≡ loadBroken l saved
@@ -78,6 +85,10 @@ pub record SchemaRefuses (page schema report : List ℕ) : Type 0 where
   pub number : schemaExport page schema report .number ≡ schemaBroken page schema report
   pub keeps : (schemaBroken page schema report ≡ 0 → ⊥) → let r = schemaExport page schema report in (r .schema ≡ schema) × (r .report ≡ report)
 
+pub record PublishRefuses (l : Lent) (saved : List ℕ) (graph : ℕ) (page report : List ℕ) : Type 0 where
+  pub number : publishExport l saved graph page report .number ≡ publishBroken l saved graph page report
+  pub keeps : (publishBroken l saved graph page report ≡ 0 → ⊥) → let r = publishExport l saved graph page report in (r .page ≡ page) × (r .report ≡ report)
+
 pub record ExportRefusals : Type 0 where
   pub load : (l : Lent) (saved : List ℕ) → LoadRefuses l saved
   pub run : (l : Lent) (saved : List ℕ) (budget : ℕ) (now : ℤ) (report : List ℕ) → RunRefuses l saved budget now report
@@ -86,3 +97,4 @@ pub record ExportRefusals : Type 0 where
   pub number : (text lent : List ℕ) → NumberRefuses text lent
   pub suggest : (terms schema script report : List ℕ) → SuggestRefuses terms schema script report
   pub schema : (page schema report : List ℕ) → SchemaRefuses page schema report
+  pub publish : (l : Lent) (saved : List ℕ) (graph : ℕ) (page report : List ℕ) → PublishRefuses l saved graph page report

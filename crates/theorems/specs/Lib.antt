@@ -14,3 +14,4 @@ pub mod Alphabets
 pub mod NumberTexts
 pub mod OneType
 pub mod PageSchema
+pub mod Publishing

@@ -11,6 +11,7 @@ mod case;
 mod filters;
 mod names;
 mod numbers;
+mod published;
 mod schemas;
 mod stock;
 mod suggestions;
@@ -58,9 +59,11 @@ impl Bench {
     fn time(&self, station: &Station, call: &Call) -> ([Duration; 2], Answer) {
         let (times, (answer, _)) = self.least(|engine| {
             let mut copy = station.clone();
+            let mut report = copy.lend(call);
             let begin = Instant::now();
-            let answer = copy.call(engine, call);
-            (begin.elapsed(), (answer, copy))
+            let code = engine.call(&mut copy, call, &mut report);
+            let time = begin.elapsed();
+            (time, (copy.answered(code, report), copy))
         });
         (times, answer)
     }
@@ -134,6 +137,15 @@ impl Bench {
             assert_eq!(code, workload.code, "{}", workload.name);
             let entries = (code == 0).then(|| u32::from(report[0]));
             print_row(workload.name, &format!("{} bytes", workload.page.len()), entries, times);
+        }
+        Ok(())
+    }
+
+    /// Graphs as pages; what a publish call takes beside reading what it is lent is what it takes more than for an empty graph.
+    fn published(&self, reference: &dyn Engine) -> Result<(), BadTerm> {
+        for workload in published::workloads(reference)? {
+            let (station, call) = (&workload.station, workload.call());
+            self.row(workload.name, &format!("{} quads", workload.quads()), station, &call);
         }
         Ok(())
     }
@@ -251,6 +263,7 @@ fn main() -> Result<(), Box<dyn Error>> {
     }
     bench.calls(&reference)?;
     bench.suggestions()?;
+    bench.published(&reference)?;
     bench.numbers();
     bench.schemas()?;
     Ok(bench.searches(&reference)?)

@@ -10,7 +10,7 @@ pub mod schema;
 mod station;
 
 pub use engine::Engine;
-pub use station::{Answer, Call, Station};
+pub use station::{Answer, Call, Station, UNWRITTEN};
 
 use std::time::{Duration, Instant};
 

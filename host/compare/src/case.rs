@@ -6,7 +6,7 @@ use crate::call::{Answer, Call, Engine, Made, Station};
 use crate::count::{Coverage, Met};
 use crate::draw::pool::Size;
 use crate::draw::Draw;
-use crate::judge::{judge, ranks, suggestions, Breach, Difference, History, Once};
+use crate::judge::{judge, published, ranks, suggestions, Breach, Difference, History, Once};
 use crate::records::open_pairs;
 use crate::replay::{describe, describe_asked, Move, Replay, Tampering};
 use second::check::Loaded;
@@ -153,7 +153,40 @@ impl<'a> Case<'a> {
                 }
                 self.call(&call, None)?;
             }
+            if self.draw.publishes(5) {
+                self.publish()?;
+            }
         }
+        if self.station.fetched().is_empty() && !self.draw.publishes(4) {
+            return Ok(());
+        }
+        self.publish()
+    }
+
+    /// Publishes a graph, now and then of another store or lent something odd. The case goes on as if it had not been done.
+    fn publish(&mut self) -> Result<(), Difference> {
+        let kept = self.kept_back();
+        self.draw.turn_chance();
+        match self.draw.rng.weighted(&[10, 8, 2]) {
+            0 => {
+                let call = self.draw.publish_call(&self.station);
+                self.draw.no_ranks(&mut self.station);
+                self.call(&call, None)?;
+                (self.station.ranks, self.last) = (kept.station.ranks, kept.last);
+            }
+            1 => {
+                let label = self.draw.other_store(&mut self.station);
+                let call = self.draw.publish_call(&self.station);
+                let answer = self.changed_call(label, &kept.station, &call)?;
+                self.coverage.tampered(label, answer.code);
+                self.put_back(kept);
+            }
+            _ => {
+                let call = self.draw.publish_call(&self.station);
+                self.odd_call(call)?;
+            }
+        }
+        self.draw.turn_chance();
         Ok(())
     }
 
@@ -231,11 +264,14 @@ impl<'a> Case<'a> {
         let judged = judge(&made, tampering.is_some(), &mut self.history);
         let turned = || if self.turning { ranks::turned(&made, self.engines) } else { Ok(()) };
         let held = || suggestions::held(&made, self.engines);
-        judged.and_then(|()| turned()).and_then(|()| held()).map_err(|difference| {
+        let published = || published::held(&made, self.engines, tampering.is_some(), &self.history);
+        let laws = judged.and_then(|()| turned()).and_then(|()| held()).and_then(|()| published());
+        let laws = laws.map_err(|difference| {
             let names = self.engines.map(|engine| engine.name());
             let what = format!("{} {label}: {} and {}: {}", call.name(), names[0], names[1], difference.what);
             Difference { what, ..difference }
         })?;
+        self.coverage.published(&made, &laws);
         if let Some(how) = self.history.alike {
             self.coverage.add("a store again", how);
         }
@@ -248,8 +284,9 @@ impl<'a> Case<'a> {
         if answer.code == 0 && tampering.is_none() {
             self.draw.answered(call);
         }
-        // Totals and suggestions are told without the tables, which may be of another length.
-        if answer.code == 0 && call.is_lent() {
+        // Totals and suggestions are told without the tables, which may be of another length; and a graph that is published leaves them as
+        // they were.
+        if answer.code == 0 && call.is_ranked() {
             self.evaluate()?;
         }
         Ok(answer)

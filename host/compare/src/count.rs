@@ -3,6 +3,7 @@
 mod coverage;
 pub mod kinds;
 mod numbers;
+mod published;
 mod schemas;
 pub mod texts;
 
@@ -66,7 +67,7 @@ impl Coverage {
             Call::Load => "ranks of a load",
             Call::Run { .. } => "ranks of a run",
             Call::Page { .. } => "ranks of a page",
-            Call::Total { .. } | Call::Suggest { .. } => return,
+            Call::Publish { .. } | Call::Total { .. } | Call::Suggest { .. } => return,
         };
         self.add(section, sort_of(ranks));
         match made.answers[0].code {

@@ -7,6 +7,7 @@ pub mod numbers;
 pub mod odd;
 pub mod pages;
 pub mod pool;
+pub mod published;
 pub mod ranks;
 pub mod rng;
 pub mod schemas;
@@ -30,6 +31,8 @@ pub struct Draw {
     pub rng: Rng,
     /// Chance for what the evaluators are asked, so that a case is the same with them and without.
     asking: Rng,
+    /// Chance for what is published, so that the other calls of a case are the same with it and without.
+    publishing: Rng,
     /// The words.
     pub pool: Pool,
     /// Triples that make the script's patterns meet, with their graphs' numbers; none before the load.
@@ -53,10 +56,11 @@ impl Draw {
         let mut rng = Rng::new(seed, index);
         let pool = Pool::new(&mut rng);
         let (mut station, sort) = first::station(&mut rng, &pool);
-        let asking = Rng::new(!seed, index);
+        let (asking, publishing) = (Rng::new(!seed, index), Rng::new(!seed, !index));
         station.ranks = ranks::good(&mut rng);
         let restless = rng.one_in(4);
-        let draw = Draw { rng, asking, pool, witnesses: Vec::new(), each: false, taken: BTreeMap::new(), restless };
+        let (witnesses, taken) = (Vec::new(), BTreeMap::new());
+        let draw = Draw { rng, asking, publishing, pool, witnesses, each: false, taken, restless };
         (draw, station, sort)
     }
 

@@ -2,6 +2,7 @@
 
 pub mod numbers;
 mod old;
+pub mod published;
 pub mod ranks;
 pub mod schemas;
 mod stores;
@@ -24,7 +25,7 @@ pub enum Breach {
     Answers,
     /// Tables or saved runs differ.
     Tables,
-    /// A refused call changed a table.
+    /// A refused call changed something that it was lent.
     Kept,
     /// 1 or 21 where it is not due, or something else where it is.
     Lent,
@@ -46,6 +47,17 @@ pub enum Breach {
     Suggested,
     /// Two stations with the same terms by number and the same quads have other bytes.
     Stores,
+    /// Another page than the graph's triples in rising order of their bytes, or another length told; 22 or 23 where it is not due, or
+    /// something else where it is.
+    Published,
+    /// Bytes after what was written were changed.
+    Rest,
+    /// A published page that was taken in at once was refused or skipped something, or the store is not as it was.
+    TakenIn,
+    /// A graph has more bytes than the page that filled it.
+    Fits,
+    /// Two stations that hold the same triples of a graph publish other bytes.
+    Alike,
     /// A text or a page did not give what it was written for.
     Written,
     /// A record that no reading of its text gives: no number's, or one of the other kind.
@@ -56,8 +68,6 @@ pub enum Breach {
     Page,
     /// Entries that are no schema of the page's subjects, or a report that counts otherwise.
     Entries,
-    /// Bytes after the entries were changed.
-    Rest,
     /// A load refuses a schema that was gathered.
     Loads,
     /// What the type printers wrote differs.
@@ -97,6 +107,8 @@ pub struct History {
     pub stores: Stores,
     /// How the last call came to a store that was there before, if it is a page that did.
     pub alike: Option<&'static str>,
+    /// How many bytes the page had that filled each graph last.
+    pub filled: BTreeMap<u64, usize>,
 }
 
 /// A script with no each block: how many records of kinds 71 to 74 stand from each one down, by its offset.
@@ -142,8 +154,8 @@ pub fn judge(made: &Made, tampered: bool, history: &mut History) -> Result<(), D
     let [station, second] = &made.after;
     let tampered = tampered || history.tampered;
     let differs = |breach, what| Err(Difference::new(breach, what));
-    if answer != other {
-        return differs(Breach::Answers, format!("answers {answer:x?} and {other:x?}"));
+    if let Some(what) = answer.first_difference(other) {
+        return differs(Breach::Answers, what);
     }
     if let Some(place) = station.first_difference(second) {
         return differs(Breach::Tables, place);
@@ -160,8 +172,15 @@ pub fn judge(made: &Made, tampered: bool, history: &mut History) -> Result<(), D
         return differs(Breach::Unsound, "refusal 10 without tampering".to_string());
     }
     history.alike = None;
-    if (made.call, answer.code) == (&Call::Load, 0) {
-        history.steps = 0;
+    match made.call {
+        Call::Load if answer.code == 0 => {
+            history.steps = 0;
+            history.filled.clear();
+        }
+        Call::Page { graph, page, .. } if answer.code == 0 && !tampered => {
+            history.filled.insert(*graph, page.len());
+        }
+        _ => {}
     }
     // A total and a suggestion are not lent the tables.
     if answer.code == 0 && made.call.is_lent() {

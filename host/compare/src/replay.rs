@@ -7,7 +7,7 @@ pub use asked::{Asked, Numbers};
 pub use words::{describe, describe_asked};
 
 use crate::call::{Call, Engine, Made, Station};
-use crate::judge::{judge, ranks, suggestions, Breach, Difference, History, Once};
+use crate::judge::{judge, published, ranks, suggestions, Breach, Difference, History, Once};
 use std::panic::{catch_unwind, AssertUnwindSafe};
 use willetcoffer::Card;
 
@@ -138,6 +138,7 @@ impl Replay {
             judge(&made, tampering.is_some(), &mut history)?;
             ranks::turned(&made, engines)?;
             suggestions::held(&made, engines)?;
+            published::held(&made, engines, tampering.is_some(), &history)?;
             let (after, answer) = made.into_first();
             station = after;
             history.tampered |= tampering.is_some();

@@ -153,7 +153,7 @@ impl Shrink<'_> {
     fn calls(&mut self) {
         for place in 0..self.best.moves.len() {
             match self.best.moves[place].call.clone() {
-                Call::Load | Call::Total { .. } | Call::Suggest { .. } => {}
+                Call::Load | Call::Publish { .. } | Call::Total { .. } | Call::Suggest { .. } => {}
                 Call::Run { budget: old, .. } => {
                     let smaller = [0, 1, 2, old / 2, old.saturating_sub(1)];
                     for less in smaller.into_iter().filter(|less| *less < old) {
@@ -311,7 +311,7 @@ fn with_card(replay: &mut Replay, place: usize, change: impl FnOnce(&mut Card)) 
         card.script = root.bytes();
     }
     for m in &mut replay.moves {
-        if let Call::Page { graph, .. } = &mut m.call {
+        if let Call::Page { graph, .. } | Call::Publish { graph, .. } = &mut m.call {
             let new = usize::try_from(*graph).ok().and_then(renumbered);
             *graph = new.map_or(*graph, |new| new as u64);
         }

@@ -275,6 +275,7 @@ impl Engine for Wrong {
                 };
                 self.page(station, &Call::Page { graph: *graph, page, report: *length }, report)
             }
+            Call::Publish { .. } => fast().call(station, call, report),
             Call::Total { .. } => self.total(station, call, report),
             Call::Suggest { .. } => fast().call(station, call, report),
         }

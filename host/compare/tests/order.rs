@@ -91,7 +91,8 @@ fn what_appends_is_found() {
     }
     for put in [appended, appended_in_order] {
         assert_eq!(found(Order { put, ..order::FAST }), Some(Breach::Tables));
-        assert_eq!(found_alike(Order { put, stands: distinct }), Some(Breach::Stores));
+        // Also where what was published is taken in, which is to leave the quads as they stand.
+        assert!(matches!(found_alike(Order { put, stands: distinct }), Some(Breach::Stores | Breach::TakenIn)));
     }
 }
 
@@ -167,7 +168,8 @@ fn cases_that_break_the_law_are_made_again_and_cut_down() {
         let shown = replay.play([&wrong, &wrong]);
         shown.is_some_and(|(_, difference)| difference.breach == Breach::Stores)
     };
-    let small = shrink(broken[0].clone(), Patience::default(), &mut |replay| breaks(replay));
+    let first = broken.into_iter().find(|replay| breaks(replay)).expect("a case that breaks this law");
+    let small = shrink(first, Patience::default(), &mut |replay| breaks(replay));
     // The load, and two pages of the same two records.
     assert!(breaks(&small));
     assert_eq!((small.moves.len(), page_records(&small)), (3, 4));

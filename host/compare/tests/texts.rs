@@ -40,6 +40,13 @@ fn breach(engines: [&dyn Engine; 2]) -> Option<Breach> {
     (0..CASES).find_map(|index| run(index).map(|difference| difference.breach))
 }
 
+/// Whether a case shows this breach; another case may show another, as a law that graphs are published by.
+fn shows(engines: [&dyn Engine; 2], breach: Breach) -> bool {
+    let mut coverage = Coverage::default();
+    let mut run = |index| Case::new(SEED, index, engines, &mut coverage).run().err();
+    (0..CASES).any(|index| run(index).is_some_and(|difference| difference.breach == breach))
+}
+
 /// Found against the right one, and where both are wrong so.
 fn found(engine: &dyn Engine) -> (Option<Breach>, Option<Breach>) {
     (breach([&fast(), engine]), breach([engine, engine]))
@@ -178,7 +185,7 @@ fn good_texts_that_are_refused_are_found() {
         }),
     ];
     for (name, turn) in turns {
-        assert_eq!(breach([&fast(), &Wrong(turn)]), Some(Breach::Answers), "{name}");
+        assert!(shows([&fast(), &Wrong(turn)], Breach::Answers), "{name}");
     }
 }
 

@@ -75,6 +75,13 @@ pub fn undecided(written: Option<(u8, Type)>) -> Result<Card, BadTerm> {
     Ok(Card::new(&listed, &properties, once(&pairs, both(has(con(SPEED)), has(var(PROPERTY))), success())))
 }
 
+/// Another station that has a look at the yard: its terms have other numbers. With the number of the yard.
+pub fn second_station() -> Result<(Card, u16), BadTerm> {
+    let ([yard, sixty], mut properties) = words()?;
+    properties.reverse();
+    Ok((Card::new(&[sixty, yard], &properties, from_named(con(1), success())), 1))
+}
+
 /// The records of some triples.
 fn page(triples: &[(Term, &str, Term)]) -> Result<Vec<u8>, BadTerm> {
     let mut bytes = Vec::new();

@@ -1,6 +1,7 @@
 //! A season on one screen: a card is loaded, runs, wants a page, gets it with a record that is skipped, runs on, waits,
 //! gets the page rewritten, and ends; then the same with a card whose steps are known beforehand, with a bar; then a card that is refused
-//! with 9, and what the engine suggests. All calls are the proved engine's.
+//! with 9, and what the engine suggests; then the station publishes what it knows of the yard, and a second station takes that in. All calls
+//! are the proved engine's.
 #![forbid(unsafe_code)]
 
 mod card;
@@ -53,12 +54,12 @@ impl Panel {
 
     fn page(&mut self, what: &str, page: &[u8]) -> Result<(), Refusal> {
         let report = self.card.page(&mut self.tables, &mut self.saved, card::YARD, page)?;
-        self.screen.page(what, report, &self.saved);
+        show::taken_in(what, report, &self.saved);
         Ok(())
     }
 }
 
-fn season(card: Card) -> Result<(), Box<dyn Error>> {
+fn season(card: Card) -> Result<Panel, Box<dyn Error>> {
     let mut panel = Panel::load(card)?;
     panel.run()?;
     panel.page("the yard's first page", &card::first_page()?)?;
@@ -66,6 +67,19 @@ fn season(card: Card) -> Result<(), Box<dyn Error>> {
     panel.page("the page rewritten", &card::second_page()?)?;
     panel.run()?;
     panel.screen.end();
+    Ok(panel)
+}
+
+/// The yard's graph, published, and taken in by a second station, which then publishes the same.
+fn published(panel: &Panel) -> Result<(), Box<dyn Error>> {
+    let page = panel.card.publish(&panel.tables, &panel.saved, card::YARD)?;
+    show::published(&page);
+    let (card, yard) = card::second_station()?;
+    let mut tables = Tables::new();
+    let mut saved = card.load(&mut tables)?;
+    let report = card.page(&mut tables, &mut saved, yard, &page)?;
+    show::taken_in("a second station", report, &saved);
+    show::published_again(card.publish(&tables, &saved, yard)? == page);
     Ok(())
 }
 
@@ -86,7 +100,9 @@ fn suggested() -> Result<(), Box<dyn Error>> {
 fn main() -> Result<(), Box<dyn Error>> {
     season(card::card()?)?;
     println!("\nthe first locomotive alone, by once blocks:");
-    season(card::once_card()?)?;
+    let panel = season(card::once_card()?)?;
     println!("\na card that can be read in two ways:");
-    suggested()
+    suggested()?;
+    println!("\nwhat the station knows of the yard, for other stations:");
+    published(&panel)
 }

@@ -1,7 +1,26 @@
 //! What the panel prints.
 
 use crate::card::{CALLED, FAST, NAMES};
+use willetcoffer::page::{records, terms};
 use willetcoffer::{PageReport, Refusal, SavedRun, State, Suggestion, Tables, Term};
+
+/// A page that was published, record by record.
+pub fn published(page: &[u8]) {
+    println!("publish  {} records, {} bytes", records(page).count(), page.len());
+    for triple in records(page).filter_map(terms) {
+        println!("         {}", triple.map(|term| term.to_string()).join(" "));
+    }
+}
+
+/// Whether what was taken in is published again as it was.
+pub fn published_again(same: bool) {
+    println!("publish  {}", if same { "the same bytes" } else { "other bytes" });
+}
+
+/// What a page call reported.
+pub fn taken_in(what: &str, report: PageReport, saved: &SavedRun) {
+    println!("page     {what}: {} skipped, {} quads stored", report.skipped, saved.quads());
+}
 
 /// The screen: the locomotives on the roster.
 pub struct Screen {
@@ -72,11 +91,6 @@ impl Screen {
             let [done, left] = [taken, total - taken].map(|steps| steps as usize);
             println!("bar      [{}{}] {taken} of {total}", "#".repeat(done), "-".repeat(left));
         }
-    }
-
-    /// What a page call reported.
-    pub fn page(&self, what: &str, report: PageReport, saved: &SavedRun) {
-        println!("page     {what}: {} skipped, {} quads stored", report.skipped, saved.quads());
     }
 
     /// The last line.

@@ -1,7 +1,8 @@
 //! The season's screen. Steps by document 01's machine: from named 1, sequence 1, two answers of the each block 2 each, its
 //! drop 1; then once 1 and success 1. One record of the first page has a string where the schema asks for a decimal. Then the
-//! card of once blocks: its six records of kinds 71 to 74 are the whole bar. Last document 02's example of a suggestion: at the property
-//! variable range(decimal), code 11.
+//! card of once blocks: its six records of kinds 71 to 74 are the whole bar. Then document 02's example of a suggestion: at the property
+//! variable range(decimal), code 11. Last the yard's three triples, a string (kind 82, 297 bytes), a decimal and a dateTime (84 and 85, 201
+//! bytes each), in the order of their kinds.
 
 use std::process::Command;
 
@@ -51,6 +52,14 @@ fn the_season_on_one_screen() {
         "         $loco      xsd:anyURI",
         "         $property  range(xsd:decimal)",
         "         $value     xsd:decimal",
+        "",
+        "what the station knows of the yard, for other stations:",
+        "publish  3 records, 699 bytes",
+        "         http://club.example/loco/1 p:name Mallard",
+        "         http://club.example/loco/1 p:speed 126.4",
+        "         http://club.example/yard p:closes second 1798675200",
+        "page     a second station: 0 skipped, 3 quads stored",
+        "publish  the same bytes",
     ];
     assert_eq!(lines, expected);
 }

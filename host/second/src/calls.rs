@@ -5,12 +5,13 @@ use crate::check::{check, read, Typer};
 use crate::eval::{Fault, Quad, Store};
 use crate::gather::{self, Gathering};
 use crate::limits::{
-    BUDGET, ENTRY, NUMBER_RECORD, PAGE_REPORT, QUAD_TABLE, RUN_REPORT, SAVED, SCHEMA, SCHEMA_REPORT, SLOT,
-    SUGGEST_REPORT, TERM_TABLE, TOTAL_REPORT,
+    BUDGET, ENTRY, NUMBER_RECORD, PAGE_REPORT, PUBLISH_REPORT, QUAD_TABLE, RUN_REPORT, SAVED, SCHEMA, SCHEMA_REPORT,
+    SLOT, SUGGEST_REPORT, TERM_TABLE, TOTAL_REPORT,
 };
 use crate::machine::{Machine, State, World};
 use crate::number::{self, Reading};
 use crate::order::{self, Order};
+use crate::publish::{self, Publishing};
 use crate::rank::{self, Alphabet, Ranks};
 use crate::refusal::{demand, refuse, Refusal};
 use crate::saved;
@@ -23,8 +24,8 @@ use crate::terms::Terms;
 use crate::write::entry;
 use crate::{arcs, assignments, page as pages};
 
-/// An engine: how it works out types, keeps quads in order, takes ranks, reads numbers, names a written type, gathers schemas and
-/// finds answers.
+/// An engine: how it works out types, keeps quads in order, takes ranks, reads numbers, names a written type, gathers schemas,
+/// publishes graphs and finds answers.
 #[derive(Clone, Copy)]
 pub struct Engine<'a> {
     /// How types are worked out.
@@ -39,6 +40,8 @@ pub struct Engine<'a> {
     pub suggest: Suggest,
     /// How a schema is gathered from a page.
     pub gathering: Gathering,
+    /// How a graph is written as a page.
+    pub publishing: Publishing,
     /// How answers are found.
     pub search: &'a dyn Search,
 }
@@ -53,10 +56,15 @@ fn lent<const N: usize>(bytes: &mut [u8]) -> Result<&mut [u8; N], Refusal> {
     bytes.try_into().or(Err(Refusal { number: 1, why: "lent table's length" }))
 }
 
+/// Whether both tables have their lengths.
+fn tables(term_table: &[u8], quad_table: &[u8]) -> Outcome {
+    demand(term_table.len() == TERM_TABLE, 1, "term table's length")?;
+    demand(quad_table.len() == QUAD_TABLE, 1, "quad table's length")
+}
+
 /// The lent ranks where they and both tables have their lengths.
 fn lengths<'a>(ranks: &'a [u8], term_table: &[u8], quad_table: &[u8]) -> Result<&'a Ranks, Refusal> {
-    demand(term_table.len() == TERM_TABLE, 1, "term table's length")?;
-    demand(quad_table.len() == QUAD_TABLE, 1, "quad table's length")?;
+    tables(term_table, quad_table)?;
     ranks.try_into().or(refuse(1, "ranks' length"))
 }
 
@@ -83,15 +91,15 @@ impl Engine<'_> {
     /// The fast engine.
     pub const fn fast() -> Engine<'static> {
         let (order, alphabet, reading) = (order::FAST, rank::FAST, number::fast);
-        let (suggest, gathering) = (suggest::fast, gather::fast);
-        Engine { typer: arcs::solve, order, alphabet, reading, suggest, gathering, search: &Seek }
+        let (suggest, gathering, publishing) = (suggest::fast, gather::fast, publish::fast);
+        Engine { typer: arcs::solve, order, alphabet, reading, suggest, gathering, publishing, search: &Seek }
     }
 
     /// The engine by the definitions.
     pub const fn plain() -> Engine<'static> {
         let (order, alphabet, reading) = (order::PLAIN, rank::PLAIN, number::plain);
-        let (suggest, gathering) = (suggest::plain, gather::plain);
-        Engine { typer: assignments::solve, order, alphabet, reading, suggest, gathering, search: &Naive }
+        let (suggest, gathering, publishing) = (suggest::plain, gather::plain, publish::plain);
+        Engine { typer: assignments::solve, order, alphabet, reading, suggest, gathering, publishing, search: &Naive }
     }
 
     /// Refusal 21, straight after 1: whether each rank stands once.
@@ -176,6 +184,29 @@ impl Engine<'_> {
         write_quads(quads, quad_table);
         *saved = saved::encode(&loaded.script, &loaded.types, machine, quads.len());
         *report = skipped.to_le_bytes();
+        Ok(())
+    }
+
+    /// Writes a fetched graph as a page: writes the front of the page's buffer, which may have any length, and the report. It is lent no
+    /// ranks.
+    pub fn publish(
+        &self,
+        [terms, schema, script]: [&[u8]; 3],
+        [term_table, quad_table, saved]: [&[u8]; 3],
+        graph: u64,
+        page: &mut [u8],
+        report: &mut [u8],
+    ) -> Outcome {
+        tables(term_table, quad_table)?;
+        let saved = saved.try_into().or(refuse(1, "saved run's length"))?;
+        let report = lent::<PUBLISH_REPORT>(report)?;
+        let held = sound(self.typer, self.order, &Lent { terms, schema, script, term_table, quad_table, saved })?;
+        let fetched = held.machine.fetched.iter().find(|fetched| u64::from(**fetched) == graph);
+        let Some(graph) = fetched else { return refuse(22, "graph not fetched") };
+        let records = (self.publishing)(&held, *graph);
+        let Some(front) = page.get_mut(..records.len()) else { return refuse(23, "buffer shorter than the page") };
+        front.copy_from_slice(&records);
+        *report = (records.len() as u32).to_le_bytes();
         Ok(())
     }
 

@@ -15,10 +15,12 @@
 //! | the number of a text | [`number::plain`]: by the form, in whole numbers of any size | [`number::fast`]: one pass, each digit at its place |
 //! | the written type that would do | [`suggest::plain`]: each written into the bytes, the card checked anew | [`suggest::fast`]: each written into the tree that was read |
 //! | a schema out of a page | [`gather::plain`]: each subject's records looked for, each datatype tried | [`gather::fast`]: a map, one demand each |
+//! | a graph as a page | [`publish::plain`]: of the records that are left the least is next | [`publish::fast`]: sorted by kind and slots |
 //! | outcome and count of a tuple | [`count`]: all parts evaluated, then counted by their outcomes | [`early`]: one walk that leaves parts out |
 //!
-//! An [`Engine`] holds a typer, an order, an alphabet, a reading of numbers, a way to suggest, one to gather a schema and a search; [`Engine::fast`] and [`Engine::plain`] are the two that the comparison uses. The
-//! calls take and give the bytes of the C interface; each returns nothing, or its refusal.
+//! An [`Engine`] holds a typer, an order, an alphabet, a reading of numbers, a way to suggest, one to gather a schema, one to publish and a
+//! search; [`Engine::fast`] and [`Engine::plain`] are the two that the comparison uses. The calls take and give the bytes of the C interface;
+//! each returns nothing, or its refusal.
 //!
 //! It shares no code with the rest of the workspace: limits, offsets and records stand here in its own words, so that a slip
 //! in one place is not repeated in the other.
@@ -46,6 +48,7 @@ pub mod order;
 pub mod page;
 pub mod pattern;
 pub mod printer;
+pub mod publish;
 pub mod rank;
 pub mod reader;
 pub mod refusal;

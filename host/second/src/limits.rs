@@ -50,6 +50,8 @@ pub const SUGGEST_REPORT: usize = 4;
 pub const SCHEMA: usize = ENTRIES * ENTRY;
 /// Bytes of a schema call's report.
 pub const SCHEMA_REPORT: usize = 8;
+/// Bytes of a publish call's report.
+pub const PUBLISH_REPORT: usize = 4;
 /// Bytes of a number's text, at most.
 pub const NUMBER_TEXT: usize = 40;
 /// Bytes of a number's record: kind and count.

@@ -2,8 +2,10 @@
 
 use crate::kinds;
 use crate::limits::{
-    PAGE_REPORT_WIDTH, RUN_REPORT_WIDTH, SAVED_WIDTH, SUGGEST_REPORT_WIDTH, TEXT_WIDTH, TOTAL_REPORT_WIDTH,
+    PAGE_REPORT_WIDTH, PUBLISH_REPORT_WIDTH, RUN_REPORT_WIDTH, SAVED_WIDTH, SUGGEST_REPORT_WIDTH, TEXT_WIDTH,
+    TOTAL_REPORT_WIDTH,
 };
+use crate::page;
 use crate::raw;
 use crate::refusal::Refusal;
 use crate::report::{PageReport, RunReport};
@@ -92,6 +94,62 @@ impl Card {
         let graph = graph.into();
         Refusal::unless_zero(raw::page(self, tables.lent_mut(), saved.as_bytes_mut(), graph, page, &mut report))?;
         Ok(PageReport { skipped: u32::from_le_bytes(report) })
+    }
+
+    /// A fetched graph as a page: its triples as records in rising order of their bytes, each once. Taken in at once for the same graph
+    /// it skips nothing and leaves the store as it was; but a page call takes at most
+    /// [`PAGE_LIMIT`](crate::limits::PAGE_LIMIT) bytes, and only a graph that no page call has filled has more. Two stations that hold the
+    /// same triples of a graph publish the same bytes, however their terms are numbered.
+    ///
+    /// Refused with 10 and 22. The ranks are not asked.
+    ///
+    /// ```
+    /// use willetcoffer::script::success;
+    /// use willetcoffer::{page::triple, Card, Datatype, Refusal, Tables, Term};
+    /// let (yard, addr) = (Term::uri("http://club.example/yard")?, Term::uri("p:addr")?);
+    /// let card = Card::new(&[yard], &[(addr, Datatype::Integer)], success());
+    /// let mut tables = Tables::new();
+    /// let mut saved = card.load(&mut tables)?;
+    /// assert_eq!(card.publish(&tables, &saved, 0u16), Err(Refusal::NotFetched));
+    ///
+    /// let loco = Term::uri("u:loco")?;
+    /// let three = triple(&loco, &addr, &Term::integer(3)?).ok_or("no URI")?;
+    /// let more = triple(&loco, &addr, &Term::integer(256)?).ok_or("no URI")?;
+    /// card.page(&mut tables, &mut saved, 0u16, &[&three[..], &more, &three].concat())?;
+    /// // By bytes: 256, little endian, begins with a zero.
+    /// let published = card.publish(&tables, &saved, 0u16)?;
+    /// assert_eq!(published, [more, three].concat());
+    ///
+    /// // A second station takes it in, and has the same to publish.
+    /// let mut others = Tables::new();
+    /// let mut other = card.load(&mut others)?;
+    /// assert_eq!(card.page(&mut others, &mut other, 0u16, &published)?.skipped, 0);
+    /// assert_eq!(card.publish(&others, &other, 0u16)?, published);
+    /// # Ok::<(), Box<dyn std::error::Error>>(())
+    /// ```
+    pub fn publish(&self, tables: &Tables, saved: &SavedRun, graph: impl Into<u64>) -> Result<Vec<u8>, Refusal> {
+        let graph = graph.into();
+        let quads = tables.quads(saved).filter(|quad| u64::from(quad.graph) == graph).count();
+        let mut page = vec![0; quads * page::LONGEST_RECORD];
+        let length = self.publish_into(tables, saved, graph, &mut page)?;
+        page.truncate(length);
+        Ok(page)
+    }
+
+    /// The same into the front of a buffer of the host's own, whose other bytes stay; gives the page's length.
+    ///
+    /// Refused with 10, 22, and 23 where the buffer is shorter than the page; then it keeps what it had.
+    pub fn publish_into(
+        &self,
+        tables: &Tables,
+        saved: &SavedRun,
+        graph: impl Into<u64>,
+        page: &mut [u8],
+    ) -> Result<usize, Refusal> {
+        let mut report = [0; PUBLISH_REPORT_WIDTH];
+        let graph = graph.into();
+        Refusal::unless_zero(raw::publish(self, tables.lent(), saved.as_bytes(), graph, page, &mut report))?;
+        Ok(u32::from_le_bytes(report) as usize)
     }
 
     /// How many steps the script takes in all, counted from its load: as many as it has records of kinds 71 to 74. The steps that

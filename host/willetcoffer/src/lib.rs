@@ -40,6 +40,8 @@
 //! Where a card is refused because its types can be read in several ways ([`Refusal::NoGreatest`]), [`Card::suggest`] names one written type
 //! that would do.
 //!
+//! What a station knows of a graph is put up as a page by [`Card::publish`], and another station can take that in.
+//!
 //! Strings are sorted by the [`ranks`] that are lent with the tables: the built-in ones, or a club's own.
 //!
 //! What is behind a call is proved, for every input: [`raw`] is the boundary to it, and the only place in this workspace with

@@ -105,3 +105,5 @@ pub const TOTAL_REPORT_WIDTH: usize = 4;
 pub const SUGGEST_REPORT_WIDTH: usize = 4;
 /// Bytes of a schema call's report.
 pub const SCHEMA_REPORT_WIDTH: usize = 8;
+/// Bytes of a publish call's report.
+pub const PUBLISH_REPORT_WIDTH: usize = 4;

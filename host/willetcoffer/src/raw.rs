@@ -90,6 +90,26 @@ extern "C" {
         report_length: usize,
     ) -> u32;
 
+    fn willetcoffer_publish(
+        terms: *const u8,
+        terms_length: usize,
+        schema: *const u8,
+        schema_length: usize,
+        script: *const u8,
+        script_length: usize,
+        term_table: *const u8,
+        term_table_length: usize,
+        quad_table: *const u8,
+        quad_table_length: usize,
+        saved: *const u8,
+        saved_length: usize,
+        graph: u64,
+        page: *mut u8,
+        page_length: usize,
+        report: *mut u8,
+        report_length: usize,
+    ) -> u32;
+
     fn willetcoffer_number(text: *const u8, text_length: usize, record: *mut u8, record_length: usize) -> u32;
 
     fn willetcoffer_schema(
@@ -231,6 +251,40 @@ pub fn suggest(card: &Card, report: &mut [u8]) -> u32 {
             card.schema.len(),
             card.script.as_ptr(),
             card.script.len(),
+            report.as_mut_ptr(),
+            report.len(),
+        )
+    }
+}
+
+/// Writes a fetched graph as a page: on 0 the front of `page` and the report are written, else nothing is. The ranks of the tables are not
+/// lent to it.
+pub fn publish(
+    card: &Card,
+    tables: TablesRef<'_>,
+    saved: &[u8],
+    graph: u64,
+    page: &mut [u8],
+    report: &mut [u8],
+) -> u32 {
+    // SAFETY: as in `load`.
+    unsafe {
+        willetcoffer_publish(
+            card.terms.as_ptr(),
+            card.terms.len(),
+            card.schema.as_ptr(),
+            card.schema.len(),
+            card.script.as_ptr(),
+            card.script.len(),
+            tables.terms.as_ptr(),
+            tables.terms.len(),
+            tables.quads.as_ptr(),
+            tables.quads.len(),
+            saved.as_ptr(),
+            saved.len(),
+            graph,
+            page.as_mut_ptr(),
+            page.len(),
             report.as_mut_ptr(),
             report.len(),
         )

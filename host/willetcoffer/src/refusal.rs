@@ -50,12 +50,16 @@ pub enum Refusal {
     TooManyEntries,
     /// 21: lent ranks that are not each rank from 0 to 94 once.
     Ranks,
+    /// 22: the graph is not among the fetched ones.
+    NotFetched,
+    /// 23: the lent buffer is shorter than the page.
+    ShortBuffer,
     /// A number that this version of the library does not know.
     Other(u32),
 }
 
 /// Each refusal with its number and its condition.
-const TABLE: [(u32, Refusal, &str); 18] = [
+const TABLE: [(u32, Refusal, &str); 20] = [
     (1, Refusal::Length, "a lent buffer of another length"),
     (2, Refusal::TermRecord, "bad term record"),
     (3, Refusal::TermTwice, "a term listed twice"),
@@ -74,6 +78,8 @@ const TABLE: [(u32, Refusal, &str); 18] = [
     (17, Refusal::NumberValue, "number outside its kind's limits, or no whole count of millionths"),
     (19, Refusal::TooManyEntries, "more than 128 subjects of the page would get a schema entry"),
     (21, Refusal::Ranks, "ranks that are not each rank from 0 to 94 once"),
+    (22, Refusal::NotFetched, "graph not fetched"),
+    (23, Refusal::ShortBuffer, "buffer shorter than the page"),
 ];
 
 impl Refusal {

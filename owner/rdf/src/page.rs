@@ -39,7 +39,8 @@ impl fmt::Display for LeftOut {
     }
 }
 
-const XSD: &str = "http://www.w3.org/2001/XMLSchema#";
+/// Where the datatypes of XML Schema stand.
+pub(crate) const XSD: &str = "http://www.w3.org/2001/XMLSchema#";
 const LANG_STRING: &str = "http://www.w3.org/1999/02/22-rdf-syntax-ns#langString";
 /// The datatypes of integers.
 const INTEGERS: [&str; 13] = [

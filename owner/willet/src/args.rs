@@ -41,6 +41,8 @@ pub enum Command {
     Schema(SchemaArgs),
     /// Run a card or a script, and print the roster
     Run(RunArgs),
+    /// Run a card or a script, and write a graph that it has fetched as a page: what the station knows, for others to read
+    Publish(PublishArgs),
     /// Show a run on a panel: full screen in a terminal, else as lines
     Panel(PanelArgs),
     /// Serve a directory of Linked Data on loopback, with faults on demand
@@ -134,6 +136,29 @@ pub struct RunArgs {
     #[arg(long, value_name = "SECONDS", default_value = "10", value_parser = seconds)]
     pub every: Duration,
     /// Say nothing but the roster
+    #[arg(short, long)]
+    pub quiet: bool,
+}
+
+#[derive(Args)]
+pub struct PublishArgs {
+    #[command(flatten)]
+    pub script: ScriptArgs,
+    #[command(flatten)]
+    pub source: SourceArgs,
+    /// The page to write: Turtle (.ttl), N-Triples (.nt), or the records themselves (.records)
+    #[arg(short, long)]
+    pub output: PathBuf,
+    /// The IRI of the graph; by default the only one that is fetched
+    #[arg(long, value_name = "IRI")]
+    pub graph: Option<String>,
+    /// The time of the run; by default that of the clock
+    #[arg(long, value_name = "TIME", value_parser = time)]
+    pub now: Option<i64>,
+    /// Steps that the run may take
+    #[arg(long, default_value_t = BUDGET_LIMIT, value_parser = clap::value_parser!(u64).range(..=BUDGET_LIMIT))]
+    pub steps: u64,
+    /// Say nothing of the run
     #[arg(short, long)]
     pub quiet: bool,
 }

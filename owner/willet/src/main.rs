@@ -6,7 +6,7 @@
 //! | `commands` | check, card, show, page |
 //! | `season`, `roster` | a card from its load to its end, with the answers of its blocks; the roster as table, CSV or JSON |
 //! | `origin`, `host` | where pages come from: a directory, or the web; what hands them in |
-//! | `schema`, `run`, `panel`, `club` | the commands of these names |
+//! | `schema`, `run`, `publish`, `panel`, `club` | the commands of these names |
 #![forbid(unsafe_code)]
 
 mod args;
@@ -17,6 +17,7 @@ mod files;
 mod host;
 mod origin;
 mod panel;
+mod publish;
 mod roster;
 mod run;
 mod schema;
@@ -38,6 +39,7 @@ fn command(command: Command) -> Result<ExitCode, Failure> {
         Command::Page(args) => commands::page(&args),
         Command::Schema(args) => schema::schema(&args),
         Command::Run(args) => run::run(&args),
+        Command::Publish(args) => publish::publish(&args),
         Command::Panel(args) => panel::panel(&args),
         Command::Club(args) => club::club(&args),
     }

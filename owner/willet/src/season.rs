@@ -154,6 +154,12 @@ impl Season {
         self.saved.fetched().collect()
     }
 
+    /// A fetched graph as a page.
+    pub fn publish(&self, graph: u16) -> Result<Vec<u8>, Failure> {
+        let page = self.card.publish(&self.tables, &self.saved, graph);
+        page.map_err(|refusal| Failure::refused(self.iri(graph), refusal))
+    }
+
     /// Takes in the page of a graph.
     pub fn page(&mut self, graph: u16, bytes: &[u8]) -> Result<Taken, Failure> {
         if bytes.len() > PAGE_LIMIT {

@@ -12,7 +12,7 @@ impl Engine for Archive {
     }
 
     fn call(&self, station: &mut Station, call: &Call, report: &mut [u8]) -> u32 {
-        let Station { card, ranks, term_table: terms, quad_table: quads, saved } = station;
+        let Station { card, ranks, term_table: terms, quad_table: quads, saved, page: buffer } = station;
         match call {
             Call::Load => raw::load(card, TablesMut { ranks, terms, quads }, saved),
             Call::Run { budget, now, .. } => {
@@ -20,6 +20,9 @@ impl Engine for Archive {
             }
             Call::Page { graph, page, .. } => {
                 raw::page(card, TablesMut { ranks, terms, quads }, saved, *graph, page, report)
+            }
+            Call::Publish { graph, .. } => {
+                raw::publish(card, TablesRef { ranks, terms, quads }, saved, *graph, buffer, report)
             }
             Call::Total { .. } => raw::total(card, report),
             Call::Suggest { .. } => raw::suggest(card, report),

@@ -13,6 +13,7 @@ use second::note::{take_notes, Note};
 use second::number::{self, Reading};
 use second::order::{self, Order};
 use second::printer::print_with;
+use second::publish::{self, Publishing};
 use second::rank::{self, Alphabet};
 use second::rules::Env;
 use second::script::Script;
@@ -82,6 +83,7 @@ pub struct Second<S> {
     reading: Reading,
     suggest: Suggest,
     gathering: Gathering,
+    publishing: Publishing,
     evaluate: Evaluate,
     why: Cell<&'static str>,
     notes: RefCell<Vec<Note>>,
@@ -89,13 +91,28 @@ pub struct Second<S> {
 }
 
 /// An engine with these parts: how types are worked out in loads and by the printer, and in the other calls; and how
-/// answers are found. It keeps quads in order, takes ranks, reads numbers, suggests and gathers schemas as the fast engine does, and evaluates
-/// tuples by giving up early.
+/// answers are found. It keeps quads in order, takes ranks, reads numbers, suggests, gathers schemas and publishes graphs as the fast engine does,
+/// and evaluates tuples by giving up early.
 pub fn with<S>(name: &'static str, typers: [second::check::Typer; 2], search: S) -> Second<S> {
     let (why, notes, looks) = (Cell::new(""), RefCell::default(), RefCell::default());
     let (order, alphabet, evaluate): (_, _, Evaluate) = (order::FAST, rank::FAST, early::evaluate);
-    let (reading, suggest, gathering): (Reading, Suggest, Gathering) = (number::fast, suggest::fast, gather::fast);
-    Second { name, typers, search, order, alphabet, reading, suggest, gathering, evaluate, why, notes, looks }
+    let (reading, suggest): (Reading, Suggest) = (number::fast, suggest::fast);
+    let (gathering, publishing): (Gathering, Publishing) = (gather::fast, publish::fast);
+    Second {
+        name,
+        typers,
+        search,
+        order,
+        alphabet,
+        reading,
+        suggest,
+        gathering,
+        publishing,
+        evaluate,
+        why,
+        notes,
+        looks,
+    }
 }
 
 /// The fast engine.
@@ -135,6 +152,7 @@ pub fn plain() -> Second<Bounded> {
         .reading(number::plain)
         .suggesting(suggest::plain)
         .gathering(gather::plain)
+        .publishing(publish::plain)
         .evaluating(count::evaluate)
 }
 
@@ -164,6 +182,11 @@ impl<S> Second<S> {
         Second { gathering, ..self }
     }
 
+    /// The same, graphs published in this way.
+    pub fn publishing(self, publishing: Publishing) -> Second<S> {
+        Second { publishing, ..self }
+    }
+
     /// The same, tuples evaluated in this way.
     pub fn evaluating(self, evaluate: Evaluate) -> Second<S> {
         Second { evaluate, ..self }
@@ -172,9 +195,9 @@ impl<S> Second<S> {
 
 impl<S: Search + Counts> Second<S> {
     fn engine(&self, again: bool) -> second::Engine<'_> {
-        let Second { order, alphabet, reading, suggest, gathering, .. } = *self;
+        let Second { order, alphabet, reading, suggest, gathering, publishing, .. } = *self;
         let typer = self.typers[usize::from(again)];
-        second::Engine { typer, order, alphabet, reading, suggest, gathering, search: &self.search }
+        second::Engine { typer, order, alphabet, reading, suggest, gathering, publishing, search: &self.search }
     }
 
     fn code(&self, outcome: Result<(), Refusal>) -> u32 {
@@ -193,7 +216,7 @@ impl<S: Search + Counts> Engine for Second<S> {
     }
 
     fn call(&self, station: &mut Station, call: &Call, report: &mut [u8]) -> u32 {
-        let Station { card, ranks, term_table: terms, quad_table: quads, saved } = station;
+        let Station { card, ranks, term_table: terms, quad_table: quads, saved, page: buffer } = station;
         let inputs = [&ranks[..], &card.terms, &card.schema, &card.script];
         take_notes();
         take_looks();
@@ -204,6 +227,10 @@ impl<S: Search + Counts> Engine for Second<S> {
             }
             Call::Page { graph, page, .. } => {
                 self.engine(true).page(inputs, [terms, quads, saved], *graph, page, report)
+            }
+            Call::Publish { graph, .. } => {
+                let (card, tables) = ([inputs[1], inputs[2], inputs[3]], [&terms[..], quads, saved]);
+                self.engine(true).publish(card, tables, *graph, buffer, report)
             }
             Call::Total { .. } => self.engine(false).total([inputs[1], inputs[2], inputs[3]], report),
             Call::Suggest { .. } => self.engine(false).suggest([inputs[1], inputs[2], inputs[3]], report),

@@ -2,12 +2,14 @@
 
 use super::Engine;
 use second::eval::Quad;
+use willetcoffer::kinds::PAGE;
 use willetcoffer::limits::{
-    FETCHED_OFFSET, GRAPH_LIMIT, PAGE_REPORT_WIDTH, QUAD_TABLE_WIDTH, QUAD_WIDTH, RUN_REPORT_WIDTH, SAVED_WIDTH,
-    SLOT_WIDTH, SUGGEST_REPORT_WIDTH, TERM_TABLE_WIDTH, TOTAL_REPORT_WIDTH,
+    FETCHED_OFFSET, GRAPH_LIMIT, PAGE_REPORT_WIDTH, PUBLISH_REPORT_WIDTH, QUAD_TABLE_WIDTH, QUAD_WIDTH,
+    RUN_REPORT_WIDTH, SAVED_WIDTH, SLOT_WIDTH, SUGGEST_REPORT_WIDTH, TERM_TABLE_WIDTH, TOTAL_REPORT_WIDTH,
 };
 use willetcoffer::ranks::BUILT_IN;
 use willetcoffer::saved::{GRAPHS, QUADS};
+use willetcoffer::term::body_width;
 use willetcoffer::{Card, PageReport, RunReport, Suggestion};
 
 /// A card, ranks and lent buffers of any lengths.
@@ -23,6 +25,8 @@ pub struct Station {
     pub quad_table: Vec<u8>,
     /// The saved run.
     pub saved: Vec<u8>,
+    /// The buffer of a page that is published, while the call is made; else it is empty.
+    pub page: Vec<u8>,
 }
 
 /// A call.
@@ -45,6 +49,15 @@ pub enum Call {
         graph: u64,
         /// Its page.
         page: Vec<u8>,
+        /// The length of the lent report.
+        report: usize,
+    },
+    /// A graph to be published.
+    Publish {
+        /// The graph's number.
+        graph: u64,
+        /// The length of the lent buffer.
+        room: usize,
         /// The length of the lent report.
         report: usize,
     },
@@ -71,6 +84,11 @@ impl Call {
         Call::Page { graph: graph as u64, page, report: PAGE_REPORT_WIDTH }
     }
 
+    /// A graph to be published, with a report of the right length.
+    pub fn publish(graph: usize, room: usize) -> Call {
+        Call::Publish { graph: graph as u64, room, report: PUBLISH_REPORT_WIDTH }
+    }
+
     /// A total with a report of the right length.
     pub fn total() -> Call {
         Call::Total { report: TOTAL_REPORT_WIDTH }
@@ -87,33 +105,52 @@ impl Call {
             Call::Load => "load",
             Call::Run { .. } => "run",
             Call::Page { .. } => "page",
+            Call::Publish { .. } => "publish",
             Call::Total { .. } => "total",
             Call::Suggest { .. } => "suggest",
         }
     }
 
-    /// Whether it is lent tables and ranks; a total and a suggestion are lent the card alone.
+    /// Whether it is lent tables; a total and a suggestion are lent the card alone.
     pub fn is_lent(&self) -> bool {
         !matches!(self, Call::Total { .. } | Call::Suggest { .. })
+    }
+
+    /// Whether it is lent ranks too; a graph is published without.
+    pub fn is_ranked(&self) -> bool {
+        self.is_lent() && !matches!(self, Call::Publish { .. })
     }
 
     /// The length of its report; a load has none.
     pub fn report(&self) -> usize {
         match self {
             Call::Load => 0,
-            Call::Run { report, .. } | Call::Page { report, .. } => *report,
+            Call::Run { report, .. } | Call::Page { report, .. } | Call::Publish { report, .. } => *report,
             Call::Total { report } | Call::Suggest { report } => *report,
+        }
+    }
+
+    /// The length of the buffer that it is lent for a page; none has one but a graph to be published.
+    pub fn room(&self) -> usize {
+        match self {
+            Call::Publish { room, .. } => *room,
+            _ => 0,
         }
     }
 }
 
-/// What a call gave: its number and its report.
+/// What stands in a lent report and in the buffer of a page before a call.
+pub const UNWRITTEN: u8 = 0xaa;
+
+/// What a call gave: its number, its report and the buffer of its page.
 #[derive(Clone, PartialEq, Eq, Debug)]
 pub struct Answer {
     /// 0 or the refusal.
     pub code: u32,
-    /// The report's bytes; `aa` where nothing was written.
+    /// The report's bytes; [`UNWRITTEN`] where nothing was written.
     pub report: Vec<u8>,
+    /// The bytes of the buffer that a graph was published into, in the same way.
+    pub page: Vec<u8>,
 }
 
 impl Answer {
@@ -133,10 +170,41 @@ impl Answer {
         Suggestion::from_bytes(&self.report).filter(|_| self.code == 0)
     }
 
+    /// The page of a graph that was published, where the report's length lies within the buffer, and the bytes after it.
+    pub fn published(&self) -> Option<(&[u8], &[u8])> {
+        let report = self.report[..].try_into().ok().filter(|_| self.code == 0)?;
+        self.page.split_at_checked(u32::from_le_bytes(report) as usize)
+    }
+
+    /// Whether report and buffer are as they were lent.
+    pub fn is_unwritten(&self) -> bool {
+        self.report.iter().chain(&self.page).all(|byte| *byte == UNWRITTEN)
+    }
+
+    /// How two answers differ.
+    pub fn first_difference(&self, other: &Answer) -> Option<String> {
+        if self == other {
+            return None;
+        }
+        // A page is not told whole.
+        let [a, b] = [self, other].map(|answer| Answer { page: Vec::new(), ..answer.clone() });
+        if a != b {
+            return Some(format!("answers {a:x?} and {b:x?}"));
+        }
+        differs("page", &self.page, &other.page)
+    }
+
     /// The report of a page that was not refused.
     pub fn paged(&self) -> Option<PageReport> {
         PageReport::from_bytes(&self.report).filter(|_| self.code == 0)
     }
+}
+
+/// Where two buffers of this name differ first.
+fn differs(name: &str, a: &[u8], b: &[u8]) -> Option<String> {
+    let at = a.iter().zip(b).position(|(a, b)| a != b).or((a.len() != b.len()).then_some(0))?;
+    let [a, b] = [a, b].map(|bytes| &bytes[at..(at + 16).min(bytes.len())]);
+    Some(format!("{name} differs at {at}: {a:02x?} and {b:02x?}"))
 }
 
 impl Station {
@@ -144,7 +212,7 @@ impl Station {
     pub fn new(card: Card, byte: u8) -> Station {
         let [term_table, quad_table, saved] =
             [TERM_TABLE_WIDTH, QUAD_TABLE_WIDTH, SAVED_WIDTH].map(|width| vec![byte; width]);
-        Station { card, ranks: BUILT_IN.to_vec(), term_table, quad_table, saved }
+        Station { card, ranks: BUILT_IN.to_vec(), term_table, quad_table, saved, page: Vec::new() }
     }
 
     /// The buffers with their names.
@@ -159,9 +227,20 @@ impl Station {
 
     /// Makes the call by this engine.
     pub fn call(&mut self, engine: &dyn Engine, call: &Call) -> Answer {
-        let mut report = vec![0xaa; call.report()];
+        let mut report = self.lend(call);
         let code = engine.call(self, call, &mut report);
-        Answer { code, report }
+        self.answered(code, report)
+    }
+
+    /// Lends what is written beside the tables: the buffer of a page, and the report, which it gives.
+    pub fn lend(&mut self, call: &Call) -> Vec<u8> {
+        self.page = vec![UNWRITTEN; call.room()];
+        vec![UNWRITTEN; call.report()]
+    }
+
+    /// What a call gave that was lent this report.
+    pub fn answered(&mut self, code: u32, report: Vec<u8>) -> Answer {
+        Answer { code, report, page: std::mem::take(&mut self.page) }
     }
 
     /// The saved number at this place, 0 in a saved run of another length.
@@ -187,6 +266,11 @@ impl Station {
         (0..count).map(|i| self.number(FETCHED_OFFSET + 2 * i)).collect()
     }
 
+    /// Whether a graph is among them.
+    pub fn has_fetched(&self, graph: u64) -> bool {
+        self.fetched().iter().any(|fetched| *fetched as u64 == graph)
+    }
+
     /// The quads in use, as they stand.
     pub fn quads(&self) -> Vec<Quad> {
         let (numbers, _) = self.quad_table.as_chunks::<2>();
@@ -205,12 +289,23 @@ impl Station {
         self.set(QUADS, count);
     }
 
+    /// A graph's quads as records of a page, in their order, read by the widths of slots and quads alone.
+    pub fn triples(&self, graph: u64) -> impl Iterator<Item = Vec<u8>> + '_ {
+        let term = |number: u16| {
+            let slot = self.term_table.get(SLOT_WIDTH * usize::from(number)..).unwrap_or_default();
+            let kind = slot.first().copied().unwrap_or(0);
+            (kind, slot.get(1..1 + body_width(kind).unwrap_or(0)).unwrap_or_default())
+        };
+        let quads = self.quads().into_iter().filter(move |quad| u64::from(quad[0]) == graph);
+        quads.map(move |[_, subject, property, object]| {
+            let (kind, object) = term(object);
+            [&[kind.wrapping_add(PAGE)], term(subject).1, term(property).1, object].concat()
+        })
+    }
+
     /// Where two stations differ first.
     pub fn first_difference(&self, other: &Station) -> Option<String> {
         let mut pairs = self.buffers().into_iter().zip(other.buffers());
-        let ((name, a), (_, b)) = pairs.find(|((_, a), (_, b))| a != b)?;
-        let at = a.iter().zip(b).position(|(a, b)| a != b).unwrap_or(0);
-        let [a, b] = [a, b].map(|bytes| &bytes[at..(at + 16).min(bytes.len())]);
-        Some(format!("{name} differs at {at}: {a:02x?} and {b:02x?}"))
+        pairs.find_map(|((name, a), (_, b))| differs(name, a, b))
     }
 }

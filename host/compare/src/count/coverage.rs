@@ -1,5 +1,6 @@
 //! What was met, and whether it was met often enough.
 
+use super::published;
 use super::texts::{PLACES, SKIPPED};
 use second::edge::{Look, EDGES};
 use second::note::Note;
@@ -17,14 +18,14 @@ pub struct Coverage {
 pub(super) const ENOUGH: u64 = 100;
 /// What a call notes, a store in another order and a store that a page leaves again are to be met by one call for so many cases: each
 /// 1,000 times in the gate's 50,000.
-const CASES_FOR_ONE: u64 = 50;
+pub(super) const CASES_FOR_ONE: u64 = 50;
 
 /// What looks at texts at an edge, and what is lent in the widths of before or with a byte at an edge changed so that it is refused, are to
 /// be met by one call for so many cases: each 100 times in 50,000.
-const CASES_FOR_A_LOOK: u64 = 500;
+pub(super) const CASES_FOR_A_LOOK: u64 = 500;
 
 /// Two refusals that a call would meet together are to be met by one call for so many cases: each pair 50 times in 50,000.
-const CASES_FOR_TWO: u64 = 1_000;
+pub(super) const CASES_FOR_TWO: u64 = 1_000;
 
 /// A byte at an edge that is changed and leaves a good text is to be met by one call for so many cases: 25 times in 50,000.
 const CASES_FOR_ANOTHER: u64 = 2_000;
@@ -46,10 +47,13 @@ const OF_TUPLES: [&str; 3] = ["bad", "true", "false"];
 /// From so many tuples on, what an evaluator may write is required.
 const TUPLES: u64 = 50_000;
 
+/// Something to be met: its section and key, and how often.
+pub(super) type Required = (&'static str, String, u64);
+
 /// What a long enough run of so many cases has to meet, and how often: each refusal of each call, each script kind, each state, also
 /// where the total is known, each place of each blocks, each type, each sort of ranks, each note, each change of a store's order, each way
 /// to a store again, refusals together, and at each edge each place that has a text and each look at one.
-fn required(cases: u64) -> Vec<(&'static str, String, u64)> {
+fn required(cases: u64) -> Vec<Required> {
     let mut all = Vec::new();
     let mut add = |section, keys: &[u32]| all.extend(keys.iter().map(|k| (section, format!("{k:02}"))));
     add("load", &[0, 1, 2, 3, 4, 5, 6, 7, 8, 9, 21]);
@@ -88,6 +92,7 @@ fn required(cases: u64) -> Vec<(&'static str, String, u64)> {
         }
     }
     all.extend(odd().map(|key| ("odd", key, cases / CASES_FOR_A_LOOK)));
+    all.extend(published::required(cases));
     all
 }
 
@@ -114,14 +119,14 @@ const CHANGED: [&str; 4] =
 /// What is lent in the widths of before, and what a call has to say of it.
 fn odd() -> impl Iterator<Item = String> {
     let rows: [(&str, &[&str]); 8] = [
-        ("terms of before", &["load 02", "total 02", "suggest 02", "run 10", "page 10"]),
-        ("schema of before", &["load 04", "total 04", "suggest 04", "run 10", "page 10"]),
-        ("card of before", &["load 02", "total 02", "suggest 02", "run 10", "page 10"]),
-        ("term table of before", &["load 01", "run 01", "page 01"]),
-        ("card and term table of before", &["load 01", "run 01", "page 01"]),
-        ("slots of before", &["run 10", "page 10"]),
+        ("terms of before", &["load 02", "total 02", "suggest 02", "run 10", "page 10", "publish 10"]),
+        ("schema of before", &["load 04", "total 04", "suggest 04", "run 10", "page 10", "publish 10"]),
+        ("card of before", &["load 02", "total 02", "suggest 02", "run 10", "page 10", "publish 10"]),
+        ("term table of before", &["load 01", "run 01", "page 01", "publish 01"]),
+        ("card and term table of before", &["load 01", "run 01", "page 01", "publish 01"]),
+        ("slots of before", &["run 10", "page 10", "publish 10"]),
         ("page of before", &["page 13"]),
-        ("a slot after its record", &["run 10", "page 10"]),
+        ("a slot after its record", &["run 10", "page 10", "publish 10"]),
     ];
     rows.into_iter().flat_map(|(what, calls)| calls.iter().map(move |call| format!("{what} in a {call}")))
 }

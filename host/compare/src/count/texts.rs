@@ -25,22 +25,26 @@ pub const PLACES: [&str; 9] = [
     "stored string of",
 ];
 
+/// The places of a page that is published.
+pub const PUBLISHED: [&str; 4] =
+    ["published subject of", "published property of", "published URI of", "published string of"];
+
 /// Where a property that is skipped begins to differ from one of the schema.
 pub const SKIPPED: &str = "skipped property at byte";
 
 /// What a call has, each once.
 #[derive(Default)]
-struct Places(BTreeSet<(&'static str, usize)>);
+pub(super) struct Places(BTreeSet<(&'static str, usize)>);
 
 impl Places {
-    fn text(&mut self, place: &'static str, text: &[u8]) {
+    pub(super) fn text(&mut self, place: &'static str, text: &[u8]) {
         let length = trim(text).len();
         if EDGES.contains(&length) {
             self.0.insert((place, length));
         }
     }
 
-    fn term(&mut self, [uri, string]: [&'static str; 2], term: &Term) {
+    pub(super) fn term(&mut self, [uri, string]: [&'static str; 2], term: &Term) {
         match term {
             Term::Uri(text) => self.text(uri, text),
             Term::Str(_, text) => self.text(string, text),
@@ -58,7 +62,7 @@ impl Places {
 }
 
 impl Coverage {
-    fn places(&mut self, places: Places) {
+    pub(super) fn places(&mut self, places: Places) {
         for (place, edge) in places.0 {
             self.add(place, edge.to_string());
         }

@@ -119,7 +119,9 @@ impl Draw {
         match (call, rng.below(8)) {
             (_, 0) => old_card(rng, station),
             (Call::Load | Call::Total { .. } | Call::Suggest { .. }, 1..=2) => old_card(rng, station),
-            (Call::Load, 3) | (Call::Run { .. } | Call::Page { .. }, 1..=2) => old_table(rng, station),
+            (Call::Load, 3) | (Call::Run { .. } | Call::Page { .. } | Call::Publish { .. }, 1..=2) => {
+                old_table(rng, station)
+            }
             (Call::Load | Call::Total { .. } | Call::Suggest { .. }, _) => card_at_an_edge(rng, station),
             (Call::Page { page, .. }, 3..=4) => {
                 *page = before::page(&page::read(page).ok()?);
@@ -129,7 +131,7 @@ impl Draw {
                 let texts = texts(page_records(page), texts_of_triple);
                 change(rng, page, &texts).map(Odd::PageAt)
             }
-            (Call::Run { .. } | Call::Page { .. }, _) => slot(rng, station),
+            (Call::Run { .. } | Call::Page { .. } | Call::Publish { .. }, _) => slot(rng, station),
         }
     }
 }

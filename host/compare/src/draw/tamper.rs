@@ -8,6 +8,7 @@ use crate::draw::damage::damage;
 use crate::draw::pool::{datatype, term, Pool};
 use crate::draw::rng::Rng;
 use crate::draw::scripts::Writer;
+pub(super) use craft::loaded;
 use willetcoffer::limits::{
     BINDINGS_OFFSET, BOUND_OFFSET, DEPTH_LIMIT, FETCHED_OFFSET, GRAPH_LIMIT, ITEMS_OFFSET, ITEM_WIDTH, PAIR_LIMIT,
     QUAD_LIMIT, QUAD_WIDTH, SLOT_WIDTH, TERM_LIMIT, TYPES_OFFSET, VARIABLE_LIMIT,

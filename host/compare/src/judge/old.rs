@@ -17,7 +17,7 @@ pub(super) fn refused(made: &Made) -> Result<(), Difference> {
         _ if [1, 21].contains(&code) => return Ok(()),
         Call::Load | Call::Total { .. } | Call::Suggest { .. } if terms => &[2],
         Call::Load | Call::Total { .. } | Call::Suggest { .. } if schema => &[2, 3, 4],
-        Call::Run { .. } | Call::Page { .. } if terms || schema => &[10],
+        Call::Run { .. } | Call::Page { .. } | Call::Publish { .. } if terms || schema => &[10],
         Call::Page { page, .. } if before::is_page(page) => &[10, 12, 13],
         _ => return Ok(()),
     };

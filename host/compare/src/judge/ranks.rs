@@ -9,8 +9,8 @@ use second::script::{Cond, Expr, Kind, Name, Query};
 use second::term::Term;
 use second::types::{Datatype, Type};
 use willetcoffer::limits::{
-    PAGE_REPORT_WIDTH, QUAD_TABLE_WIDTH, RANKS_WIDTH, RUN_REPORT_WIDTH, SAVED_WIDTH, SUGGEST_REPORT_WIDTH,
-    TERM_TABLE_WIDTH, TOTAL_REPORT_WIDTH,
+    PAGE_REPORT_WIDTH, PUBLISH_REPORT_WIDTH, QUAD_TABLE_WIDTH, RANKS_WIDTH, RUN_REPORT_WIDTH, SAVED_WIDTH,
+    SUGGEST_REPORT_WIDTH, TERM_TABLE_WIDTH, TOTAL_REPORT_WIDTH,
 };
 
 /// Whether each rank from 0 to 94 stands once, and no other.
@@ -20,22 +20,23 @@ pub fn each_once(ranks: &[u8]) -> bool {
     sorted.into_iter().eq(0..RANKS_WIDTH as u8)
 }
 
-/// 1 for another length of what the call is lent, else 21 for ranks that are none; a total and a suggestion are lent neither tables nor ranks.
+/// 1 for another length of what the call is lent, else 21 for ranks that are none; a total and a suggestion are lent neither tables nor ranks,
+/// and a graph is published without ranks.
 pub fn due(station: &Station, call: &Call) -> Option<u32> {
     let report = match call {
         Call::Load => 0,
         Call::Run { .. } => RUN_REPORT_WIDTH,
         Call::Page { .. } => PAGE_REPORT_WIDTH,
+        Call::Publish { .. } => PUBLISH_REPORT_WIDTH,
         Call::Total { .. } => TOTAL_REPORT_WIDTH,
         Call::Suggest { .. } => SUGGEST_REPORT_WIDTH,
     };
     let Station { ranks, term_table, quad_table, saved, .. } = station;
-    let widths = [RANKS_WIDTH, TERM_TABLE_WIDTH, QUAD_TABLE_WIDTH, SAVED_WIDTH];
-    let fits = [ranks, term_table, quad_table, saved].map(Vec::len) == widths;
-    if call.report() != report || call.is_lent() && !fits {
+    let fit = [term_table, quad_table, saved].map(Vec::len) == [TERM_TABLE_WIDTH, QUAD_TABLE_WIDTH, SAVED_WIDTH];
+    if call.report() != report || call.is_lent() && !fit || call.is_ranked() && ranks.len() != RANKS_WIDTH {
         return Some(1);
     }
-    (call.is_lent() && !each_once(ranks)).then_some(21)
+    (call.is_ranked() && !each_once(ranks)).then_some(21)
 }
 
 /// 1 and 21 where they are due, and nowhere else.
@@ -53,7 +54,7 @@ pub(super) fn refused_first(made: &Made) -> Result<(), Difference> {
 pub fn turned(made: &Made, engines: [&dyn Engine; 2]) -> Result<(), Difference> {
     let answer = &made.answers[0];
     let is_run = matches!(made.call, Call::Run { .. });
-    if !made.call.is_lent() || is_run && answer.code == 0 && compares_strings(made.before) {
+    if !made.call.is_ranked() || is_run && answer.code == 0 && compares_strings(made.before) {
         return Ok(());
     }
     for engine in engines {

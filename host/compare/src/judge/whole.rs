@@ -6,9 +6,8 @@ use crate::call::{Call, Made, Station};
 use crate::records::numbered;
 use std::collections::BTreeSet;
 use willetcoffer::kinds::{DATE_TIME, DECIMAL, INTEGER, PAGE, STRING, URI};
-use willetcoffer::limits::{ENTRY_WIDTH, OBJECT_OFFSET, PROPERTY_OFFSET, SLOT_WIDTH, TERM_TABLE_WIDTH};
+use willetcoffer::limits::{ENTRY_WIDTH, OBJECT_OFFSET, PROPERTY_OFFSET, TERM_TABLE_WIDTH};
 use willetcoffer::page::records;
-use willetcoffer::term::body_width;
 use willetcoffer::{Card, Datatype, PageReport};
 
 /// Holds a call that was not refused to the law.
@@ -17,7 +16,7 @@ pub(super) fn kept_whole(made: &Made) -> Result<(), Difference> {
     let broken = match made.call {
         Call::Load => loaded(station),
         Call::Page { graph, page, .. } => taken_in(station, *graph, page, made.answers[0].paged()),
-        Call::Run { .. } | Call::Total { .. } | Call::Suggest { .. } => None,
+        Call::Run { .. } | Call::Publish { .. } | Call::Total { .. } | Call::Suggest { .. } => None,
     };
     broken.map_or(Ok(()), |what| Err(Difference::new(Breach::Whole, what)))
 }
@@ -34,7 +33,7 @@ fn loaded(station: &Station) -> Option<String> {
 fn taken_in(station: &Station, graph: u64, page: &[u8], report: Option<PageReport>) -> Option<String> {
     let (taken, skipped): (Vec<&[u8]>, Vec<&[u8]>) = records(page).partition(|record| takes(&station.card, record));
     let taken: BTreeSet<Vec<u8>> = taken.into_iter().map(<[u8]>::to_vec).collect();
-    let stored: Vec<Vec<u8>> = triples(station, graph).collect();
+    let stored: Vec<Vec<u8>> = station.triples(graph).collect();
     if stored.len() != taken.len() || !stored.iter().all(|record| taken.contains(record)) {
         return Some(format!("{} triples to take, others or another number stored: {}", taken.len(), stored.len()));
     }
@@ -61,18 +60,4 @@ fn datatypes(kind: u8) -> Vec<u8> {
         _ => &[],
     };
     all.iter().map(|datatype| datatype.code()).collect()
-}
-
-/// A graph's quads as records of a page.
-fn triples(station: &Station, graph: u64) -> impl Iterator<Item = Vec<u8>> + '_ {
-    let term = |number: u16| {
-        let slot = station.term_table.get(SLOT_WIDTH * usize::from(number)..).unwrap_or_default();
-        let kind = slot.first().copied().unwrap_or(0);
-        (kind, slot.get(1..1 + body_width(kind).unwrap_or(0)).unwrap_or_default())
-    };
-    let quads = station.quads().into_iter().filter(move |quad| u64::from(quad[0]) == graph);
-    quads.map(move |[_, subject, property, object]| {
-        let (kind, object) = term(object);
-        [&[kind.wrapping_add(PAGE)], term(subject).1, term(property).1, object].concat()
-    })
 }

@@ -13,6 +13,9 @@ pub fn describe(made: &Made, tamper: &str, engines: [&dyn Engine; 2]) -> String 
         Call::Load => "load\n".to_string(),
         Call::Run { budget, now, report } => format!("run budget {budget} now {now} report of {report}\n"),
         Call::Page { graph, page, report } => format!("page graph {graph} report of {report} page {}\n", hex(page)),
+        Call::Publish { graph, room, report } => {
+            format!("publish graph {graph} into {room} bytes report of {report}\n")
+        }
         Call::Total { report } => format!("total report of {report}\n"),
         Call::Suggest { report } => format!("suggest report of {report}\n"),
     };
@@ -32,12 +35,15 @@ pub fn describe(made: &Made, tamper: &str, engines: [&dyn Engine; 2]) -> String 
     if !tamper.is_empty() {
         let _ = writeln!(text, "  before it, tampered with: {tamper}");
     }
-    if made.call.is_lent() {
+    if made.call.is_ranked() {
         text += &ranks(&made.before.ranks);
     }
     for ((engine, answer), time) in engines.iter().zip(&made.answers).zip(made.times) {
         let (name, why) = (engine.name(), engine.why());
         let _ = writeln!(text, "  {name}: {} report {} {why} in {time:?}", answer.code, hex(&answer.report));
+        if let Some((page, _)) = answer.published() {
+            let _ = writeln!(text, "    page {}", hex(page));
+        }
     }
     let _ = writeln!(text, "  saved run {}", hex(&made.after[0].saved));
     text

@@ -107,6 +107,31 @@ impl Station {
         Ok(u32::from_le_bytes(report.try_into().unwrap()))
     }
 
+    /// The page of a graph, out of a buffer of so many bytes, or the refusal; both engines must agree. The rest of the buffer must be left,
+    /// and on a refusal all of it.
+    pub fn publish(&self, graph: u64, room: usize) -> Result<Vec<u8>, u32> {
+        let mut results = Vec::new();
+        for engine in ENGINES {
+            let (mut page, mut report) = (vec![0xaa; room], vec![0xaa; PUBLISH_REPORT]);
+            let card = [&self.terms[..], &self.schema, &self.script];
+            let tables = [&self.term_table[..], &self.quad_table, &self.saved];
+            let outcome = engine.publish(card, tables, graph, &mut page, &mut report).map_err(|r| r.number);
+            results.push((outcome, page, report));
+        }
+        assert_eq!(results[0], results[1]);
+        let (outcome, mut page, report) = results.remove(0);
+        let length = match outcome {
+            Ok(()) => u32::from_le_bytes(report.try_into().unwrap()) as usize,
+            Err(_) => {
+                assert_eq!(report, vec![0xaa; PUBLISH_REPORT]);
+                0
+            }
+        };
+        assert!(page[length..].iter().all(|byte| *byte == 0xaa));
+        page.truncate(length);
+        outcome.map(|()| page)
+    }
+
     /// The terms in use.
     pub fn terms_in_use(&self) -> Vec<Term> {
         self.term_table.chunks(SLOT).map_while(Term::from_slot).collect()

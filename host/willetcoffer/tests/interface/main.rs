@@ -46,7 +46,7 @@ fn widths_limits_and_offsets_of_the_library() {
 }
 
 /// The refusals' names in the shared data, with their numbers.
-const REFUSALS: [(&str, i128); 18] = [
+const REFUSALS: [(&str, i128); 20] = [
     ("WRONG_LENGTH", 1),
     ("BAD_TERM", 2),
     ("TERM_TWICE", 3),
@@ -65,6 +65,8 @@ const REFUSALS: [(&str, i128); 18] = [
     ("NO_SUCH_NUMBER", 17),
     ("TOO_MANY_ENTRIES", 19),
     ("BAD_RANKS", 21),
+    ("NOT_FETCHED", 22),
+    ("SHORT_BUFFER", 23),
 ];
 
 #[test]
@@ -149,7 +151,8 @@ fn codes_of_types() {
 }
 
 /// Words before a refusal's number; it stands too where a record's number is written.
-const REFUSING: [&str; 6] = ["require", "given", "refused", "refusedRun", "refusedPage", "SuggestAnswers.Refused"];
+const REFUSING: [&str; 7] =
+    ["require", "given", "refused", "refusedRun", "refusedPage", "SuggestAnswers.Refused", "refusedPublish"];
 
 /// The definitions of the calls.
 fn calls() -> String {

@@ -12,7 +12,8 @@ use willetcoffer::limits::{
 };
 use willetcoffer::saved::{GRAPHS, HEIGHT, ITEM_MARK, ITEM_TUPLE, ITEM_ZERO};
 
-fn loaded(station: &Station) -> Option<Loaded> {
+/// What a station's card loads as.
+pub(in crate::draw) fn loaded(station: &Station) -> Option<Loaded> {
     let card = &station.card;
     check(second::arcs::solve, &card.terms, &card.schema, &card.script).ok()
 }

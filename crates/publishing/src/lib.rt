@@ -1,0 +1,92 @@
+// The publish call: refusals 1, 10, 22 and 23 in this order, then the page of a graph.
+ghost use mathlib.Core.Path.{_≡_};
+ghost use mathlib.Core.Bool.{_&&_};
+ghost use mathlib.Core.List.{List};
+ghost use Prim.Native.Nat.{ℕ, _≤_};
+ghost use lib.Dec.{eqb, ltb};
+ghost use lib.ListN.{length, take};
+ghost use Rattle.definitions.specs.Limits.{termLimit, graphLimit, termTableWidth, quadTableWidth};
+ghost use Rattle.definitions.specs.Lists.{isIn};
+ghost use Rattle.definitions.specs.Calls.{publishCall};
+ghost use Rattle.entry.specs.Entry.{lentOf};
+use definitions::NOT_FETCHED;
+use definitions::PublishAnswer;
+use definitions::QUAD_LIMIT;
+use definitions::QUAD_TABLE_WIDTH;
+use definitions::SavedRun;
+use definitions::SavedStore;
+use definitions::TERM_LIMIT;
+use definitions::TERM_TABLE_WIDTH;
+use definitions::WRONG_LENGTH;
+use entry::sound;
+use keys::GRAPH_REACH;
+use keys::GRAPH_WEIGHT;
+use keys::lower;
+use keys::upper;
+use page_writing::publish_keys;
+use store::graphs::is_fetched;
+
+// Whether both tables have their lengths.
+fn both_fit(table: &[u8], store: &[u8]) -> bool
+    ensures { λ r. ⌜ r ≡ (eqb (length (now (table .entry))) termTableWidth && eqb (length (now (store .entry))) quadTableWidth) ⌝ }
+{
+    (table.len() == TERM_TABLE_WIDTH) & (store.len() == QUAD_TABLE_WIDTH)
+}
+
+// Whether a number is that of a term in use and in the fetched list.
+fn is_listed(store: SavedStore, count: usize, graph: u64) -> bool
+    requires { ⌜ store .graphs ≤ graphLimit ⌝ }
+    requires { ⌜ count ≤ termLimit ⌝ }
+    ensures { λ r. ⌜ r ≡ (ltb graph count && isIn graph (take (store .graphs) (store .fetched))) ⌝ }
+{
+    if (count as u64) <= graph {
+        return false;
+    }
+    is_fetched(store, graph as u16)
+}
+
+// The publish call: the page's length, and the page at the front of the buffer, of which the rest is untouched; a refusal leaves all of it.
+// Ruled out: a graph published that is not fetched; the quads of another graph published with it.
+pub fn publish(
+    terms: &[u8],
+    schema: &[u8],
+    script: &[u8],
+    table: &[u8],
+    store: &[u8],
+    saved: SavedRun,
+    graph: u64,
+    out: &mut [u8],
+) -> PublishAnswer
+    ensures { λ r. ⌜ ((ranks : List ℕ)
+        → publishCall (lentOf ranks (now (terms .entry)) (now (schema .entry)) (now (script .entry)) (now (table .entry)) (now (store .entry))) saved graph (now (out .entry))
+        ≡ record { returned = r; page = now (out .exit) }) ⌝ }
+{
+    if !both_fit(table, store) {
+        return PublishAnswer::Refused(WRONG_LENGTH);
+    }
+    let mut keys = [0u64; QUAD_LIMIT];
+    let mut leasts = [0u8; TERM_LIMIT];
+    let entered = sound(
+        terms,
+        schema,
+        script,
+        table,
+        store,
+        saved,
+        &mut keys,
+        &mut leasts,
+    );
+    if entered.refusal != 0 {
+        return PublishAnswer::Refused(entered.refusal);
+    }
+    let kept = saved.store;
+    if !is_listed(kept, entered.count, graph) {
+        return PublishAnswer::Refused(NOT_FETCHED);
+    }
+    let n = kept.quads as usize;
+    let first = graph * GRAPH_WEIGHT;
+    let last = first + GRAPH_REACH;
+    let low = lower(&keys, n, first);
+    let high = upper(&keys, n, last);
+    publish_keys(table, &mut keys[low..high], out)
+}
