@@ -54,7 +54,7 @@ for n, ds in direct.items():
         u, v = place[d]
         out.append(f'<path d="M{x:.0f} {y:.0f} C{x:.0f} {y - 30:.0f} {u:.0f} {v + HEIGHT + 30:.0f} {u:.0f} {v + HEIGHT:.0f}" fill="none" stroke="#777777" marker-end="url(#to)"/>')
 for n, (x, y) in place.items():
-    fill = "#f3ecd8" if not any((root / "crates" / n / "src").glob("*.rt")) or n in ("definitions", "laws", "safety", "theorems") else "#dfeaf3"
+    fill = "#f3ecd8" if not any((root / "crates" / n / "src").glob("*.rt")) or n in ("definitions", "laws", "safety", "theorems", "demands") else "#dfeaf3"
     out.append(f'<rect x="{x - WIDTH / 2:.0f}" y="{y}" width="{WIDTH}" height="{HEIGHT}" rx="6" fill="{fill}" stroke="#444444"/>')
     out.append(f'<text x="{x:.0f}" y="{y + HEIGHT / 2 + 5:.0f}" text-anchor="middle" fill="#222222">{n}</text>')
 out.append("</svg>")

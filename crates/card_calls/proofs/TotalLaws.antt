@@ -18,7 +18,7 @@ use Rattle.laws.specs.ReadAnswers.{isSome}
 use Rattle.laws.proofs.Tests.{andRight}
 use Rattle.laws.proofs.ReadBounds.{records-fit, parsed-in}
 use Rattle.laws.proofs.Check.{ReadPassed, read-passed}
-use Rattle.scope.specs.Totals.{totalIn}
+use Rattle.totals.specs.Totals.{totalIn}
 use Rattle.card.specs.Check.{numberOf, ReadyOf}
 use Rattle.card.specs.declared.refusals.Ready.{Ready}
 use Rattle.card.proofs.RefusalNumbers.{refused-number, passed-number}

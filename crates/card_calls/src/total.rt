@@ -4,7 +4,7 @@ ghost use Rattle.definitions.specs.Calls as Calls;
 use card::refusals::read_card;
 use definitions::TERM_TABLE_WIDTH;
 use definitions::TotalAnswer;
-use scope::total::total_of;
+use totals::total_of;
 
 // How many steps a script takes in all, 0 where it has an each block. Types are not asked.
 // Ruled out: a total told of a card that is refused; a total that says of every script that it has none.

@@ -29,7 +29,7 @@ use Rattle.values.specs.NumberKinds.{held, inKind}
 use Rattle.values.specs.Means.{Holds, plainString}
 use Rattle.values.proofs.ArithmeticLaws.{held-good, held-integer, held-decimal, where-inv, zero-tag, zero-text}
 use Rattle.matching.proofs.FieldLaws.{field-text}
-use Rattle.values.proofs.SlotLaws.{field-good, uri-good}
+use Rattle.term_values.proofs.SlotLaws.{field-good, uri-good}
 
 -- ── numbers ─────────────────────────────────────────────────────────────────────────────────
 

@@ -30,9 +30,9 @@ use Rattle.laws.proofs.ScriptReads.{script-reads, parsed-reads}
 use Rattle.laws.specs.Walks.{Loads}
 use Rattle.laws.specs.ReadAnswers.{isSome, passes}
 use Rattle.scope.specs.Uses.{freeIn}
-use Rattle.scope.specs.Places.{placeOf, placeAt}
-use Rattle.scope.specs.declared.place.Place.{Place}
-use Rattle.scope.specs.declared.place.Place.the-variants.{At, Nowhere}
+use Rattle.places.specs.Places.{placeOf, placeAt}
+use Rattle.places.specs.declared.Place.{Place}
+use Rattle.places.specs.declared.Place.the-variants.{At, Nowhere}
 use Rattle.laws.proofs.ReadAnswers.{is-some}
 use Rattle.control.specs.Control.{allBound, tupleFits, lastHeld, itemHeld, itemsHeld}
 use Rattle.control.proofs.BindingLaws.{every-same}

@@ -5,9 +5,9 @@ use mathlib.Core.Path.{_≡_, refl, sym, ap, subst, _∙_}
 use mathlib.Core.List.{List, [], _∷_, _++_, map}
 use mathlib.Core.Bool.{Bool, true, false, _&&_, and-false}
 use mathlib.Core.Option.{some}
-use lib.Dec.{T, eqb, eqb→eq}
+use lib.Dec.{T}
 use lib.ListN.{length, take, drop, length-map, length-append, length-drop, length-take}
-use Rattle.definitions.specs.Limits.{ranksWidth, termLimit, quadLimit, termTableWidth, quadTableWidth}
+use Rattle.definitions.specs.Limits.{termLimit, quadLimit, termTableWidth}
 use Rattle.definitions.specs.Bytes.{sameBytes, onward}
 use Rattle.definitions.specs.Lists.{distinct}
 use Rattle.definitions.specs.Terms.{Term, Schema, sortOf, sameTerm, readSchema}
@@ -16,10 +16,10 @@ use Rattle.definitions.specs.Saved.{termsIn, quadsFrom, heldControl, heldStore}
 use Rattle.definitions.specs.Sound.{beginsWith, storeSound, controlSound}
 use Rattle.definitions.specs.Result.{Result, refused, passed, require, given, _>>_}
 use Rattle.definitions.specs.Calls as Calls
-use Rattle.definitions.specs.Calls.{Checked, check, reported, Lent, Lengths, tablesFit, lengthsFit, soundIn, entryTests, lengthsOf}
+use Rattle.definitions.specs.Calls.{Checked, check, reported, Lent, tablesFit, lengthsFit, soundIn, entryTests, lengthsOf}
 use Rattle.definitions.specs.Alphabet.{isAlphabet}
 use Rattle.definitions.specs.declared.SavedRun.{SavedRun}
-use Rattle.laws.proofs.Tests.{isTrue, trueIs, andLeft, andRight}
+use Rattle.laws.proofs.Tests.{isTrue, trueIs, andLeft}
 use Rattle.laws.proofs.Order.{type-of-code}
 use Rattle.laws.proofs.Options.{some-is, some-not-none}
 use Rattle.laws.proofs.Results.{passed-is, not-refused, given-inv, require-after}
@@ -48,7 +48,8 @@ use Rattle.entry.specs.declared.Entered.{Entered}
 use Rattle.card.specs.declared.refusals.Card.{Card}
 use Rattle.card.specs.Check.{numberOf, cardOf, TablesOf}
 use Rattle.card.specs.Leasts.{codeOf, leastCodes}
-use Rattle.entry.specs.Entry.{lentOf, refusedEntry, Found, Finds}
+use Rattle.lengths.specs.Lent.{lentOf}
+use Rattle.entry.specs.Entry.{refusedEntry, Found, Finds}
 use Rattle.card.proofs.RefusalNumbers.{number-refused, number-passed, refused-number, passed-number, require-not-zero, given-not-zero, after-not-zero}
 use Rattle.card.proofs.CheckLaws.{card-number, check-not-zero}
 
@@ -313,28 +314,6 @@ module _ (ranks terms schema script table store : List ℕ) (saved : SavedRun) w
                       }
 
 -- ── refusal 1 ───────────────────────────────────────────────────────────────────────────────
-
-module _ (n : Lengths) {a : Bool} (ea : a ≡ tablesFit n) (fit : a ≡ true) where
-  abbrev ranksFit : Bool
-  ranksFit = eqb (n .ranks) ranksWidth
-
-  abbrev termsFit : Bool
-  termsFit = eqb (n .termTable) termTableWidth
-
-  abbrev quadsFit : Bool
-  quadsFit = eqb (n .quadTable) quadTableWidth
-
-  all-fit : T (ranksFit && (termsFit && quadsFit))
-  unfolding tablesFit
-  all-fit = trueIs (ranksFit && (termsFit && quadsFit)) (sym ea ∙ fit)
-
-  pub fit-ranks : n .ranks ≡ ranksWidth
-  fit-ranks = eqb→eq (n .ranks) ranksWidth (andLeft ranksFit (termsFit && quadsFit) all-fit)
-
-  pub fit-both : (n .termTable ≡ termTableWidth) × (n .quadTable ≡ quadTableWidth)
-  fit-both =
-      let both = andRight ranksFit (termsFit && quadsFit) all-fit in
-      (eqb→eq (n .termTable) termTableWidth (andLeft termsFit quadsFit both), eqb→eq (n .quadTable) quadTableWidth (andRight termsFit quadsFit both))
 
 module _ (l : Lent) {a : Bool} (ea : a ≡ tablesFit (lengthsOf l)) where
   pub wrong-length : (saved : SavedRun) → a ≡ false → (rows leasts : List ℕ) {r : Entered} → r ≡ refusedEntry 1 → Finds l saved (entryTests l saved) r rows leasts

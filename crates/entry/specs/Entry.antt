@@ -16,10 +16,6 @@ use Rattle.query.specs.StoreLent.{StoreLent}
 use Rattle.card.specs.Check.{numberOf}
 use Rattle.entry.specs.declared.Entered.{Entered}
 
-abbrev pub lentOf : (ranks terms schema script termTable quadTable : List ℕ) → Lent
-lentOf ranks terms schema script termTable quadTable =
-    record { ranks = ranks; terms = terms; schema = schema; script = script; termTable = termTable; quadTable = quadTable }
-
 -- where no saved run has the bytes: the ranks come first
 abbrev pub unreadNumber : (ranks : List ℕ) → ℕ
 unreadNumber ranks = cond (isAlphabet ranks) 10 21

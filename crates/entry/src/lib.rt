@@ -6,18 +6,17 @@ ghost use lib.ListN.{length};
 ghost use Rattle.definitions.specs.Limits.{ranksWidth, termLimit, quadLimit, termTableWidth, quadTableWidth};
 ghost use Rattle.definitions.specs.Saved.{termsIn};
 ghost use Rattle.definitions.specs.Result.{given};
-ghost use Rattle.definitions.specs.Calls.{tablesFit, soundIn, entryTests};
+ghost use Rattle.definitions.specs.Calls.{soundIn, entryTests};
 ghost use Rattle.fields.specs.Answers.{countOf};
 ghost use Rattle.table.specs.Table.{HoldsTerms};
-ghost use Rattle.entry.specs.Entry.{lentOf, unreadNumber, refusedEntry, Finds};
+ghost use Rattle.lengths.specs.Lent.{lentOf};
+ghost use Rattle.entry.specs.Entry.{unreadNumber, refusedEntry, Finds};
 use alphabet::is_alphabet;
 use card::leasts::least_codes;
 use card::refusals::check_card;
 use control::control_sound;
 use definitions::BAD_RANKS;
 use definitions::ENTRY_LIMIT;
-use definitions::QUAD_TABLE_WIDTH;
-use definitions::RANKS_WIDTH;
 use definitions::SLOT_WIDTH;
 use definitions::SavedRun;
 use definitions::TERM_TABLE_WIDTH;
@@ -25,6 +24,7 @@ use definitions::UNSOUND;
 use definitions::WRONG_LENGTH;
 use fields::Counted;
 use fields::numbers::same_bytes;
+use lengths::tables_fit;
 use soundness::tables::store_sound;
 use soundness::terms::terms_sound;
 use table::slots::used_terms;
@@ -46,14 +46,6 @@ fn refused(refusal: u8) -> Entered
         count: 0,
         entries: [0; ENTRY_LIMIT],
     }
-}
-
-// Whether ranks and both tables have their lengths. Ruled out: one of them not looked at; a table that is longer.
-pub fn tables_fit(ranks: &[u8], table: &[u8], store: &[u8]) -> bool
-    ensures { λ r. ⌜ r ≡ tablesFit (record { ranks = length (now (ranks .entry)); termTable = length (now (table .entry)); quadTable = length (now (store .entry)) }) ⌝ }
-{
-    (ranks.len() == RANKS_WIDTH)
-        & ((table.len() == TERM_TABLE_WIDTH) & (store.len() == QUAD_TABLE_WIDTH))
 }
 
 // The refusal where no saved run has the bytes. Ruled out: 10 whatever the ranks are; 21 whatever they are.

@@ -7,30 +7,25 @@ use mathlib.Core.Option.{none, some}
 use lib.IntN.{ℤ}
 use lib.ListN.{length}
 use borrow.Author.Tests.{eq-eqb, ne-eqb, not-true, not-false}
-use Rattle.definitions.specs.Terms.{Term}
 use Rattle.definitions.specs.Outcome.{ok, _>>=_}
-use Rattle.definitions.specs.Result.{Result}
-use Rattle.definitions.specs.Calls.{Lent, lengthsOf, load, runCall, pageCall, total, numberCall, suggest, SchemaResult, schemaCall, publishCall}
+use Rattle.definitions.specs.Calls.{Lent, lengthsOf, load, runCall, pageCall, publishCall}
 use Rattle.definitions.specs.Alphabet.{isAlphabet}
-use Rattle.definitions.specs.Numbers.{loadNumber, runNumber, pageNumber, totalNumber, resultNumber, suggestNumber, schemaNumber, publishNumber}
-use Rattle.definitions.specs.Limits.{savedWidth, runReportWidth, pageReportWidth, totalReportWidth, numberRecordWidth, suggestReportWidth, schemaReportWidth, publishReportWidth}
-use Rattle.definitions.specs.Exports.{savedFrom, savedAfter, runReport, pageReport, totalReport, recordAfter, suggestReport, schemaReport, publishReport}
-use Rattle.definitions.specs.Exports.{loadExport, refusedRun, ranExport, runExport, refusedPage, pagedExport, pageExport, totalExport, numberExport, suggestExport, schemaExport}
+use Rattle.definitions.specs.Numbers.{loadNumber, runNumber, pageNumber, publishNumber}
+use Rattle.definitions.specs.Limits.{savedWidth, runReportWidth, pageReportWidth, publishReportWidth}
+use Rattle.definitions.specs.Exports.{savedFrom, savedAfter, runReport, pageReport, publishReport}
+use Rattle.definitions.specs.Exports.{loadExport, refusedRun, ranExport, runExport, refusedPage, pagedExport, pageExport}
 use Rattle.definitions.specs.Exports.{publishExport}
 use Rattle.definitions.specs.declared.SavedRun.{SavedRun}
 use Rattle.definitions.specs.declared.Loaded.{Loaded}
 use Rattle.definitions.specs.declared.Ran.{Ran}
 use Rattle.definitions.specs.declared.Paged.{Paged}
-use Rattle.definitions.specs.declared.TotalAnswer.{TotalAnswer}
-use Rattle.definitions.specs.declared.SuggestAnswer.{SuggestAnswer}
-use Rattle.definitions.specs.declared.SchemaAnswer.{SchemaAnswer}
 use Rattle.definitions.specs.declared.PublishAnswer.{PublishAnswer}
 use Rattle.laws.proofs.SoundIn.{entry-ranks}
 use Rattle.entry.specs.Entry.{unreadNumber}
-use Rattle.engine.proofs.RunLaws as RunLaws
-use Rattle.engine.proofs.PageLaws as PageLaws
-use Rattle.exports.specs.Buffers.{buffersFit, savedFits}
-use Rattle.exports.proofs.BufferLaws.{tables-fit}
+use Rattle.lengths.specs.Buffers.{buffersFit, savedFits}
+use Rattle.lengths.proofs.BufferLaws.{tables-fit}
+use Rattle.running.proofs.RunLaws as RunLaws
+use Rattle.paging.proofs.PageLaws as PageLaws
 
 -- ── load ────────────────────────────────────────────────────────────────────────────────────
 
@@ -127,66 +122,6 @@ module _ (l : Lent) (saved : List ℕ) (g : ℕ) (page report : List ℕ) where
     page-done {r} {x} {t} {q} u call number after reported =
         let k = after ∙ ap (λ (m : ℕ). savedAfter m (x .saved) saved) number in
         page-read u ∙ rw call (λ i. record { number = sym number i; termTable = t; quadTable = q; saved = sym k i; report = sym reported i })
-
--- ── total ───────────────────────────────────────────────────────────────────────────────────
-
-module _ (terms schema script report : List ℕ) where
-  pub total-length : (length report ≡ totalReportWidth → ⊥) → totalExport terms schema script report ≡ record { number = 1; report = report }
-  unfolding totalExport
-  total-length h = rw (totalExport, ne-eqb (length report) totalReportWidth h)
-
-  pub total-done : {answer : TotalAnswer} {p : List ℕ} {n : ℕ} → length report ≡ totalReportWidth → answer ≡ total terms schema script
-      → p ≡ totalReport report answer → n ≡ totalNumber answer → totalExport terms schema script report ≡ record { number = n; report = p }
-  unfolding totalExport
-  total-done h e written number =
-      let m = number ∙ ap totalNumber e in
-      let k = written ∙ ap (totalReport report) e in
-      rw (totalExport, eq-eqb (length report) totalReportWidth h) (λ i. record { number = sym m i; report = sym k i })
-
--- ── number ──────────────────────────────────────────────────────────────────────────────────
-
-module _ (text lent : List ℕ) where
-  pub number-length : (length lent ≡ numberRecordWidth → ⊥) → numberExport text lent ≡ record { number = 1; «record» = lent }
-  unfolding numberExport
-  number-length h = rw (numberExport, ne-eqb (length lent) numberRecordWidth h)
-
-  pub number-done : {r : Result Term} {p : List ℕ} {n : ℕ} → length lent ≡ numberRecordWidth → r ≡ numberCall text → p ≡ recordAfter lent r → n ≡ resultNumber r
-      → numberExport text lent ≡ record { number = n; «record» = p }
-  unfolding numberExport
-  number-done h e written number =
-      let m = number ∙ ap resultNumber e in
-      let k = written ∙ ap (recordAfter lent) e in
-      rw (numberExport, eq-eqb (length lent) numberRecordWidth h) (λ i. record { number = sym m i; «record» = sym k i })
-
--- ── suggest ─────────────────────────────────────────────────────────────────────────────────
-
-module _ (terms schema script report : List ℕ) where
-  pub suggest-length : (length report ≡ suggestReportWidth → ⊥) → suggestExport terms schema script report ≡ record { number = 1; report = report }
-  unfolding suggestExport
-  suggest-length h = rw (suggestExport, ne-eqb (length report) suggestReportWidth h)
-
-  pub suggest-done : {answer : SuggestAnswer} {p : List ℕ} {n : ℕ} → length report ≡ suggestReportWidth → answer ≡ suggest terms schema script
-      → p ≡ suggestReport report answer → n ≡ suggestNumber answer → suggestExport terms schema script report ≡ record { number = n; report = p }
-  unfolding suggestExport
-  suggest-done h e written number =
-      let m = number ∙ ap suggestNumber e in
-      let k = written ∙ ap (suggestReport report) e in
-      rw (suggestExport, eq-eqb (length report) suggestReportWidth h) (λ i. record { number = sym m i; report = sym k i })
-
--- ── a schema out of a page ──────────────────────────────────────────────────────────────────
-
-module _ (page schema report : List ℕ) where
-  pub schema-length : (length report ≡ schemaReportWidth → ⊥) → schemaExport page schema report ≡ record { number = 1; schema = schema; report = report }
-  unfolding schemaExport
-  schema-length h = rw (schemaExport, ne-eqb (length report) schemaReportWidth h)
-
-  pub schema-done : {answer : SchemaAnswer} {after p : List ℕ} {n : ℕ} → length report ≡ schemaReportWidth → schemaCall page schema ≡ record { answer = answer; schema = after }
-      → p ≡ schemaReport report answer → n ≡ schemaNumber answer → schemaExport page schema report ≡ record { number = n; schema = after; report = p }
-  unfolding schemaExport
-  schema-done {answer} {after} {p} {n} h call written number =
-      let x : SchemaResult = record { answer = answer; schema = after } in
-      rw (schemaExport, eq-eqb (length report) schemaReportWidth h, call)
-      (λ i. record { number = sym number i; schema = x .schema; report = sym written i })
 
 -- ── publish ─────────────────────────────────────────────────────────────────────────────────
 

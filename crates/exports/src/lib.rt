@@ -1,19 +1,13 @@
 // The C interface: the calls as other programs link them, over the saved run as bytes and back.
-pub mod handing; // handing.rt: what load, run and page have in common
-
 ghost use mathlib.Core.Path.{_≡_};
 ghost use mathlib.Core.List.{List};
 ghost use Prim.Native.Nat.{ℕ};
 ghost use Rattle.definitions.specs.Outcome.{ok};
 ghost use Rattle.definitions.specs.Exports.{loadExport, runExport, pageExport, totalExport, numberExport, suggestExport, schemaExport, publishExport};
-use definitions::NUMBER_RECORD_WIDTH;
 use definitions::PAGE_REPORT_WIDTH;
 use definitions::PUBLISH_REPORT_WIDTH;
 use definitions::RUN_REPORT_WIDTH;
 use definitions::SAVED_WIDTH;
-use definitions::SCHEMA_REPORT_WIDTH;
-use definitions::SUGGEST_REPORT_WIDTH;
-use definitions::TOTAL_REPORT_WIDTH;
 use definitions::UNSOUND;
 use layout::reading;
 
@@ -49,11 +43,11 @@ pub extern "C" fn willetcoffer_load(
     if saved.len() != SAVED_WIDTH {
         return 1;
     }
-    let loaded = engine::load::load(ranks, terms, schema, script, term_table, quad_table);
+    let loaded = loading::load(ranks, terms, schema, script, term_table, quad_table);
     let answer = loaded.answer;
     let first = loaded.saved;
     let number = reports::load_number(answer);
-    handing::hand_back(number, first, saved);
+    reports::hand_back(number, first, saved);
     number
 }
 
@@ -84,7 +78,7 @@ pub extern "C" fn willetcoffer_run(
         (now (saved .entry)) budget clock (now (report .entry))
         ≡ ok (record { number = r; saved = now (saved .exit); report = now (report .exit) }) ⌝ }
 {
-    if !handing::buffers_fit(
+    if !lengths::buffers_fit(
         ranks.len(),
         term_table.len(),
         quad_table.len(),
@@ -99,7 +93,7 @@ pub extern "C" fn willetcoffer_run(
         return entry::unread_number(ranks) as u32;
     }
     let before = read.saved;
-    let ran = engine::run::run(
+    let ran = running::run(
         ranks,
         terms,
         schema,
@@ -113,7 +107,7 @@ pub extern "C" fn willetcoffer_run(
     let answer = ran.answer;
     let after = ran.saved;
     let number = reports::run_number(answer);
-    handing::hand_back(number, after, saved);
+    reports::hand_back(number, after, saved);
     reports::write_run_report(answer, report);
     number
 }
@@ -151,7 +145,7 @@ pub extern "C" fn willetcoffer_page(
           report = now (report .exit);
         } ⌝ }
 {
-    if !handing::buffers_fit(
+    if !lengths::buffers_fit(
         ranks.len(),
         term_table.len(),
         quad_table.len(),
@@ -166,7 +160,7 @@ pub extern "C" fn willetcoffer_page(
         return entry::unread_number(ranks) as u32;
     }
     let before = read.saved;
-    let paged = engine::page::page(
+    let paged = paging::page(
         ranks,
         terms,
         schema,
@@ -180,7 +174,7 @@ pub extern "C" fn willetcoffer_page(
     let answer = paged.answer;
     let kept = paged.saved;
     let number = reports::page_number(answer);
-    handing::hand_back(number, kept, saved);
+    reports::hand_back(number, kept, saved);
     reports::write_page_report(answer, report);
     number
 }
@@ -197,12 +191,7 @@ pub extern "C" fn willetcoffer_total(
     ensures { λ r. ⌜ totalExport (now (terms .entry)) (now (schema .entry)) (now (script .entry)) (now (report .entry))
         ≡ record { number = r; report = now (report .exit) } ⌝ }
 {
-    if report.len() != TOTAL_REPORT_WIDTH {
-        return 1;
-    }
-    let answer = card_calls::total::total(terms, schema, script);
-    reports::write_total_report(answer, report);
-    reports::total_number(answer)
+    byte_calls::total(terms, schema, script, report)
 }
 
 // Number: 1 for its record, then 16, 17.
@@ -211,12 +200,7 @@ pub extern "C" fn willetcoffer_total(
 pub extern "C" fn willetcoffer_number(text: &[u8], record: &mut [u8]) -> u32
     ensures { λ r. ⌜ numberExport (now (text .entry)) (now («record» .entry)) ≡ record { number = r; «record» = now («record» .exit) } ⌝ }
 {
-    if record.len() != NUMBER_RECORD_WIDTH {
-        return 1;
-    }
-    let answer = numbers::read_number(text);
-    reports::write_term(answer, record);
-    reports::refusal_number(answer)
+    byte_calls::number(text, record)
 }
 
 // Suggest: 1 for its report, then 2 to 8.
@@ -231,12 +215,7 @@ pub extern "C" fn willetcoffer_suggest(
     ensures { λ r. ⌜ suggestExport (now (terms .entry)) (now (schema .entry)) (now (script .entry)) (now (report .entry))
         ≡ record { number = r; report = now (report .exit) } ⌝ }
 {
-    if report.len() != SUGGEST_REPORT_WIDTH {
-        return 1;
-    }
-    let answer = card_calls::suggest::suggest(terms, schema, script);
-    reports::write_suggest_report(answer, report);
-    reports::suggest_number(answer)
+    byte_calls::suggest(terms, schema, script, report)
 }
 
 // A schema out of a page: 1, 13, 19. `schema` is the buffer that takes its records.
@@ -246,12 +225,7 @@ pub extern "C" fn willetcoffer_schema(page: &[u8], schema: &mut [u8], report: &m
     ensures { λ r. ⌜ schemaExport (now (page .entry)) (now (schema .entry)) (now (report .entry))
         ≡ record { number = r; schema = now (schema .exit); report = now (report .exit) } ⌝ }
 {
-    if report.len() != SCHEMA_REPORT_WIDTH {
-        return 1;
-    }
-    let answer = gathering::gather(page, schema);
-    reports::write_schema_report(answer, report);
-    reports::schema_number(answer)
+    byte_calls::schema(page, schema, report)
 }
 
 // Publish: 1, 10, 22, 23.
@@ -280,7 +254,7 @@ pub extern "C" fn willetcoffer_publish(
         (now (saved .entry)) graph (now (page .entry)) (now (report .entry))
         ≡ record { number = r; page = now (page .exit); report = now (report .exit) }) ⌝ }
 {
-    if !handing::saved_fits(
+    if !lengths::saved_fits(
         term_table.len(),
         quad_table.len(),
         saved.len(),

@@ -1,7 +1,6 @@
-// The facts that a script's rules ask for: a union-find of type families, the tables of facts, and the types read off them.
+// The facts that a script's rules ask for: a union-find of type families, and the tables of facts.
 pub mod families;
 pub mod noting;
-pub mod readoff;
 
 use definitions::VARIABLE_LIMIT;
 

@@ -22,9 +22,10 @@ use Rattle.fields.specs.Answers.{codeOf}
 use Rattle.fields.proofs.PartLaws.{some-part}
 use Rattle.output.specs.Written.{Written}
 use Rattle.output.proofs.WritingLaws.{written-none, written-then, written-as}
-use Rattle.gathering.specs.declared.Subjects.{Subjects}
-use Rattle.gathering.specs.Noted.{Noted, fieldAt, entriesOf, recordBytes, oneFor}
-use Rattle.gathering.proofs.NotedLaws.{code-positive}
+use Rattle.subjects.specs.declared.Subjects.{Subjects}
+use Rattle.subjects.specs.Noted.{Noted, fieldAt}
+use Rattle.gathering.specs.Entries.{entriesOf, recordBytes, oneFor}
+use Rattle.subjects.proofs.NotedLaws.{code-positive}
 
 -- a code that is not 0 is of a datatype
 code-some : (o : Option Datatype) {code : ℕ} → code ≡ codeOf o → (code ≡ 0 → ⊥) → (d : Datatype) × (o ≡ some d) × (datatypeCode d ≡ code)

@@ -20,8 +20,9 @@ use Rattle.laws.proofs.ReadAnswers.{is-some, is-none}
 use Rattle.laws.proofs.Tests.{trueIs}
 use Rattle.laws.proofs.Results.{given-bind, given-refused, require-after, require-refused}
 use Rattle.laws.proofs.Gathering.{gathered-count}
-use Rattle.gathering.specs.declared.Subjects.{Subjects}
-use Rattle.gathering.specs.Noted.{Noted, entriesOf}
+use Rattle.subjects.specs.declared.Subjects.{Subjects}
+use Rattle.subjects.specs.Noted.{Noted}
+use Rattle.gathering.specs.Entries.{entriesOf}
 
 module _ (page schema : List ℕ) where
   abbrev pub refusedWith : ℕ → SchemaResult

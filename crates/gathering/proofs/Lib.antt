@@ -1,5 +1,2 @@
-pub mod AskLaws
-pub mod NotedLaws
-pub mod PageLaws
 pub mod EntryLaws
 pub mod GatherLaws

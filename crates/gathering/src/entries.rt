@@ -8,13 +8,14 @@ ghost use Rattle.definitions.specs.Bytes.{part};
 ghost use Rattle.definitions.specs.Gathering.{Asking};
 ghost use Rattle.definitions.specs.Calls.{written};
 ghost use Rattle.output.specs.Written.{Written};
-ghost use Rattle.gathering.specs.Room.{subjectLimit};
-ghost use Rattle.gathering.specs.Noted.{Noted, entriesOf, recordBytes, oneFor};
-use crate::Subjects;
+ghost use Rattle.subjects.specs.Room.{subjectLimit};
+ghost use Rattle.subjects.specs.Noted.{Noted};
+ghost use Rattle.gathering.specs.Entries.{entriesOf, recordBytes, oneFor};
 use definitions::TEXT_WIDTH;
 use fields::numbers::number_index;
 use output::put_byte;
 use output::put_text;
+use subjects::Subjects;
 
 fn one_for(datatype: u8) -> usize
     ensures { λ r. ⌜ (r ≡ oneFor datatype) × (r ≤ 1) ⌝ }

@@ -1,43 +1,18 @@
-// A schema out of a page (document 02, Ask 7): what its records ask of their subjects, and an entry for each subject that has a least datatype.
-pub mod asks; // asks.rt: what a record asks
-pub mod notes; // notes.rt: what is asked of each subject
+// A schema out of a page (document 02, Ask 7): an entry for each subject that has a least datatype.
 pub mod entries; // entries.rt: the schema records of subjects
 
 ghost use mathlib.Core.Path.{_≡_};
 ghost use Rattle.definitions.specs.Calls.{schemaCall};
 use crate::entries::entry_count;
 use crate::entries::put_entries;
-use crate::notes::subjects_of;
 use definitions::BAD_PAGE;
 use definitions::ENTRY_LIMIT;
-use definitions::OBJECT_OFFSET;
 use definitions::PAGE_LIMIT;
 use definitions::SCHEMA_WIDTH;
 use definitions::SchemaAnswer;
-use definitions::TEXT_WIDTH;
 use definitions::TOO_MANY_ENTRIES;
 use definitions::WRONG_LENGTH;
-
-// A record that asks: its object is a URI. `Room` in specs/ has the same names and numbers.
-pub const ASKING_WIDTH: usize = OBJECT_OFFSET + TEXT_WIDTH;
-
-// Of so many subjects a page can ask something.
-pub const SUBJECT_LIMIT: usize = PAGE_LIMIT / ASKING_WIDTH;
-
-// Subjects in the order of their first asking record: where the URI of each stands in the page, its slot's hash, and the code of the least
-// datatype that meets what is asked so far, 0 where there is none.
-pub struct Subjects {
-    pub count: usize,
-    pub offsets: [u16; SUBJECT_LIMIT],
-    pub hashes: [u16; SUBJECT_LIMIT],
-    pub codes: [u8; SUBJECT_LIMIT],
-}
-
-// Whether all records of a page are good, and the subjects of which they ask something.
-pub struct Noting {
-    pub good: bool,
-    pub subjects: Subjects,
-}
+use subjects::subjects_of;
 
 // A schema out of a page, into a lent buffer: 1, 13, 19.
 // Ruled out: an entry for a subject that has no least datatype; a buffer written although 19 is told.

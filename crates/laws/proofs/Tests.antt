@@ -16,6 +16,10 @@ pub andMake : (a b : Bool) → T a → T b → T (a && b)
 andMake true b p q = q
 andMake false b p q = p
 
+pub andFalse : (a : Bool) → (a && false) ≡ false
+andFalse true = refl
+andFalse false = refl
+
 pub orCases : (a b : Bool) → T (a || b) → T a ⊎ T b
 orCases true b t = inl tt
 orCases false b t = inr t

@@ -1,4 +1,1 @@
-pub mod StepLaws
-pub mod AnswerLaws
 pub mod RunLaws
-pub mod StartLaws

@@ -6,7 +6,6 @@ use mathlib.Core.Path.{_≡_, refl, ap, sym, subst, _∙_}
 use mathlib.Core.List.{List, [], _∷_}
 use mathlib.Core.Bool.{Bool, true, false}
 use mathlib.Core.Option.{Option, none, some}
-use mathlib.Core.Logic.{_⊎_, inl, inr}
 use lib.Dec.{T, eqb}
 use lib.ListN.{length}
 use Rattle.definitions.specs.Limits.{graphLimit}
@@ -18,12 +17,11 @@ use Rattle.definitions.specs.Evaluate.{Setting}
 use Rattle.definitions.specs.Search.{Typing, Tuple}
 use Rattle.definitions.specs.Machine.{State, Store, Item, Next, step, stand, fresh, act, enterOnce, enterEach, nextOf, next, Run, still, preceded, isEachBlock, endingOf, goOn, look, lastOf}
 use Rattle.definitions.specs.Machine as Machine
-use Rattle.definitions.specs.Saved.{offsetOf, savedItem, savedControl, savedStore}
+use Rattle.definitions.specs.Saved.{savedControl, savedStore}
 use Rattle.definitions.specs.Sound.{lastSound}
 use Rattle.definitions.specs.Calls.{Checked}
 use Rattle.definitions.specs.declared.RunState.{RunState}
 use Rattle.definitions.specs.declared.RunState.the-variants.{Ended, Spent}
-use Rattle.definitions.specs.declared.SavedItem.{SavedItem}
 use Rattle.definitions.specs.declared.SavedControl.{SavedControl}
 use Rattle.definitions.specs.declared.SavedStore.{SavedStore}
 use Rattle.laws.proofs.NoFault.{ok-is, fine-ok}
@@ -32,15 +30,15 @@ use Rattle.laws.proofs.Saved.{graphs-few}
 use Rattle.laws.specs.ScriptReads.{ReadsAs}
 use Rattle.laws.specs.Sound.{Sound}
 use Rattle.safety.proofs.StepSound.{NextSound, next-sound}
-use Rattle.machine.specs.declared.Stepped.{Stepped}
+use Rattle.acts.specs.declared.Stepped.{Stepped}
 use Rattle.machine.specs.declared.Stopped.{Stopped}
-use Rattle.store.specs.Stack.{topOf}
-use Rattle.machine.specs.Steps.{Standing, OnTop, answerOf, standsAt, steppedOf, EntersOnce, EntersEach}
+use Rattle.acts.specs.Steps.{Standing, Top, onTop, answerOf, standsAt, steppedOf, EntersOnce, EntersEach}
 use Rattle.query.specs.declared.Context.{Context}
 use Rattle.query.specs.StoreLent.{StoreLent}
-use Rattle.machine.specs.Running.{Lends, LendsStore, Top, onTop, eachOn, setting, typing, ActsNow, AnswersNow, StepOf, LookOf, RunOf}
-use Rattle.store.proofs.ControlStates.{saved-top}
-use Rattle.machine.proofs.StepLaws.{run-is, room, height-is, item-facts, top, inside, Blocked, blocked}
+use Rattle.answers.specs.Lends.{Lends, LendsStore, setting, typing, AnswersNow}
+use Rattle.machine.specs.Running.{eachOn, ActsNow, StepOf, LookOf, RunOf}
+use Rattle.acts.proofs.TopLaws.{no-item}
+use Rattle.acts.proofs.StepLaws.{item-facts, top, Blocked, blocked}
 
 false-not-true : false ≡ true → ⊥
 false-not-true e = let z : _≡_ {A = ℕ} 0 1 = cc in omega arith
@@ -49,74 +47,13 @@ bind-ok : {A B : Type 0} {m : Outcome A} {a : A} → m ≡ ok a → (f : A → O
 unfolding _>>=_
 bind-ok {A} e f = ap (λ (x : Outcome A). x >>= f) e
 
--- ── the item on top ─────────────────────────────────────────────────────────────────────────
+-- ── whether an each block is on top ─────────────────────────────────────────────────────────
 
 module _ {script : List ℕ} {loaded : ℕ} {run : SavedControl} (h : Standing script loaded run) where
   abbrev s : State
   s = h .state
 
-  height-of : run .height ≡ length (s .control .stack)
-  unfolding savedControl
-  height-of = ap (λ (r : SavedControl). r .height) (h .saved)
-
-  -- the record at the offset that the saved control has for it
-  pub first-item : (run .height ≡ 0 → ⊥) → (at : ℕ) → at ≡ topOf run .«at» → Top h at
-  unfolding savedItem
-  first-item high at e = go (s .control .stack) refl
-    where
-      go : (stack : List Item) → s .control .stack ≡ stack → Top h at
-      go [] q = absurd (high (height-of ∙ ap length q))
-      go (i ∷ rest) q =
-          let x : OnTop script loaded run (offsetOf (i .script)) = record { here = h; item = i; rest = rest; stack = q; place = refl } in
-          let on : topOf run ≡ savedItem i =
-          ap topOf (run-is x) ∙ saved-top (run .types) (s .control .bindings) i rest (room x) in
-          record { item = i; rest = rest; stack = q; place = e ∙ ap (λ (y : SavedItem). y .«at») on }
-
-  pub no-item : run .height ≡ 0 → s .control .stack ≡ []
-  no-item e = go (s .control .stack) refl
-    where
-      go : (stack : List Item) → s .control .stack ≡ stack → stack ≡ []
-      go [] q = refl
-      go (i ∷ rest) q = absurd (omega (arith, height-of, ap length q))
-
-  pub height-low : (run .height ≡ 0 → ⊥) → (0 < run .height) × (run .height ≤ 24)
-  height-low high =
-      let t = first-item high (topOf run .«at») refl in
-      let x = onTop h t in
-      let e = height-is x in
-      (omega arith, omega (arith, room x))
-
   module _ (at : ℕ) (t : Top h at) where
-    -- its kind
-    kind-of : (byte script at ≡ 0x71) ⊎ ((byte script at ≡ 0x72) ⊎ ((byte script at ≡ 0x73) ⊎ (byte script at ≡ 0x74)))
-    kind-of = go (t .item .script) (top (onTop h t) .is)
-      where
-        go : (c : Script) → ReadsAs script loaded (top (onTop h t) .left) at c (top (onTop h t) .ends)
-            → (byte script at ≡ 0x71) ⊎ ((byte script at ≡ 0x72) ⊎ ((byte script at ≡ 0x73) ⊎ (byte script at ≡ 0x74)))
-        go (success o) r = inl (r .kind)
-        go (fromNamed o y c) r = inr (inl (r .kind))
-        go (block o each bs q c) r = inr (inr (inl (r .kind)))
-        go (sequence o c d) r = inr (inr (inr (r .kind)))
-
-    pub item-inside : at < length script
-    item-inside = go kind-of
-      where
-        go : (byte script at ≡ 0x71) ⊎ ((byte script at ≡ 0x72) ⊎ ((byte script at ≡ 0x73) ⊎ (byte script at ≡ 0x74))) → at < length script
-        go (inl k) = inside (onTop h t) 0x71 k (omega arith)
-        go (inr (inl k)) = inside (onTop h t) 0x72 k (omega arith)
-        go (inr (inr (inl k))) = inside (onTop h t) 0x73 k (omega arith)
-        go (inr (inr (inr k))) = inside (onTop h t) 0x74 k (omega arith)
-
-    pub is-block : (byte script at ≡ 0x71 → ⊥) → (byte script at ≡ 0x72 → ⊥) → (byte script at ≡ 0x74 → ⊥) → byte script at ≡ 0x73
-    is-block a b d = go kind-of
-      where
-        go : (byte script at ≡ 0x71) ⊎ ((byte script at ≡ 0x72) ⊎ ((byte script at ≡ 0x73) ⊎ (byte script at ≡ 0x74))) → byte script at ≡ 0x73
-        go (inl k) = absurd (a k)
-        go (inr (inl k)) = absurd (b k)
-        go (inr (inr (inl k))) = k
-        go (inr (inr (inr k))) = absurd (d k)
-
-    -- whether it is an each block
     pub not-each : (byte script at ≡ 0x73 → ⊥) → false ≡ eachOn (s .control .stack)
     not-each k = go (t .item .script) (top (onTop h t) .is) ∙ ap eachOn (sym (t .stack))
       where
@@ -132,7 +69,7 @@ module _ {script : List ℕ} {loaded : ℕ} {run : SavedControl} (h : Standing s
         b .reads .reads .isMode ∙ (ap isEachBlock (sym (b .is)) ∙ ap eachOn (sym (t .stack)))
 
   pub none-each : run .height ≡ 0 → false ≡ eachOn (s .control .stack)
-  none-each e = ap eachOn (sym (no-item e))
+  none-each e = ap eachOn (sym (no-item h e))
 
 -- ── a block ─────────────────────────────────────────────────────────────────────────────────
 

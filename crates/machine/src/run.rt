@@ -1,14 +1,14 @@
 // A step of the machine, and a run: step after step, up to the budget.
-use crate::Stepped;
 use crate::Stopped;
-use crate::acts::block_body;
-use crate::acts::drop_success;
-use crate::acts::enter_each;
-use crate::acts::enter_named;
-use crate::acts::enter_once;
-use crate::acts::enter_sequence;
-use crate::acts::stands;
-use crate::answers::block_answer;
+use acts::Stepped;
+use acts::block_body;
+use acts::drop_success;
+use acts::enter_each;
+use acts::enter_named;
+use acts::enter_once;
+use acts::enter_sequence;
+use acts::stands;
+use answers::block_answer;
 use definitions::RunState;
 use definitions::SCRIPT_LIMIT;
 use definitions::SavedControl;
@@ -22,8 +22,9 @@ ghost use lib.ListN.{length};
 ghost use Rattle.definitions.specs.Limits.{scriptLimit};
 ghost use Rattle.laws.specs.Ends.{EndsLent};
 ghost use Rattle.definitions.specs.Bytes.{byte};
-ghost use Rattle.machine.specs.Steps.{Standing};
-ghost use Rattle.machine.specs.Running.{Lends, LendsStore, Top, ActsNow, StepOf, LookOf, RunOf, eachOn};
+ghost use Rattle.acts.specs.Steps.{Standing, Top};
+ghost use Rattle.answers.specs.Lends.{Lends, LendsStore};
+ghost use Rattle.machine.specs.Running.{ActsNow, StepOf, LookOf, RunOf, eachOn};
 
 // A block: its answer now, and what it does with it.
 fn enter_block(

@@ -1,4 +1,1 @@
-mod PartLaws
-mod AmountLaws
-mod TermLaws
 mod NumberLaws

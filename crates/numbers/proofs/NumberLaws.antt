@@ -25,12 +25,12 @@ use Rattle.laws.proofs.Lists.{every-append}
 use Rattle.laws.proofs.ReadAnswers.{next-got, next-lost}
 use Rattle.laws.proofs.Results.{given-refused, given-bind}
 use Rattle.laws.proofs.Numerals.{FractionAt, without-point, with-point, fraction-is, ExponentAt, without-exponent, with-exponent, exponent-is, numeral-made}
-use Rattle.numbers.specs.declared.parts.Shift.{Shift}
-use Rattle.numbers.specs.declared.parts.Shift.the-variants as Shifts
-use Rattle.numbers.specs.Parts.{Digits, placesLimit, afterPoint, shiftOf}
-use Rattle.numbers.specs.Amounts.{termWith}
-use Rattle.numbers.proofs.PartLaws.{Found, found}
-use Rattle.numbers.proofs.AmountLaws.{natural-less}
+use Rattle.number_parts.specs.declared.Shift.{Shift}
+use Rattle.number_parts.specs.declared.Shift.the-variants as Shifts
+use Rattle.number_parts.specs.Parts.{Digits, placesLimit, afterPoint, shiftOf}
+use Rattle.number_terms.specs.Amounts.{termWith}
+use Rattle.number_parts.proofs.PartLaws.{Found, found}
+use Rattle.number_terms.proofs.AmountLaws.{natural-less}
 
 -- ── a fraction and an exponent by their offsets ─────────────────────────────────────────────
 

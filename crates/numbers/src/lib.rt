@@ -1,12 +1,9 @@
 // Numbers as makers print them: a text of 1 to 40 bytes read as an integer or a decimal.
-mod parts; // parts.rt: sign, digits, fraction and exponent
-mod value; // value.rt: the term of a numeral
-
 use definitions::BAD_NUMBER_TEXT;
 use definitions::NUMBER_TEXT_LIMIT;
 use definitions::NumberAnswer;
 use definitions::Read;
-use parts::Shift;
+use number_parts::Shift;
 ghost use mathlib.Core.Path.{_≡_};
 ghost use Rattle.definitions.specs.Calls.{numberCall};
 ghost use Rattle.definitions.specs.Numbers.{termRead};
@@ -19,23 +16,23 @@ pub fn read_number(text: &[u8]) -> NumberAnswer
     if NUMBER_TEXT_LIMIT < text.len() {
         return NumberAnswer::Refused(BAD_NUMBER_TEXT);
     }
-    let start = parts::after_sign(text, 0);
-    let Read::Next(point) = parts::read_digits(text, start, NUMBER_TEXT_LIMIT) else {
+    let start = number_parts::after_sign(text, 0);
+    let Read::Next(point) = number_parts::read_digits(text, start, NUMBER_TEXT_LIMIT) else {
         return NumberAnswer::Refused(BAD_NUMBER_TEXT);
     };
-    let Read::Next(tail) = parts::read_fraction(text, point) else {
+    let Read::Next(tail) = number_parts::read_fraction(text, point) else {
         return NumberAnswer::Refused(BAD_NUMBER_TEXT);
     };
-    let Shift::By(up, down, end) = parts::read_exponent(text, tail) else {
+    let Shift::By(up, down, end) = number_parts::read_exponent(text, tail) else {
         return NumberAnswer::Refused(BAD_NUMBER_TEXT);
     };
     if end != text.len() {
         return NumberAnswer::Refused(BAD_NUMBER_TEXT);
     }
-    let minus = parts::byte_at(text, 0) == b'-';
+    let minus = number_parts::byte_at(text, 0) == b'-';
     let plain = point == end;
-    let first = parts::after_point(point, tail);
-    value::term_of(
+    let first = number_parts::after_point(point, tail);
+    number_terms::term_of(
         &text[start..point],
         &text[first..tail],
         minus,

@@ -1,4 +1,3 @@
 pub mod TermLaws
 pub mod TakeLaws
-pub mod PageLaws
 pub mod DoneLaws

@@ -1,8 +1,8 @@
--- Laws of a page record: its bodies, the numbers of its terms, whether it is well typed.
+-- Laws of a page record that is taken in: its bodies, the numbers of its terms, its quad; and of record after record.
 use Prim.Native.Nat.{ℕ, _+_, _-_, _*_, _≤_, _<_}
 use native.Mathlib.Omega.{arith}
 use native.Mathlib.Numerals.{add-one}
-use mathlib.Core.Path.{_≡_, refl, ap, ap₂, sym, subst, _∙_}
+use mathlib.Core.Path.{_≡_, refl, ap, sym, subst, _∙_}
 use mathlib.Core.List.{List, [], _∷_}
 use mathlib.Core.Bool.{Bool, true, false, _&&_}
 use mathlib.Core.Option.{Option, none, some}
@@ -11,29 +11,24 @@ use lib.ListN.{length, set, take, drop}
 use Rattle.definitions.specs.Limits.{textWidth, propertyOffset, objectOffset, numberWidth, termLimit, quadLimit, quadWidth, quadTableWidth}
 use Rattle.pages.specs.Room.{leastRecordWidth}
 use Rattle.definitions.specs.Bytes.{byte, part, allZero, inFront}
-use Rattle.definitions.specs.Types.{Datatype, datatypeCode, plain, leqDatatype}
-use Rattle.definitions.specs.Terms.{Term, Schema, Triple, datatype, bodyWidth, termOfBody, uriText, ofTermKind, ofPageKind, kindRows, datatypeIn, Sort, has, sortOf, hasType}
-use Rattle.definitions.specs.Terms.{readSchema, readTriple, readPage, isInteger, isDecimal, isDateTime}
+use Rattle.definitions.specs.Types.{Datatype}
+use Rattle.definitions.specs.Terms.{Term, Schema, Triple, datatype, bodyWidth, termOfBody, uriText}
+use Rattle.definitions.specs.Terms.{readSchema, readTriple, readPage}
 use Rattle.definitions.specs.Evaluate.{Quad}
-use Rattle.definitions.specs.Machine.{Taken, skip, store, takeOne, takeAll, numbered, objectFits, wellTyped}
+use Rattle.definitions.specs.Machine.{Taken, skip, store, takeOne, takeAll, numbered, wellTyped}
 use Rattle.definitions.specs.Saved.{quadTable, quadsFrom, quadsIn}
-use Rattle.laws.proofs.Options.{some-is, pair-is, some-not-none, onward-some, onward-inv, provided-inv}
-use Rattle.laws.proofs.TestEquations.{datatype-equal, datatype-equal2}
-use Rattle.laws.proofs.Reading.{row-keys}
+use Rattle.laws.proofs.Options.{some-is, pair-is, some-not-none, onward-some, provided-inv}
 use Rattle.laws.specs.Records.{TripleAt, recordsAt}
 use Rattle.laws.proofs.RecordsAt.{triple-inv, triple-forward, at-end, at-bad, at-one, page-at}
 use Rattle.laws.proofs.Taking.{take-all}
 use Rattle.laws.proofs.TermNumbers.{number-extends, extends-length}
-use Rattle.laws.proofs.Valid.{string-inv, number-inv}
 use Rattle.laws.specs.Quads.{Small}
 use Rattle.keys.specs.Keys.{keyOf}
 use Rattle.laws.proofs.Tables.{quads-of, quad-table-length}
 use Rattle.definitions.specs.declared.Read.the-variants as Read
 use Rattle.laws.specs.ReadAnswers.{isSome, nextOf}
-use Rattle.fields.specs.Answers.{codeOf, schemaCode, widthOf}
 use Rattle.laws.proofs.ReadAnswers.{next-got}
 use Rattle.laws.proofs.Bytes.{part-length}
-use Rattle.codes.specs.TypeCodes.{codeLeq}
 use Rattle.pages.specs.declared.Counts.{Counts}
 use Rattle.records.specs.declared.Joined.{Joined}
 use Rattle.pages.specs.declared.Numbers.{Numbers}
@@ -41,19 +36,13 @@ use Rattle.ordering.proofs.Gathering.{gathered-one}
 use Rattle.store.specs.Quads.{quad}
 use Rattle.pages.specs.Page.{BodyIs, Joins, subjectIn, propertyIn, objectIn, Numbering, HeldQuads, HeldTaken, Took}
 use Rattle.records.proofs.NumberingLaws.{held-width}
+use Rattle.page_reader.proofs.RecordLaws.{page-kind, record-ends}
 
 -- ── the bodies of a record ──────────────────────────────────────────────────────────────────
 
 uri-body : (body : List ℕ) (u : List ℕ) → length body ≡ textWidth → uriText body ≡ some u → BodyIs 0x11 body (Term.uri u)
 unfolding termOfBody
 uri-body body u l e = record { datatype = Datatype.anyURI; kind = refl; width = l; says = onward-some (λ u. some (Term.uri u)) e }
-
--- the kind of a page record is an object's kind and 0x70
-page-kind : (k : ℕ) (d : Datatype) → ofPageKind k ≡ some d → (0x81 ≤ k) × (ofTermKind (k - 0x70) ≡ some d)
-page-kind k d =
-    row-keys (λ k o. o ≡ some d → (0x81 ≤ k) × (ofTermKind (k - 0x70) ≡ some d)) k (kindRows 0x80) none
-    ((λ e. (omega arith, e)), ((λ e. (omega arith, e)), ((λ e. (omega arith, e)), ((λ e. (omega arith, e)), ((λ e. (omega arith, e)), tt)))))
-    (λ e. absurd (some-not-none e refl))
 
 body-wide : (d : Datatype) → numberWidth ≤ bodyWidth d
 body-wide Datatype.anyURI = omega arith
@@ -63,37 +52,20 @@ body-wide Datatype.dateTime = omega arith
 body-wide Datatype.integer = omega arith
 
 module _ (page : List ℕ) (at next : ℕ) (x : Triple) (r : TripleAt page at x next) where
-  pub record-ends : at + objectOffset ≤ length page
-  record-ends = omega (arith, r .ends, r .fits)
-
   -- no record is shorter than one whose object is a number
   pub record-long : at + leastRecordWidth ≤ next
   record-long = omega (arith, r .ends, body-wide (r .datatype))
-
-  pub kind-high : 0x81 ≤ byte page at
-  kind-high = page-kind (byte page at) (r .datatype) (r .kind) .0
 
   -- as the code hands them on
   pub subject-body : BodyIs 0x11 (take (at + propertyOffset - (at + 1)) (drop (at + 1) page)) (Term.uri (x .subject))
   subject-body =
       let n : at + propertyOffset - (at + 1) ≡ textWidth = omega arith in
-      rw n (uri-body (part page (at + 1) textWidth) (x .subject) (part-length page (at + 1) textWidth (omega (arith, record-ends))) (r .subject))
+      rw n (uri-body (part page (at + 1) textWidth) (x .subject) (part-length page (at + 1) textWidth (omega (arith, record-ends page at next x r))) (r .subject))
 
   pub property-body : BodyIs 0x11 (take (at + objectOffset - (at + propertyOffset)) (drop (at + propertyOffset) page)) (Term.uri (x .property))
   property-body =
       let n : at + objectOffset - (at + propertyOffset) ≡ textWidth = omega arith in
-      rw n (uri-body (part page (at + propertyOffset) textWidth) (x .property) (part-length page (at + propertyOffset) textWidth (omega (arith, record-ends))) (r .property))
-
-  pub property-uri : isSome (uriText (take (at + objectOffset - (at + propertyOffset)) (drop (at + propertyOffset) page))) ≡ true
-  property-uri =
-      let n : at + objectOffset - (at + propertyOffset) ≡ textWidth = omega arith in
-      rw n (ap isSome (r .property))
-
-  pub end-is : (w : ℕ) → w ≡ widthOf (ofTermKind (byte page at - 0x70)) → at + objectOffset + w ≡ next
-  unfolding widthOf
-  end-is w e =
-      let d : w ≡ bodyWidth (r .datatype) = e ∙ ap widthOf (page-kind (byte page at) (r .datatype) (r .kind) .1) in
-      omega (arith, r .ends)
+      rw n (uri-body (part page (at + propertyOffset) textWidth) (x .property) (part-length page (at + propertyOffset) textWidth (omega (arith, record-ends page at next x r))) (r .property))
 
   pub object-body : BodyIs (byte page at - 0x70) (take (next - (at + objectOffset)) (drop (at + objectOffset) page)) (x .object)
   object-body =
@@ -142,56 +114,6 @@ module _ (ts : List Term) (x : Triple) where
         width = jo .width;
         held = λ few. record { subject = js .is; property = jp .is; object = jo .is; terms = jo .held few };
       }
-
--- ── well typed ──────────────────────────────────────────────────────────────────────────────
-
--- an object's kind alone says which datatypes it has
-has-plain : (S : Schema) (t : Term) (d : Datatype) → leqDatatype (datatype t) d ≡ hasType S t (plain d)
-unfolding sortOf
-has-plain S (Term.uri u) d = go (datatypeIn S u)
-  where
-    go : (o : Option Datatype) → leqDatatype Datatype.anyURI d ≡ has (Sort.uri o) (plain d)
-    go none = datatype-equal (leqDatatype Datatype.anyURI) (λ d. has (Sort.uri none) (plain d)) tt d
-    go (some e) = datatype-equal2 (λ e d. leqDatatype Datatype.anyURI d) (λ e d. has (Sort.uri (some e)) (plain d)) tt e d
-has-plain S (Term.string g t) d = refl
-has-plain S (Term.integer n) d = refl
-has-plain S (Term.decimal n) d = refl
-has-plain S (Term.dateTime n) d = refl
-
-codes-fit : (S : Schema) (o : Option Datatype) (t : Term) → codeLeq (datatypeCode (datatype t)) (codeOf o) ≡ objectFits S o t
-unfolding codeOf
-codes-fit S none t = datatype-equal (λ d. codeLeq (datatypeCode d) 0) (λ d. false) tt (datatype t)
-codes-fit S (some d) t = datatype-equal2 (λ e d. codeLeq (datatypeCode e) (datatypeCode d)) leqDatatype tt (datatype t) d ∙ has-plain S t d
-
--- a body of a datatype is a term of it
-says-datatype : (d : Datatype) (b : List ℕ) (t : Term) → termOfBody d b ≡ some t → datatype t ≡ d
-unfolding termOfBody
-says-datatype Datatype.anyURI b t e = let u = onward-inv (uriText b) (λ u. some (Term.uri u)) e in ap datatype (sym (some-is (u .2)))
-says-datatype Datatype.string b t e = ap datatype (string-inv b t e .2)
-says-datatype Datatype.decimal b t e = ap datatype (number-inv isDecimal Term.decimal b t e .0)
-says-datatype Datatype.dateTime b t e = ap datatype (number-inv isDateTime Term.dateTime b t e .0)
-says-datatype Datatype.integer b t e = ap datatype (number-inv isInteger Term.integer b t e .0)
-
-module _ (schema page : List ℕ) (S : Schema) (at next : ℕ) (x : Triple) (e : readSchema schema ≡ some S) (r : TripleAt page at x next) where
-  pub typed-is : (wanted given : ℕ) → wanted ≡ schemaCode (readSchema schema) (uriText (take (at + objectOffset - (at + propertyOffset)) (drop (at + propertyOffset) page)))
-      → given ≡ datatypeCode (r .datatype) → codeLeq given wanted ≡ wellTyped S x
-  unfolding schemaCode wellTyped
-  typed-is wanted given f g =
-      let n : at + objectOffset - (at + propertyOffset) ≡ textWidth = omega arith in
-      let u : uriText (take (at + objectOffset - (at + propertyOffset)) (drop (at + propertyOffset) page)) ≡ some (x .property) = rw n (r .property) in
-      let w : wanted ≡ codeOf (datatypeIn S (x .property)) = f ∙ ap₂ schemaCode e u in
-      let d = says-datatype (r .datatype) (part page (at + objectOffset) (bodyWidth (r .datatype))) (x .object) (r .object) in
-      ap₂ codeLeq (g ∙ ap datatypeCode (sym d)) w ∙ codes-fit S (datatypeIn S (x .property)) (x .object)
-
--- the codes of the five kinds
-pub code-is : (k : ℕ) (key : ℕ) (d : Datatype) → k ≡ key → ofPageKind key ≡ some d → (e : Datatype) → ofPageKind k ≡ some e → datatypeCode d ≡ datatypeCode e
-code-is k key d q h e f = ap datatypeCode (some-is (sym h ∙ (ap ofPageKind (sym q) ∙ f)))
-
-pub code-last : (k : ℕ) → (k ≡ 0x81 → ⊥) → (k ≡ 0x82 → ⊥) → (k ≡ 0x83 → ⊥) → (k ≡ 0x84 → ⊥) → (e : Datatype) → ofPageKind k ≡ some e → 4 ≡ datatypeCode e
-code-last k a b c d e =
-    row-keys (λ j o. k ≡ j → o ≡ some e → 4 ≡ datatypeCode e) k (kindRows 0x80) none
-    ((λ q f. absurd (a q)), ((λ q f. absurd (b q)), ((λ q f. absurd (c q)), ((λ q f. absurd (d q)), ((λ q f. ap datatypeCode (some-is f)), tt)))))
-    (λ q f. absurd (some-not-none f refl)) refl
 
 -- ── quads ───────────────────────────────────────────────────────────────────────────────────
 

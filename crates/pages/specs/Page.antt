@@ -7,7 +7,7 @@ use mathlib.Core.Path.{_≡_}
 use lib.ListN.{length}
 use Rattle.definitions.specs.Limits.{termLimit, termTableWidth, quadLimit}
 use Rattle.definitions.specs.Types.{Datatype}
-use Rattle.definitions.specs.Terms.{Term, Schema, Triple, bodyWidth, termOfBody, ofTermKind, ofPageKind, readSchema, readPage}
+use Rattle.definitions.specs.Terms.{Term, Schema, Triple, bodyWidth, termOfBody, ofTermKind, readSchema, readPage}
 use Rattle.definitions.specs.Evaluate.{Quad}
 use Rattle.definitions.specs.Machine.{Numbered, numbered, Taken, inOrder}
 use Rattle.definitions.specs.Saved.{quadTable}
@@ -74,9 +74,6 @@ pub record Numbering (ts : List Term) (x : Triple) (r : Numbers) (table : List �
   pub held : r .terms ≤ termLimit → Numbered3 ts x r table
 
 -- ── what is read ────────────────────────────────────────────────────────────────────────────
-
-abbrev pub PageKind : ℕ → Type 0
-PageKind k = (d : Datatype) × (ofPageKind k ≡ some d)
 
 abbrev pub RecordAt : List ℕ → (at next : ℕ) → Type 0
 RecordAt page at next = (x : Triple) × TripleAt page at x next

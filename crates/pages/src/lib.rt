@@ -1,6 +1,5 @@
 // Taking in pages: a page's records one by one, their terms numbered, their quads put in order.
 pub mod triples; // triples.rt: taking in a page
-pub mod page_reader; // page_reader.rt: a page's records one by one
 pub mod intake; // intake.rt: a page call on copies of both tables
 
 use definitions::NUMBER_WIDTH;

@@ -7,28 +7,25 @@ ghost use Prim.Native.Nat.{_+_, _≤_, _<_};
 ghost use lib.ListN.{length};
 ghost use Rattle.definitions.specs.Limits.{pageLimit};
 ghost use Rattle.pages.specs.Room.{recordLimit};
-ghost use Rattle.definitions.specs.Types.{Datatype, datatypeCode};
-ghost use Rattle.definitions.specs.Terms.{Term, Schema, Triple, ofPageKind, readSchema, readPage};
+ghost use Rattle.definitions.specs.Terms.{Term, Schema, Triple, readSchema, readPage};
 ghost use Rattle.definitions.specs.Evaluate.{Quad};
-ghost use Rattle.definitions.specs.Machine.{Taken, wellTyped, takeOne, takeAll};
+ghost use Rattle.definitions.specs.Machine.{Taken, takeOne, takeAll};
 ghost use Rattle.laws.specs.Records.{TripleAt};
 ghost use Rattle.laws.specs.Quads.{Small};
 ghost use Rattle.keys.specs.Keys.{keyOf};
 ghost use Rattle.table.specs.Table.{HeldTerms};
 ghost use Rattle.store.specs.Quads.{quad};
-ghost use Rattle.pages.specs.Page.{Held, HeldHashes, BodyIs, Says, Joins, PageKind, RecordAt, Reads, Numbering, HeldTaken, HeldBoth, Took, PageReads};
+ghost use Rattle.pages.specs.Page.{Held, HeldHashes, BodyIs, Says, Joins, RecordAt, Reads, Numbering, HeldTaken, HeldBoth, Took, PageReads};
 use crate::Counts;
 use crate::Numbers;
-use crate::page_reader::next_record;
-use codes::has_type;
 use definitions::OBJECT_OFFSET;
 use definitions::PROPERTY_OFFSET;
 use definitions::TERM_LIMIT;
 use keys::pack;
+use page_reader::next_record;
+use page_typing::well_typed;
 use records::Joined;
 use records::numbering::add_term;
-use records::schema::datatype_of;
-use table::hashes::hash_of;
 use table::hashes::hash_slots;
 use table::slots::slot_of;
 
@@ -90,35 +87,6 @@ fn number_triple(
         object: object.number,
         terms: object.terms,
     }
-}
-
-// The code of the datatype of a page record's object.
-fn object_code(kind: u8) -> u8
-    requires { ⌜ PageKind kind ⌝ }
-    ensures { λ r. ⌜ ((d : Datatype) → ofPageKind kind ≡ some d → r ≡ datatypeCode d) ⌝ }
-{
-    match kind {
-        0x81 => 1,
-        0x82 => 2,
-        0x83 => 5,
-        0x84 => 3,
-        _ => 4,
-    }
-}
-
-// Whether a record's property has a schema entry and its object the entry's datatype.
-fn well_typed(page: &[u8], at: usize, next: usize, schema: &[u8], entries: &[u16]) -> bool
-    requires { ⌜ RecordAt (now page) at next ⌝ }
-    requires { ⌜ Reads (now schema) (now entries) ⌝ }
-    ensures { λ r. ⌜ ((S : Schema) (x : Triple) → readSchema (now (schema .entry)) ≡ some S → TripleAt (now (page .entry)) at x next → r ≡ wellTyped S x) ⌝ }
-{
-    let middle = at + PROPERTY_OFFSET;
-    let last = at + OBJECT_OFFSET;
-    let slot = slot_of(0x11, &page[middle..last]);
-    let hash = hash_of(&slot);
-    let wanted = datatype_of(schema, entries, &page[middle..last], hash);
-    let given = object_code(page[at]);
-    has_type(given, wanted)
 }
 
 // The key of a record's quad.

@@ -8,7 +8,7 @@ use mathlib.Core.Option.{some}
 use borrow.Author.Tests.{lt-ltb, le-ltb, ltb-true}
 use lib.Dec.{eqb, eqb→eq, ltb, leb, leb→le}
 use lib.ListN.{length, take, drop, length-take}
-use Rattle.definitions.specs.Limits.{termLimit, quadLimit, graphLimit, termTableWidth, quadTableWidth}
+use Rattle.definitions.specs.Limits.{termLimit, quadLimit, graphLimit}
 use Rattle.definitions.specs.Lists.{keep, isIn}
 use Rattle.definitions.specs.Bytes.{part}
 use Rattle.definitions.specs.Terms.{Schema}
@@ -21,7 +21,7 @@ use Rattle.definitions.specs.Calls.{Lent, lengthsOf, bothTablesFit, soundIn, pu
 use Rattle.definitions.specs.declared.SavedRun.{SavedRun}
 use Rattle.definitions.specs.declared.PublishAnswer.the-variants as PublishAnswers
 use Rattle.laws.specs.Bindings.{HoldsURI}
-use Rattle.laws.proofs.Tests.{andLeft, andRight, isTrue, trueIs}
+use Rattle.laws.proofs.Tests.{andLeft, andFalse, isTrue, trueIs}
 use Rattle.laws.proofs.Results.{require-after, require-refused, bind-refused, bind-passed, given-inv}
 use Rattle.laws.proofs.Bindings.{is-below}
 use Rattle.laws.proofs.Lists.{some-at}
@@ -37,7 +37,9 @@ use Rattle.query.proofs.TermLaws.{few}
 use Rattle.page_writing.proofs.StoreLaws.{keys-in, page-is, stretch, rows-part}
 use Rattle.card.proofs.RefusalNumbers.{refused-number, passed-number, given-not-zero}
 use Rattle.entry.specs.declared.Entered.{Entered}
-use Rattle.entry.specs.Entry.{lentOf, Found, Finds}
+use Rattle.lengths.specs.Lent.{lentOf}
+use Rattle.lengths.proofs.TableLaws.{both-fit}
+use Rattle.entry.specs.Entry.{Found, Finds}
 
 -- ── refusals ────────────────────────────────────────────────────────────────────────────────
 
@@ -112,14 +114,6 @@ pub record Passed (l : Lent) (saved : SavedRun) (r : Entered) (rows leasts : Lis
   pub passes : given 10 (soundIn l saved) ≡ passed found
   pub finds : Found l saved found r rows leasts
 
--- both tables have their lengths
-pub tables-fit : (l : Lent) → bothTablesFit (lengthsOf l) ≡ true → (length (l .termTable) ≡ termTableWidth) × (length (l .quadTable) ≡ quadTableWidth)
-tables-fit l fit =
-    let t = eqb (length (l .termTable)) termTableWidth in
-    let q = eqb (length (l .quadTable)) quadTableWidth in
-    let both = trueIs (t && q) fit in
-    (eqb→eq (length (l .termTable)) termTableWidth (andLeft t q both), eqb→eq (length (l .quadTable)) quadTableWidth (andRight t q both))
-
 pub has-passed : (l : Lent) (saved : SavedRun) {r : Entered} {rows leasts : List ℕ} → bothTablesFit (lengthsOf l) ≡ true → AreBytes (l .termTable)
     → Finds l saved (given 10 (soundIn l saved)) r rows leasts → r .refusal ≡ 0 → Passed l saved r rows leasts
 has-passed l saved fit bytes f z =
@@ -133,10 +127,6 @@ pub record Stretch (table rows : List ℕ) (g low high : ℕ) (s : Store) : Type
   pub few : length (part rows low (high - low)) ≤ quadLimit
   pub inside : keysIn table (part rows low (high - low)) ≡ true
   pub page : sortedPage table (part rows low (high - low)) ≡ published g s
-
-and-false : (a : Bool) → (a && false) ≡ false
-and-false true = refl
-and-false false = refl
 
 module _ {l : Lent} {saved : SavedRun} {r : Entered} {rows leasts : List ℕ} (w : Passed l saved r rows leasts) where
   abbrev x : Calls.Sound
@@ -171,11 +161,11 @@ module _ {l : Lent} {saved : SavedRun} {r : Entered} {rows leasts : List ℕ} (w
           let b = is-below (kept .terms) (m .0) (u .term) (u .there) in
           let n = eqb→eq g (m .0) (m .2) in
           ap (λ b. b && true) (lt-ltb g (r .count) (omega (arith, w .finds .lent 0 .tabled .counted, b, n)))
-      go false i = and-false (ltb g (r .count))
+      go false i = andFalse (ltb g (r .count))
 
   store-sound : SoundStore S kept
   store-sound =
-      record { apart = known .termsApart; valid = valid-held l saved x soundly (w .bytes) (tables-fit l (w .fits) .0); order = known .quadsInOrder; quads = known .quads }
+      record { apart = known .termsApart; valid = valid-held l saved x soundly (w .bytes) (both-fit (lengthsOf l) (trueIs (bothTablesFit (lengthsOf l)) (w .fits)) .0); order = known .quadsInOrder; quads = known .quads }
 
   module _ (g : ℕ) {low high : ℕ} (a : Splits rows (saved .store .quads) (g * graphWeight) low) (b : Splits rows (saved .store .quads) (g * graphWeight + (graphWeight - 1) + 1) high) where
     abbrev n : ℕ
@@ -199,7 +189,7 @@ module _ {l : Lent} {saved : SavedRun} {r : Entered} {rows leasts : List ℕ} (w
 
     pub graph-stretch : Stretch (l .termTable) rows g low high kept
     graph-stretch =
-        let wide = tables-fit l (w .fits) .0 in
+        let wide = both-fit (lengthsOf l) (trueIs (bothTablesFit (lengthsOf l)) (w .fits)) .0 in
         record {
           ordered = cut .0;
           within = omega (arith, cut .1, room);

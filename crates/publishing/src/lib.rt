@@ -3,35 +3,27 @@ ghost use mathlib.Core.Path.{_≡_};
 ghost use mathlib.Core.Bool.{_&&_};
 ghost use mathlib.Core.List.{List};
 ghost use Prim.Native.Nat.{ℕ, _≤_};
-ghost use lib.Dec.{eqb, ltb};
-ghost use lib.ListN.{length, take};
-ghost use Rattle.definitions.specs.Limits.{termLimit, graphLimit, termTableWidth, quadTableWidth};
+ghost use lib.Dec.{ltb};
+ghost use lib.ListN.{take};
+ghost use Rattle.definitions.specs.Limits.{termLimit, graphLimit};
 ghost use Rattle.definitions.specs.Lists.{isIn};
 ghost use Rattle.definitions.specs.Calls.{publishCall};
-ghost use Rattle.entry.specs.Entry.{lentOf};
+ghost use Rattle.lengths.specs.Lent.{lentOf};
 use definitions::NOT_FETCHED;
 use definitions::PublishAnswer;
 use definitions::QUAD_LIMIT;
-use definitions::QUAD_TABLE_WIDTH;
 use definitions::SavedRun;
 use definitions::SavedStore;
 use definitions::TERM_LIMIT;
-use definitions::TERM_TABLE_WIDTH;
 use definitions::WRONG_LENGTH;
 use entry::sound;
 use keys::GRAPH_REACH;
 use keys::GRAPH_WEIGHT;
 use keys::lower;
 use keys::upper;
+use lengths::both_fit;
 use page_writing::publish_keys;
 use store::graphs::is_fetched;
-
-// Whether both tables have their lengths.
-fn both_fit(table: &[u8], store: &[u8]) -> bool
-    ensures { λ r. ⌜ r ≡ (eqb (length (now (table .entry))) termTableWidth && eqb (length (now (store .entry))) quadTableWidth) ⌝ }
-{
-    (table.len() == TERM_TABLE_WIDTH) & (store.len() == QUAD_TABLE_WIDTH)
-}
 
 // Whether a number is that of a term in use and in the fetched list.
 fn is_listed(store: SavedStore, count: usize, graph: u64) -> bool

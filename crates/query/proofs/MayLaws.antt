@@ -20,7 +20,7 @@ use Rattle.laws.proofs.Reading.{same-read}
 use Rattle.laws.proofs.ReadBounds.{Reads}
 use Rattle.laws.proofs.Walked.{leaf-walked}
 use Rattle.laws.proofs.Productions.{Two}
-use Rattle.laws.proofs.Tests.{trueIs}
+use Rattle.laws.proofs.Tests.{trueIs, andFalse}
 use Rattle.values.specs.Meaning.{Tells}
 use Rattle.query.specs.Seek.{exprKnown, comesTo, joined, may}
 use Rattle.scan.specs.Codes.{soughtCode}
@@ -184,11 +184,7 @@ module _ (known : List ℕ) (read : ℕ → Got Expr) (at : ℕ) where
   first-waits w e f m n r s = rw (w e m r) refl
 
   pub second-waits : {k : ℕ} → Reads (λ e m. k ≡ m) (read at) → Waits known (read k) → PairOpen known read at
-  second-waits ends w e f m n r s = rw (w f n (ap read (ends e m r) ∙ s)) (none (exprKnown (bindingsOf known) e))
-    where
-      none : (b : Bool) → (b && false) ≡ false
-      none true = refl
-      none false = refl
+  second-waits ends w e f m n r s = rw (w f n (ap read (ends e m r) ∙ s)) (andFalse (exprKnown (bindingsOf known) e))
 
 -- by its name's code
 pub code-waits : (known : List ℕ) (code : ℕ) {g : Got Expr} {m : ℕ} → Walked (λ e. ltb code soughtCode ≡ exprKnown (bindingsOf known) e) g m → leb soughtCode code ≡ true → Waits known g

@@ -36,7 +36,6 @@ use truth::is_true;
 use truth::not_of;
 use truth::or_of;
 use values::Value;
-use values::slot;
 
 // The value of now.
 fn clock_value(clock: u64) -> Value
@@ -57,7 +56,7 @@ fn term_value(table: &[u8], context: Context, code: usize) -> Value
         return clock_value(context.clock);
     }
     let from = code * SLOT_WIDTH;
-    slot::value_at(table, from)
+    term_values::value_at(table, from)
 }
 
 // The value of the expression at an offset; where not all its variables are known, any. Ruled out: the second summand left out; a free variable taken for a known one.
@@ -100,7 +99,7 @@ pub fn eval_expr(
             if !a.known {
                 return a;
             }
-            let value = values::text::text_of(a.value);
+            let value = strings::text::text_of(a.value);
             Valued {
                 next: a.next,
                 value,
@@ -249,7 +248,7 @@ pub fn eval_cond(
         0x55 => {
             let text = at + REGEX_TEXT_OFFSET;
             let a = eval_expr(script, context, text, below, table, known);
-            let truth = values::tests::regex(a.value, script, first);
+            let truth = strings::tests::regex(a.value, script, first);
             Judged {
                 next: a.next,
                 truth,
@@ -259,7 +258,7 @@ pub fn eval_cond(
         0x56 => {
             let text = at + LANG_MATCHES_TEXT_OFFSET;
             let a = eval_expr(script, context, text, below, table, known);
-            let truth = values::tests::lang_matches(a.value, script, first);
+            let truth = strings::tests::lang_matches(a.value, script, first);
             Judged {
                 next: a.next,
                 truth,
@@ -269,7 +268,7 @@ pub fn eval_cond(
         0x57 => {
             let a = eval_expr(script, context, first, below, table, known);
             let b = eval_expr(script, context, a.next, below, table, known);
-            let truth = values::comparison::equal(a.value, b.value);
+            let truth = comparison::equal(a.value, b.value);
             Judged {
                 next: b.next,
                 truth,
@@ -279,7 +278,7 @@ pub fn eval_cond(
         _ => {
             let a = eval_expr(script, context, first, below, table, known);
             let b = eval_expr(script, context, a.next, below, table, known);
-            let truth = values::comparison::less(ranks, a.value, b.value);
+            let truth = comparison::less(ranks, a.value, b.value);
             Judged {
                 next: b.next,
                 truth,

@@ -160,7 +160,7 @@ pub fn may_cond(
                     holds: true,
                 };
             }
-            let truth = values::tests::regex(a.value, script, first);
+            let truth = strings::tests::regex(a.value, script, first);
             let holds = comes_to(truth, want);
             Test {
                 next: a.next,
@@ -176,7 +176,7 @@ pub fn may_cond(
                     holds: true,
                 };
             }
-            let truth = values::tests::lang_matches(a.value, script, first);
+            let truth = strings::tests::lang_matches(a.value, script, first);
             let holds = comes_to(truth, want);
             Test {
                 next: a.next,
@@ -200,7 +200,7 @@ pub fn may_cond(
                     holds: true,
                 };
             }
-            let truth = values::comparison::equal(a.value, b.value);
+            let truth = comparison::equal(a.value, b.value);
             let holds = comes_to(truth, want);
             Test {
                 next: b.next,
@@ -224,7 +224,7 @@ pub fn may_cond(
                     holds: true,
                 };
             }
-            let truth = values::comparison::less(ranks, a.value, b.value);
+            let truth = comparison::less(ranks, a.value, b.value);
             let holds = comes_to(truth, want);
             Test {
                 next: b.next,

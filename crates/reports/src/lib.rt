@@ -1,11 +1,11 @@
-// The numbers of the answers, the reports of a run, of a page, of a total, of a suggestion, of a schema out of a page and of a
-// published page, and the record of a number.
+// What a call hands back at the C interface: the number of its answer; the report of a run, of a page, of a total, of a suggestion, of a schema out of a page or
+// of a published page; the record of a number; and the saved run's bytes.
 ghost use mathlib.Core.Path.{_≡_};
 ghost use mathlib.Core.List.{[], _∷_};
 ghost use Rattle.definitions.specs.Bytes.{littleBytes};
 ghost use Rattle.definitions.specs.Numbers.{loadNumber, runNumber, pageNumber, totalNumber, resultNumber, termRead, suggestNumber, stateNumber, wantedGraph, schemaNumber, publishNumber};
-ghost use Rattle.definitions.specs.Limits.{numberWidth, numberRecordWidth, runReportWidth, pageReportWidth, totalReportWidth, suggestReportWidth, schemaReportWidth, publishReportWidth};
-ghost use Rattle.definitions.specs.Exports.{runReport, pageReport, totalReport, recordAfter, suggestReport, schemaReport, publishReport};
+ghost use Rattle.definitions.specs.Limits.{numberWidth, numberRecordWidth, runReportWidth, pageReportWidth, totalReportWidth, suggestReportWidth, schemaReportWidth, publishReportWidth, savedWidth};
+ghost use Rattle.definitions.specs.Exports.{runReport, pageReport, totalReport, recordAfter, suggestReport, schemaReport, publishReport, savedAfter};
 use definitions::LoadAnswer;
 use definitions::NUMBER_RECORD_WIDTH;
 use definitions::NumberAnswer;
@@ -13,6 +13,7 @@ use definitions::PageAnswer;
 use definitions::PublishAnswer;
 use definitions::RunAnswer;
 use definitions::RunState;
+use definitions::SavedRun;
 use definitions::SchemaAnswer;
 use definitions::SuggestAnswer;
 use definitions::TotalAnswer;
@@ -220,4 +221,15 @@ pub fn write_schema_report(answer: SchemaAnswer, out: &mut [u8])
     };
     writing::write_number(entries as u64, &mut out[0..4]);
     writing::write_number(left_out as u64, &mut out[4..8]);
+}
+
+// The saved run's bytes where nothing was refused, else those that were lent.
+// Ruled out: a refused call that writes its saved run; a call that leaves the bytes it was lent.
+pub fn hand_back(number: u32, run: SavedRun, saved: &mut [u8])
+    requires { do ⌜ (← ⟦saved.len()⟧) ≡ savedWidth ⌝ }
+    ensures { λ r. ⌜ now (saved .exit) ≡ savedAfter number run (now (saved .entry)) ⌝ }
+{
+    if number == 0 {
+        writing::write_saved(run, saved);
+    }
 }

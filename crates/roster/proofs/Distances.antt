@@ -11,7 +11,7 @@ use mir.Syntax.{w64}
 use mir.Val.{Fits, SFits, toZ, ofZ}
 use mir.Facts.{toZ-ofZ}
 use Rattle.values.proofs.SignedLaws.{kept-is}
-use Rattle.values.proofs.TextLaws.{cast-fits, cast-is}
+use Rattle.strings.proofs.TextLaws.{cast-fits, cast-is}
 
 -- -1 less a number below 0
 past-zero : (m : ℕ) → negsuc 0 -ℤ negsuc m ≡ pos m

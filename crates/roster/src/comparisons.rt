@@ -43,7 +43,7 @@ fn relation(a: Value, b: Value) -> u8
         → compared (lessPair builtIn) (meaning b) (meaning a) ≡ ok m → r ≡ signOf (isTrue l) (isTrue e) (isTrue m)) ⌝ }
 {
     let less = is_true(order::less(a, b));
-    let equal = is_true(values::comparison::equal(a, b));
+    let equal = is_true(comparison::equal(a, b));
     let more = is_true(order::less(b, a));
     sign(less, equal, more)
 }

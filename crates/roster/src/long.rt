@@ -52,9 +52,9 @@ fn patterns() {
     show_on(b"^a*b$", string(95, b'b'));
     show_on(b"^a*b$", string(96, b'b'));
     show_on(b"^a*$", string(96, b'b'));
-    show_on(b"b$", values::text::text_of(uri(41, b'b')));
-    show_on(b"b$", values::text::text_of(uri(96, b'b')));
-    show_on(b"b.", values::text::text_of(uri(96, b'b')));
+    show_on(b"b$", strings::text::text_of(uri(41, b'b')));
+    show_on(b"b$", strings::text::text_of(uri(96, b'b')));
+    show_on(b"b.", strings::text::text_of(uri(96, b'b')));
 }
 
 // 16 lines.

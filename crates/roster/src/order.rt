@@ -5,7 +5,6 @@ ghost use Rattle.values.specs.Meaning.{meaning, Good, compared, Tells};
 use definitions::RANKS_WIDTH;
 use definitions::Truth;
 use values::Value;
-use values::comparison;
 
 const BUILT_IN: [u8; RANKS_WIDTH] = [
     0,

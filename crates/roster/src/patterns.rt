@@ -20,7 +20,7 @@ pub fn show_on(pattern: &[u8], v: Value)
     print::word(pattern);
     print::word(b"/ on ");
     print::value(v);
-    print::answer(values::tests::regex(v, &field, 0));
+    print::answer(strings::tests::regex(v, &field, 0));
 }
 
 // One case: a pattern on a string with no tag.
@@ -58,5 +58,5 @@ pub fn cases() {
         b"abcdefghijklmnop|abcdefghijklmnop\n^.*.*.*.*.*.*.*$|aaaaaaaaaaaaaaaaaaaaaaaaaaaaaaaaaaaaaaaa\n^a*a*a*a*a*a*b$|aaaaaaaaaaaaaaaaaaaaaaaaaaaaaaaaaaaaaaaa\n",
     );
     // No value: unknown, also under the pattern that accepts every text.
-    show_on(b"", values::text::text_of(made::integer(1000000000001)));
+    show_on(b"", strings::text::text_of(made::integer(1000000000001)));
 }

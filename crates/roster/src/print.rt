@@ -60,7 +60,7 @@ fn quoted(v: Value) {
 pub fn value(v: Value)
     requires { ⌜ Good v ⌝ }
 {
-    let line = values::text::text_of(v);
+    let line = strings::text::text_of(v);
     if !line.present {
         word(b"no value");
         return;

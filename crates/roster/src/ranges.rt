@@ -20,7 +20,7 @@ fn show_on(range: &[u8], v: Value)
     print::word(range);
     print::word(b" on ");
     print::value(v);
-    print::answer(values::tests::lang_matches(v, &field, 0));
+    print::answer(strings::tests::lang_matches(v, &field, 0));
 }
 
 // One case: a range on a string with a tag.
@@ -47,8 +47,8 @@ fn show_rows(text: &[u8]) {
 pub fn cases() {
     // `*` refuses the empty tag, which str gives too, and accepts the others, also one of hyphens only.
     show_rows(b"*|\n*|en\n*|-\n*|--------\n");
-    show_on(b"*", values::text::text_of(made::integer(3)));
-    show_on(b"*", values::text::text_of(made::integer(1000000000001)));
+    show_on(b"*", strings::text::text_of(made::integer(3)));
+    show_on(b"*", strings::text::text_of(made::integer(1000000000001)));
     // Another range accepts its own tag and tags that go on with a hyphen.
     show_rows(b"en|en\nen|en-gb\nen|eng\nen|fr\nen|\nen-gb|en\nen-gb|en-gb\nen-gb|en-gb-ox\n");
     // A `-*` at the end counts for nothing, and a hyphen there counts.

@@ -8,7 +8,6 @@ use truth::not_of;
 use truth::or_of;
 use values::Value;
 use values::arithmetic;
-use values::comparison;
 ghost use Rattle.values.specs.Meaning.{Good};
 
 fn show_not(a: Truth) {
@@ -111,7 +110,7 @@ fn show_past(a: Value, b: Value)
     print::word(b"abs of it");
     show_less(arithmetic::abs(past));
     print::word(b"str of it = str of it");
-    let text = values::text::text_of(past);
+    let text = strings::text::text_of(past);
     print::answer(comparison::equal(text, text));
     print::word(b"not it < 5");
     let less = order::less(past, made::integer(5));

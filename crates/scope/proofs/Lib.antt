@@ -1,6 +1,4 @@
--- In this order: the uses of variables, the pairs that bind and hide them, the place of a record, the whole script, and last its total.
+-- In this order: the uses of variables, the pairs that bind and hide them, the whole script.
 pub mod UseLaws
 pub mod BindLaws
-pub mod PlaceLaws
-pub mod RootLaws
-pub mod TotalLaws
+mod ScopeLaws

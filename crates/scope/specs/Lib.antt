@@ -1,4 +1,2 @@
 pub mod Uses
 pub mod Bindings
-pub mod Places
-pub mod Totals

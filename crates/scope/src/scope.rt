@@ -1,6 +1,4 @@
 // The variables free and bound in a script (refusal 7), by walks over what reads well.
-use crate::after::after_name;
-use crate::after::after_query;
 use crate::uses::Uses;
 use crate::uses::name_uses;
 use crate::uses::query_uses;
@@ -9,6 +7,8 @@ use definitions::DEPTH_LIMIT;
 use definitions::PAIRS_OFFSET;
 use definitions::QUERY_OFFSET;
 use definitions::VARIABLE_LIMIT;
+use walks::after_name;
+use walks::after_query;
 ghost use mathlib.Core.Path.{_≡_};
 ghost use mathlib.Core.Bool.{true, not};
 ghost use Prim.Native.Nat.{_+_, _<_};

@@ -25,8 +25,8 @@ use Rattle.facts.specs.Demands.{queryDemands, scriptDemands}
 use Rattle.facts.specs.UnionFind.{climb, rootIn, mergeIn}
 use Rattle.facts.specs.Tables.{fresh, atMost, asProperty, atLeast, edge, impossible, related, place, nodeAt, noted, allNoted}
 use Rattle.facts.specs.Infer.{allBelow, apart, settled, tight, decided, best, bestTypes, readOff, tablesOf}
-use Rattle.suggestion.specs.WithType.{flagged, leaves, atMostType, withType}
-use Rattle.suggestion.specs.Does.{doesIn}
+use Rattle.with_type.specs.WithType.{flagged, leaves, atMostType, withType}
+use Rattle.lowest_type.specs.Does.{doesIn}
 use Rattle.suggestion.proofs.SuggestLaws.{lowest-is, suggested-as}
 
 schema : List ℕ

@@ -1,6 +1,2 @@
-pub mod TypeNoted
-pub mod TypeWritten
-pub mod WithTypeLaws
-pub mod LowestLaws
 pub mod SuggestLaws
 pub mod DocumentRow

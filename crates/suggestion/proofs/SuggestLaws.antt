@@ -26,9 +26,9 @@ use Rattle.facts.specs.Infer.{readOff, tablesOf, infer}
 use Rattle.facts.specs.Codes.{sortsIn, allWritten}
 use Rattle.facts.specs.Answers.{answerOf}
 use Rattle.facts.proofs.Infer.{infer-is-verdict}
-use Rattle.facts.proofs.ReadOffLaws.{written-length}
-use Rattle.suggestion.specs.Does.{doesIn}
-use Rattle.suggestion.proofs.TypeWritten.{type-is-verdict}
+use Rattle.readoff.proofs.ReadOffLaws.{written-length}
+use Rattle.lowest_type.specs.Does.{doesIn}
+use Rattle.with_type.proofs.TypeWritten.{type-is-verdict}
 
 -- ── the same test at the open variables suggests the same ───────────────────────────────────
 

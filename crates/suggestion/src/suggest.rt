@@ -9,10 +9,10 @@ ghost use Rattle.definitions.specs.Typing.{writtenTypes};
 ghost use Rattle.definitions.specs.Calls.{suggestFor};
 ghost use Rattle.laws.specs.ReadAnswers.{isSome};
 ghost use Rattle.facts.specs.Codes.{sortsIn};
-use crate::lowest::lowest;
 use definitions::NO_TYPING;
 use definitions::SuggestAnswer;
-use facts::readoff::read_off;
+use lowest_type::lowest;
+use readoff::read_off;
 use typing::pairs::written_types;
 use typing::typer::tables_of;
 

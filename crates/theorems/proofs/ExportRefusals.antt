@@ -29,7 +29,7 @@ use Rattle.definitions.specs.declared.TotalAnswer.the-variants as TotalAnswers
 use Rattle.definitions.specs.declared.SuggestAnswer.the-variants as SuggestAnswers
 use Rattle.definitions.specs.declared.PublishAnswer.{PublishAnswer}
 use Rattle.definitions.specs.declared.PublishAnswer.the-variants as PublishAnswers
-use Rattle.laws.proofs.Tests.{andLeft, isTrue, trueIs}
+use Rattle.laws.proofs.Tests.{andLeft, isTrue, trueIs, andFalse}
 use Rattle.theorems.specs.Demand1.{firstBroken, isThere, loadRules, runRules, pageRules, publishRules}
 use Rattle.theorems.proofs.Demand1.{demand-1}
 use Rattle.theorems.specs.ExportRefusals.{buffersFit, loadBroken, LoadRefuses, RunRefuses, PageRefuses, TotalRefuses, NumberRefuses, ExportRefusals, SuggestRefuses, SchemaRefuses}
@@ -42,10 +42,6 @@ use Rattle.definitions.specs.declared.SchemaAnswer.the-variants as SchemaAnswer
 and-true : (a : Bool) → (a && true) ≡ a
 and-true true = refl
 and-true false = refl
-
-and-false : (a : Bool) → (a && false) ≡ false
-and-false true = refl
-and-false false = refl
 
 -- a refusal leaves saved run and report
 saved-kept : (n : ℕ) (r : SavedRun) (lent : List ℕ) → (n ≡ 0 → ⊥) → savedAfter n r lent ≡ lent
@@ -65,7 +61,7 @@ page-report-kept report (PageAnswers.Refused n) h = refl
 load-refuses : (l : Lent) (saved : List ℕ) (b : Bool) → eqb (length saved) savedWidth ≡ b → LoadRefuses l saved
 unfolding loadExport firstBroken
 load-refuses l saved false e =
-    record { number = rw (e, and-false (lengthsFit l), loadExport) refl; keeps = λ h. rw (e, loadExport) (refl, refl, refl) }
+    record { number = rw (e, andFalse (lengthsFit l), loadExport) refl; keeps = λ h. rw (e, loadExport) (refl, refl, refl) }
 load-refuses l saved true e =
     let d = demand-1 .load l in
     let same : loadBroken l saved ≡ firstBroken (loadRules (lengthsFit l) l) = rw (e, and-true (lengthsFit l)) refl in

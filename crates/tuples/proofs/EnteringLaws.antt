@@ -1,35 +1,35 @@
 -- Tuples on a saved run: refusals in their order, and what the machine is lent.
-use Prim.Native.Nat.{ℕ, _≤_}
+use Prim.Native.Nat.{ℕ}
 use mathlib.Core.Path.{_≡_, refl, sym, ap, _∙_}
-use mathlib.Core.List.{List, [], _∷_, _++_, map}
+use mathlib.Core.List.{List, [], _∷_, _++_}
 use mathlib.Core.Bool.{Bool, cond, true, false}
 use mathlib.Core.Option.{none, some}
-use lib.Dec.{T, leb→le}
+use lib.Dec.{T}
 use lib.IntN.{ℤ}
-use lib.ListN.{length, length-map}
-use Rattle.definitions.specs.Limits.{variableLimit, graphLimit, depthLimit, scriptLimit}
+use lib.ListN.{length}
+use Rattle.definitions.specs.Limits.{variableLimit, graphLimit, depthLimit}
 use Rattle.definitions.specs.Ascii.{ascii}
 use Rattle.definitions.specs.Bytes.{signed}
 use Rattle.definitions.specs.Terms.{isDateTime}
 use Rattle.definitions.specs.Values.{naturalText}
 use Rattle.definitions.specs.Result.{Result, refused, passed, _>>=_, _>>_, require, given}
 use Rattle.definitions.specs.Calls as Calls
-use Rattle.definitions.specs.Calls.{Lent, lengthsOf, lengthsFit, entryTests}
+use Rattle.definitions.specs.Calls.{Lent, lengthsFit, entryTests}
 use Rattle.definitions.specs.Alphabet.{isAlphabet}
 use Rattle.definitions.specs.Exports.{savedFrom}
 use Rattle.definitions.specs.Printer.{line}
 use Rattle.definitions.specs.declared.SavedControl.{SavedControl}
 use Rattle.definitions.specs.declared.SavedRun.{SavedRun}
-use Rattle.laws.proofs.Tests.{isTrue, trueIs}
-use Rattle.laws.proofs.Check.{check-passed, sizes}
+use Rattle.laws.proofs.Tests.{trueIs}
 use Rattle.laws.proofs.Results.{given-bind, given-refused, bind-refused, bind-passed, require-after, require-refused}
-use Rattle.laws.proofs.SoundIn.{SoundIn, sound-in, entry-inv, entry-ranks, holding}
+use Rattle.laws.proofs.SoundIn.{entry-inv, entry-ranks}
 use Rattle.store.specs.Canonical.{canonicalControl, canonicalStore}
-use Rattle.machine.specs.Running.{Lends}
-use Rattle.machine.proofs.StartLaws.{lends-held}
+use Rattle.answers.specs.Lends.{Lends}
+use Rattle.answers.proofs.StartLaws.{lends-held}
 use Rattle.entry.specs.declared.Entered.{Entered}
-use Rattle.entry.proofs.EntryLaws.{fit-ranks}
-use Rattle.entry.specs.Entry.{lentOf, unreadNumber, contextOf, Found}
+use Rattle.entry.specs.Entry.{unreadNumber, contextOf, Found}
+use Rattle.entry.proofs.PassedLaws.{passed-10, ranked, types-kept, control-held, store-saved}
+use Rattle.lengths.specs.Lent.{lentOf}
 use Rattle.output.specs.Written.{Written}
 use Rattle.output.proofs.WritingLaws.{written-as}
 use Rattle.tuples.specs.Asking.{tuplesIn, entered, enteredLines}
@@ -97,21 +97,14 @@ module _ (ranks terms schema script table store : List ℕ) (run : SavedRun)
   abbrev l : Lent
   l = lentOf ranks terms schema script table store
 
-  pub tested : SoundIn l run x
-  tested = sound-in l run x (entry-inv l run e .2)
-
-  pub stack-low : run .control .height ≤ depthLimit
-  stack-low = leb→le (run .control .height) depthLimit (holding l run x tested .control .height)
-
-  pub script-short : length script ≤ scriptLimit
-  script-short = sizes terms schema script (x .checked) (check-passed terms schema script (x .checked) (tested .loads)) .2
-
   module _ (r : Entered) (rows leasts : List ℕ) (f : Found l run x r rows leasts)
       (sixteen : length (run .control .bound) ≡ variableLimit) (places : length (run .store .fetched) ≡ graphLimit) (levels : length (run .control .items) ≡ depthLimit)
       (clean : SavedControl) (c : clean ≡ canonicalControl script (run .control)) (clock : ℕ) (timely : isDateTime (signed clock) ≡ true) where
     abbrev pub lends-now : Lends script ranks table rows leasts (contextOf r run clock) clean
     lends-now =
-        lends-held l run x tested clean c (canonicalStore (run .store)) refl (fit-ranks (lengthsOf l) refl (isTrue (lengthsFit l) (entry-inv l run e .0))) sixteen places levels (sym (f .loaded))
+        lends-held l run x (passed-10 ranks terms schema script table store run x e) clean (canonicalStore (run .store)) (types-kept ranks terms schema script table store run x e c)
+        (control-held ranks terms schema script table store run x e c sixteen levels) (store-saved ranks terms schema script table store run x e places refl)
+        (ranked ranks terms schema script table store run x e) (sym (f .loaded))
         (record { clocked = trueIs (isDateTime (signed clock)) timely }) (f .lent clock) .lends
 
     -- its lines are those of what was entered
@@ -123,7 +116,3 @@ module _ (ranks terms schema script table store : List ℕ) (run : SavedRun)
         written-as (h lends-now)
         (sym (ap (λ (m : Result Calls.Sound). enteredLines ranks (signed clock) (tuplesIn tuples) m)
         (is-in l saved (signed clock) tuples (entry-inv l run e .0) run read x e timely)))
-
--- an array of structs has the length of what is made of each
-pub length-mapped : (A B : Type 0) (f : A → B) (l : List A) (n : ℕ) → length (map f l) ≡ n → length l ≡ n
-length-mapped A B f l n e = sym (length-map l f) ∙ e

@@ -22,9 +22,10 @@ use Rattle.laws.specs.ScriptReads.{ReadsAs}
 use Rattle.query.specs.declared.Context.{Context}
 use Rattle.search.specs.Trying.{tupleFits}
 use Rattle.search.specs.declared.Tried.{Tried}
-use Rattle.machine.specs.Running.{Lends, Top, onTop, setting, typing, TriesNow}
-use Rattle.machine.proofs.StepLaws.{top, blocked}
-use Rattle.machine.proofs.RunLaws.{no-item}
+use Rattle.acts.specs.Steps.{Top, onTop}
+use Rattle.acts.proofs.StepLaws.{top, blocked}
+use Rattle.acts.proofs.TopLaws.{no-item}
+use Rattle.answers.specs.Lends.{Lends, setting, typing, TriesNow}
 use Rattle.output.specs.Written.{Written}
 use Rattle.output.proofs.WritingLaws.{written-none, written-as, written-then}
 use Rattle.tuples.specs.Asking.{tupleWidth, tuplesFrom, tuplesIn, askedBy, askedOn, tupleLine, tupleLines, askedLines}

@@ -56,7 +56,7 @@ unfoldable pub askedOn : List Item → Option Asked
 askedOn [] = none
 askedOn (i ∷ rest) = askedBy (i .script)
 
--- that there is no fault is `machine::answers::try_top`'s promise
+-- that there is no fault is `answers::try_top`'s promise
 abbrev pub outcomeText : Outcome Bool → List ℕ
 outcomeText (ok true) = ascii "true "
 outcomeText (ok false) = ascii "false "

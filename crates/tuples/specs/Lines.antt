@@ -13,7 +13,8 @@ use Rattle.definitions.specs.Printer.{line}
 use Rattle.definitions.specs.declared.SavedControl.{SavedControl}
 use Rattle.query.specs.declared.Context.{Context}
 use Rattle.search.specs.declared.Tried.{Tried}
-use Rattle.machine.specs.Running.{Lends, Top}
+use Rattle.acts.specs.Steps.{Top}
+use Rattle.answers.specs.Lends.{Lends}
 use Rattle.output.specs.Written.{Written, numberRoom}
 use Rattle.tuples.specs.Asking.{tuplesFrom, tuplesIn, tupleLine, tupleLines, askedOn, askedLines}
 

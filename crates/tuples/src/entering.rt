@@ -10,7 +10,7 @@ ghost use Rattle.definitions.specs.Bytes.{signed};
 ghost use Rattle.definitions.specs.Values.{naturalText};
 ghost use Rattle.definitions.specs.Calls.{lengthsFit};
 ghost use Rattle.definitions.specs.Printer.{line};
-ghost use Rattle.entry.specs.Entry.{lentOf};
+ghost use Rattle.lengths.specs.Lent.{lentOf};
 ghost use Rattle.output.specs.Written.{Written};
 ghost use Rattle.tuples.specs.Asking.{tupleWidth, tuplesIn, entered, enteredLines};
 ghost use Rattle.tuples.specs.Lines.{lineRoom};

@@ -23,13 +23,13 @@ use Rattle.laws.proofs.Reading.{row-keys}
 use Rattle.laws.proofs.Fields.{by-same}
 use Rattle.laws.specs.Walks.{Walked}
 use Rattle.laws.specs.ReadAnswers.{isSome}
-use Rattle.scope.proofs.RootLaws.{whole-of, of-root}
+use Rattle.walks.proofs.RootLaws.{whole-of, of-root}
 use Rattle.facts.specs.Codes.{unboundCode, writtenAs, allWritten}
 use Rattle.typing.specs.Pairs.{writtenCode, earlier, pairNoted, pairsNoted, bindersNoted}
 use Rattle.codes.proofs.CodeLaws.{type-back}
 use Rattle.laws.proofs.Variables.{at-variable}
 use Rattle.facts.proofs.WalkLaws.{written-here}
-use Rattle.facts.proofs.ReadOffLaws.{written-length}
+use Rattle.readoff.proofs.ReadOffLaws.{written-length}
 
 -- ── a pair, and the next ────────────────────────────────────────────────────────────────────
 

@@ -21,7 +21,7 @@ use Rattle.facts.specs.Walk.{Joined, ScriptNoted}
 use Rattle.facts.specs.Answers.{answerOf}
 use Rattle.facts.proofs.NotingLaws.{fresh-sound}
 use Rattle.facts.proofs.Infer.{infer-is-verdict}
-use Rattle.facts.proofs.ReadOffLaws.{written-length}
+use Rattle.readoff.proofs.ReadOffLaws.{written-length}
 use Rattle.typing.proofs.PairLaws.{at-root}
 
 pub fresh-joined : {t : Tables} → t ≡ fresh → Joined t

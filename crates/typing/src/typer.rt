@@ -17,7 +17,6 @@ use crate::pairs;
 use crate::walk;
 use facts::Answer;
 use facts::noting::Tables;
-use facts::readoff;
 
 // The tables of a script whose written types stand beside it: `leasts` has the code of each term's least type, `written` a byte
 // for each variable.

@@ -1,4 +1,4 @@
-// Document 01, "Values": what expressions give, and the tests of filters on them.
+// Document 01, "Values": what expressions give, and arithmetic.
 use definitions::TAG_WIDTH;
 use definitions::TEXT_WIDTH;
 ghost use lib.Dec.{T};
@@ -7,15 +7,7 @@ ghost use Rattle.definitions.specs.Values.{Value as Meant};
 ghost use Rattle.values.specs.Means.{Holds};
 
 pub mod arithmetic; // sums, differences and distances of numbers
-mod calendar; // dates in the Gregorian calendar
-pub mod comparison; // equal and less
-mod line; // a text written from the front
 pub mod number; // signed numbers within the limits of their kinds
-mod order; // the order of texts
-pub mod slot; // the value of the term in a slot
-mod tables; // rank tables
-pub mod tests; // patterns and language ranges on strings
-pub mod text; // str
 
 // Document 01's codes of the datatypes.
 pub const ANY_URI: u8 = 1;

@@ -1,6 +1,7 @@
 -- `entry::enter` meets its contract: one law for each way through. Assumes nothing.
 use borrow.Author.Tests.{not-true, not-false}
-use Rattle.entry.proofs.EntryLaws.{wrong-length, fit-ranks, fit-both, no-alphabet, tests-go-on}
+use Rattle.entry.proofs.EntryLaws.{wrong-length, no-alphabet, tests-go-on}
+use Rattle.lengths.proofs.TableLaws.{fit-ranks, fit-both}
 use borrow.Author.Needs.{needs}
 use Rattle.entry.proofs.enter.Statement.{statement}
 use Rattle.entry.proofs.enter.Tie as tie

@@ -1,5 +1,5 @@
 -- By the lengths, by whether the bytes are a saved run, and else as the engine answers.
-use Rattle.exports.proofs.BufferLaws.{ranks-fit, saved-fits, report-fits}
+use Rattle.lengths.proofs.BufferLaws.{ranks-fit, saved-fits, report-fits}
 use Rattle.layout.proofs.ReadLaws.{read-none, read-some}
 use Rattle.exports.proofs.ExportLaws.{page-length, page-unread, page-done}
 use borrow.Author.Needs.{needs}

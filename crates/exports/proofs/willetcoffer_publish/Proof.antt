@@ -1,5 +1,5 @@
 -- By the lengths, by whether the bytes are a saved run, and else as the call answers.
-use Rattle.exports.proofs.BufferLaws.{saved-is, report-is}
+use Rattle.lengths.proofs.BufferLaws.{saved-is, report-is}
 use Rattle.layout.proofs.ReadLaws.{read-none, read-some}
 use Rattle.exports.proofs.ExportLaws.{publish-length, publish-unread, publish-done}
 use borrow.Author.Needs.{needs}

@@ -1,6 +1,6 @@
 -- By the lengths, by whether the bytes are a saved run, and else as the engine answers.
 use mir.Facts.{toZ-ofZ}
-use Rattle.exports.proofs.BufferLaws.{ranks-fit, saved-fits, report-fits}
+use Rattle.lengths.proofs.BufferLaws.{ranks-fit, saved-fits, report-fits}
 use Rattle.layout.proofs.ReadLaws.{read-none, read-some}
 use Rattle.exports.proofs.ExportLaws.{run-length, run-unread, run-done}
 use borrow.Author.Needs.{needs}

@@ -1,7 +1,7 @@
 -- By the part that is not there, and else by the parts' offsets.
 use mathlib.Core.Path.{_∙_}
 use borrow.Author.Needs.{needs}
-use Rattle.numbers.proofs.PartLaws.{found}
+use Rattle.number_parts.proofs.PartLaws.{found}
 use Rattle.numbers.proofs.NumberLaws.{WholeRead, FractionRead, fraction-read, ExponentRead, exponent-read, Placed, placed}
 use Rattle.numbers.proofs.NumberLaws.{too-long, no-whole, bad-fraction, bad-exponent, more-after}
 use Rattle.numbers.proofs.read_number.Statement.{statement}

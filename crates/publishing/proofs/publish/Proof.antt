@@ -9,9 +9,11 @@ use borrow.Author.Tests.{not-true, not-false}
 use Rattle.definitions.specs.Limits.{termLimit}
 use Rattle.definitions.specs.Lists.{isIn}
 use Rattle.definitions.specs.Calls.{Lent, lengthsOf, bothTablesFit}
-use Rattle.entry.specs.Entry.{lentOf}
+use Rattle.laws.proofs.Tests.{trueIs}
+use Rattle.lengths.specs.Lent.{lentOf}
+use Rattle.lengths.proofs.TableLaws.{both-fit}
 use Rattle.publishing.proofs.PublishLaws.{wrong-length, not-sound, not-fetched, of-page, ranks-unread, below-count}
-use Rattle.publishing.proofs.PublishLaws.{Passed, has-passed, tables-fit, graphs-few, terms-few, listed-is, Stretch, graph-stretch}
+use Rattle.publishing.proofs.PublishLaws.{Passed, has-passed, graphs-few, terms-few, listed-is, Stretch, graph-stretch}
 use Rattle.publishing.proofs.publish.Statement.{statement}
 use Rattle.publishing.proofs.publish.Tie as tie
 
@@ -34,7 +36,7 @@ returns c =
     ∙ wrong-length (lentAt s) (s .args .saved) (s .args .graph) (s .args .out .now) (sym (c .before .both-fit .ensures) ∙ not-true _ (c .if1 .taken))
 
 sound-requires : tie.Need-sound-requires
-sound-requires c κs = let w = tables-fit (lentAt (start₁ (c .before .before))) (fits (c .before .before)) in (w .0, (w .1, (search needs, search needs)))
+sound-requires c κs = let w = both-fit (lengthsOf (lentAt (start₁ (c .before .before)))) (trueIs _ (fits (c .before .before))) in (w .0, (w .1, (search needs, search needs)))
 
 returns-2 : tie.Need-returns-2
 returns-2 c =

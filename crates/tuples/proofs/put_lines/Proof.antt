@@ -4,7 +4,7 @@ use mathlib.Core.Path.{ap}
 use Rattle.definitions.specs.Ascii.{ascii}
 use Rattle.definitions.specs.Printer.{line}
 use Rattle.definitions.specs.declared.SavedItem.{SavedItem}
-use Rattle.machine.proofs.RunLaws.{first-item, height-low, item-inside}
+use Rattle.acts.proofs.TopLaws.{first-item, height-low, item-inside}
 use Rattle.output.proofs.WritingLaws.{written-as}
 use Rattle.tuples.proofs.TupleLaws.{none-here, other-here, block-here}
 use borrow.Author.Needs.{needs}

@@ -3,7 +3,8 @@ use Prim.Native.Nat.{_+_, _-_, _*_, _/_, _≤_, _<_}
 use native.Mathlib.Omega.{arith}
 use mathlib.Core.Path.{_≡_, refl}
 use lib.ListN.{length}
-use Rattle.machine.specs.Running.{Lends, Top}
+use Rattle.acts.specs.Steps.{Top}
+use Rattle.answers.specs.Lends.{Lends}
 use Rattle.tuples.specs.Asking.{tupleWidth}
 use Rattle.tuples.specs.Lines.{lineRoom, TuplesWritten}
 use Rattle.tuples.proofs.TupleLaws.{tuples-none, tuples-next, tuples-all}

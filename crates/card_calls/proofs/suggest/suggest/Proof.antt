@@ -27,7 +27,10 @@ suggest-for-requires : tie.Need-suggest-for-requires
 suggest-for-requires c κs = let c₂ = c .before in let c₁ = c₂ .before .before .before .before in script-reads _ _ _ _ (c₁ .ready-card .ensures .0) (c₂ .if1 .left) (c₁ .ready-card .ensures .1)
 
 returns-2 : tie.Need-returns-2
-returns-2 c = let c₂ = c .before .before in let c₁ = c₂ .before .before .before .before in suggest-told _ _ _ _ (c₁ .ready-card .ensures .0) (c₂ .if1 .left) (c₁ .ready-card .ensures .1) (c .suggest-for .ensures)
+returns-2 c =
+    let c₂ = c .before .before in
+    let c₁ = c₂ .before .before .before .before in
+    suggest-told _ _ _ _ (c₁ .ready-card .ensures .0) (c₂ .if1 .left) (c₁ .ready-card .ensures .1) (c .suggest-for .ensures)
 
 pub suggest-spec : {M : Type 1} → statement M
 suggest-spec =

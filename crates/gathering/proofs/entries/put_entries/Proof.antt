@@ -6,7 +6,7 @@ use mathlib.Core.Path.{_≡_}
 use lib.ListN.{length}
 use Rattle.definitions.specs.Limits.{schemaWidth}
 use Rattle.definitions.specs.Gathering.{Asking}
-use Rattle.gathering.specs.Noted.{Noted}
+use Rattle.subjects.specs.Noted.{Noted}
 use Rattle.gathering.proofs.EntryLaws.{Putting, putting-first, putting-room, putting-next, putting-end}
 use borrow.Author.Needs.{needs}
 use Rattle.gathering.proofs.entries.put_entries.Statement.{statement}

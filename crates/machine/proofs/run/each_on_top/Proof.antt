@@ -1,9 +1,10 @@
 use native.Mathlib.Omega.{arith}
 use mathlib.Core.Path.{ap}
 use Rattle.definitions.specs.declared.SavedItem.{SavedItem}
-use Rattle.machine.specs.Running.{onTop}
-use Rattle.machine.proofs.StepLaws.{blocked}
-use Rattle.machine.proofs.RunLaws.{first-item, height-low, item-inside, none-each, not-each, each-mode}
+use Rattle.acts.specs.Steps.{onTop}
+use Rattle.acts.proofs.StepLaws.{blocked}
+use Rattle.acts.proofs.TopLaws.{first-item, height-low, item-inside}
+use Rattle.machine.proofs.RunLaws.{none-each, not-each, each-mode}
 use borrow.Author.Needs.{needs}
 use Rattle.machine.proofs.run.each_on_top.Statement.{statement}
 use Rattle.machine.proofs.run.each_on_top.Tie as tie

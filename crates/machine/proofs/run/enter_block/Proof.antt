@@ -1,7 +1,7 @@
 use native.Mathlib.Omega.{arith}
 use borrow.Author.Tests.{eq-eqb, ne-eqb}
-use Rattle.machine.specs.Running.{onTop}
-use Rattle.machine.proofs.StepLaws.{blocked}
+use Rattle.acts.specs.Steps.{onTop}
+use Rattle.acts.proofs.StepLaws.{blocked}
 use Rattle.machine.proofs.RunLaws.{each-acts, once-acts}
 use borrow.Author.Needs.{needs}
 use Rattle.machine.proofs.run.enter_block.Statement.{statement}

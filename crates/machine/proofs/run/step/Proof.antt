@@ -1,7 +1,8 @@
 use mathlib.Core.Path.{ap}
 use Rattle.definitions.specs.declared.SavedItem.{SavedItem}
-use Rattle.machine.specs.Running.{onTop}
-use Rattle.machine.proofs.RunLaws.{first-item, height-low, item-inside, is-block, step-acts, step-ends, graphs-low}
+use Rattle.acts.specs.Steps.{onTop}
+use Rattle.acts.proofs.TopLaws.{first-item, height-low, item-inside, is-block}
+use Rattle.machine.proofs.RunLaws.{step-acts, step-ends, graphs-low}
 use borrow.Author.Needs.{needs}
 use Rattle.machine.proofs.run.step.Statement.{statement}
 use Rattle.machine.proofs.run.step.Tie as tie

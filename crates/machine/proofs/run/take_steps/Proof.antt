@@ -3,7 +3,7 @@ use Prim.Native.Nat.{_-_}
 use native.Mathlib.Omega.{arith}
 use mathlib.Core.Path.{refl}
 use borrow.Author.Tests.{not-true, not-false}
-use Rattle.machine.specs.Running.{LendsStore}
+use Rattle.answers.specs.Lends.{LendsStore}
 use Rattle.machine.proofs.RunLaws.{Going, sets-out, stored-now, steps-on, stops-here, spent-here}
 use Rattle.machine.proofs.run.take_steps.Statement.{statement}
 use Rattle.machine.proofs.run.take_steps.Tie as tie

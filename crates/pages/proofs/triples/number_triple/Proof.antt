@@ -2,7 +2,8 @@
 use native.Mathlib.Omega.{arith}
 use Rattle.definitions.specs.Terms.{Term}
 use Rattle.pages.specs.Page.{subjectIn, propertyIn}
-use Rattle.pages.proofs.TakeLaws.{kind-high, subject-body, property-body, object-body, first-over, second-over, all-numbered}
+use Rattle.page_reader.proofs.RecordLaws.{kind-high}
+use Rattle.pages.proofs.TakeLaws.{subject-body, property-body, object-body, first-over, second-over, all-numbered}
 use borrow.Author.Needs.{needs}
 use Rattle.pages.proofs.triples.number_triple.Statement.{statement}
 use Rattle.pages.proofs.triples.number_triple.Tie as tie

@@ -1,14 +1,16 @@
 -- `pages::triples::take_record` meets its contract.
 use native.Mathlib.Omega.{arith}
-use mathlib.Core.Path.{sym, _∙_}
+use mathlib.Core.Path.{ap, sym, _∙_}
 use borrow.Author.Tests.{not-true, not-false}
+use Rattle.laws.specs.ReadAnswers.{isSome}
 use Rattle.pages.proofs.TakeLaws.{take-skipped, take-over, take-stored}
 use borrow.Author.Needs.{needs}
 use Rattle.pages.proofs.triples.take_record.Statement.{statement}
 use Rattle.pages.proofs.triples.take_record.Tie as tie
 
 well-typed-requires : tie.Need-well-typed-requires
-well-typed-requires c κs = search needs
+well-typed-requires c κs =
+    let c₁ = c .before .before .before .before .before .before in (c₁ .pre .0, (ap isSome (c₁ .pre .1 .0 .1), c₁ .pre .1 .0 .2))
 
 add-more : tie.Need-add-more
 add-more c = search needs

@@ -25,10 +25,10 @@ use Rattle.truth.proofs.is_true.Reads as is-true
 use Rattle.truth.proofs.or_of.Reads as or-of
 use Rattle.truth.proofs.and_of.Reads as and-of
 use Rattle.truth.proofs.not_of.Reads as not-of
-use Rattle.values.proofs.tests.lang_matches.Reads as lang-matches
-use Rattle.values.proofs.tests.regex.Reads as regex
-use Rattle.values.proofs.comparison.equal.Reads as equal
-use Rattle.values.proofs.comparison.less.Reads as less
+use Rattle.strings.proofs.tests.lang_matches.Reads as lang-matches
+use Rattle.strings.proofs.tests.regex.Reads as regex
+use Rattle.comparison.proofs.equal.Reads as equal
+use Rattle.comparison.proofs.less.Reads as less
 use Rattle.query.proofs.eval.+eval_cond.{statement}
 use Rattle.query.proofs.eval.+eval_cond.Tie.{close}
 

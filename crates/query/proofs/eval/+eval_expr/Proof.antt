@@ -22,7 +22,7 @@ use Rattle.query.proofs.names.name_at.Reads as name-at
 use Rattle.values.proofs.arithmetic.abs.Reads as abs
 use Rattle.values.proofs.arithmetic.minus.Reads as minus
 use Rattle.values.proofs.arithmetic.plus.Reads as plus
-use Rattle.values.proofs.text.text_of.Reads as text-of
+use Rattle.strings.proofs.text.text_of.Reads as text-of
 use Rattle.query.proofs.eval.+eval_expr.{statement}
 use Rattle.query.proofs.eval.+eval_expr.Tie.{close}
 

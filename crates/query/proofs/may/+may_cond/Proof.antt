@@ -25,10 +25,10 @@ use Rattle.query.proofs.eval.eval_expr.Reads as eval-expr
 use Rattle.query.proofs.may.pair_open.Reads as pair-open
 use Rattle.ends.proofs.after.Reads as after
 use Rattle.truth.proofs.comes_to.Reads as comes-to
-use Rattle.values.proofs.tests.lang_matches.Reads as lang-matches
-use Rattle.values.proofs.tests.regex.Reads as regex
-use Rattle.values.proofs.comparison.equal.Reads as equal
-use Rattle.values.proofs.comparison.less.Reads as less
+use Rattle.strings.proofs.tests.lang_matches.Reads as lang-matches
+use Rattle.strings.proofs.tests.regex.Reads as regex
+use Rattle.comparison.proofs.equal.Reads as equal
+use Rattle.comparison.proofs.less.Reads as less
 use Rattle.query.proofs.may.+may_cond.{statement}
 use Rattle.query.proofs.may.+may_cond.Tie.{close}
 

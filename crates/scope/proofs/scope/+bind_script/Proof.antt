@@ -12,8 +12,8 @@ use borrow.Fn.PlainCycle.{Measures, is, falls, and}
 use Rattle.scope.proofs.scope.bind_script.Reads as bind-script
 use Rattle.scope.proofs.scope.bind_script.Kinds as bind-script-kinds
 use Rattle.scope.proofs.scope.+bind_script.Lts-bind_script as lts
-use Rattle.scope.proofs.after.after_name.Reads as after-name
-use Rattle.scope.proofs.after.after_query.Reads as after-query
+use Rattle.walks.proofs.after_name.Reads as after-name
+use Rattle.walks.proofs.after_query.Reads as after-query
 use Rattle.scope.proofs.scope.bind_pairs.Reads as bind-pairs
 use Rattle.scope.proofs.scope.+bind_script.{statement}
 use Rattle.scope.proofs.scope.+bind_script.Tie.{close}

@@ -1,6 +1,7 @@
 -- `scope::scope::in_scope` meets its contract.
 use borrow.Author.Needs.{needs}
-use Rattle.scope.proofs.RootLaws.{whole-loads, scope-is}
+use Rattle.walks.proofs.RootLaws.{whole-loads}
+use Rattle.scope.proofs.ScopeLaws.{scope-is}
 use Rattle.scope.proofs.scope.in_scope.Statement.{statement}
 use Rattle.scope.proofs.scope.in_scope.Tie as tie
 

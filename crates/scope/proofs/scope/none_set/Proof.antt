@@ -7,7 +7,7 @@ use mathlib.Core.Path.{_≡_, refl, sym, _∙_}
 use lib.ListN.{length, drop}
 use Rattle.definitions.specs.Limits.{variableLimit}
 use Rattle.definitions.specs.Lists.{every}
-use Rattle.scope.proofs.RootLaws.{flag-stop, flag-turn, flags-done}
+use Rattle.scope.proofs.ScopeLaws.{flag-stop, flag-turn, flags-done}
 use Rattle.scope.proofs.scope.none_set.Statement.{statement}
 use Rattle.scope.proofs.scope.none_set.Tie as tie
 

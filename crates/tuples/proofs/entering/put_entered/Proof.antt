@@ -7,10 +7,12 @@ use Rattle.definitions.specs.Limits.{variableLimit, graphLimit, depthLimit}
 use Rattle.definitions.specs.Calls.{Lent, lengthsOf, lengthsFit}
 use Rattle.laws.proofs.Tests.{isTrue}
 use Rattle.layout.proofs.ReadLaws.{read-none, read-some}
-use Rattle.entry.specs.Entry.{lentOf}
-use Rattle.entry.proofs.EntryLaws.{fit-ranks, not-entered, entered}
+use Rattle.lengths.specs.Lent.{lentOf}
+use Rattle.lengths.proofs.TableLaws.{fit-ranks}
+use Rattle.entry.proofs.EntryLaws.{not-entered, entered}
+use Rattle.entry.proofs.PassedLaws.{length-mapped, stack-low, script-short}
 use Rattle.output.proofs.WritingLaws.{written-as}
-use Rattle.tuples.proofs.EnteringLaws.{no-saved, not-in, bad-now, stack-low, script-short, lends-now, lines-now, length-mapped}
+use Rattle.tuples.proofs.EnteringLaws.{no-saved, not-in, bad-now, lends-now, lines-now}
 use borrow.Author.Needs.{needs}
 use Rattle.tuples.proofs.entering.put_entered.Statement.{statement}
 use Rattle.tuples.proofs.entering.put_entered.Tie as tie

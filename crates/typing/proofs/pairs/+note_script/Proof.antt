@@ -13,8 +13,8 @@ use borrow.Fn.PlainCycle.{Measures, is, falls, and}
 use Rattle.typing.proofs.pairs.note_script.Reads as note-script
 use Rattle.typing.proofs.pairs.note_script.Kinds as note-script-kinds
 use Rattle.typing.proofs.pairs.+note_script.Lts-note_script as lts
-use Rattle.scope.proofs.after.after_name.Reads as after-name
-use Rattle.scope.proofs.after.after_query.Reads as after-query
+use Rattle.walks.proofs.after_name.Reads as after-name
+use Rattle.walks.proofs.after_query.Reads as after-query
 use Rattle.typing.proofs.pairs.note_pairs.Reads as note-pairs
 use Rattle.typing.proofs.pairs.+note_script.{statement}
 use Rattle.typing.proofs.pairs.+note_script.Tie.{close}

@@ -1,5 +1,5 @@
 -- `typing::pairs::written_types` meets its contract: the walk from the root, with no pair noted. Assumes nothing.
-use Rattle.scope.proofs.RootLaws.{whole-loads}
+use Rattle.walks.proofs.RootLaws.{whole-loads}
 use Rattle.typing.proofs.PairLaws.{types-written}
 use Rattle.typing.proofs.pairs.written_types.Statement.{statement}
 use Rattle.typing.proofs.pairs.written_types.Tie as tie

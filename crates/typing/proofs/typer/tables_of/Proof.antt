@@ -1,5 +1,5 @@
 -- `typing::typer::tables_of` meets its contract: what the walk noted. Assumes nothing.
-use Rattle.scope.proofs.RootLaws.{whole-loads}
+use Rattle.walks.proofs.RootLaws.{whole-loads}
 use Rattle.typing.proofs.TyperLaws.{fresh-joined, tables-noted}
 use borrow.Author.Needs.{needs}
 use Rattle.typing.proofs.typer.tables_of.Statement.{statement}

@@ -1,0 +1,1 @@
+// The demands and requests, held together with the contracts that the code meets. No code.

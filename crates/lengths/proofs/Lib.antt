@@ -1,0 +1,3 @@
+-- TableLaws first: BufferLaws rest on them.
+pub mod TableLaws
+pub mod BufferLaws

@@ -1,0 +1,3 @@
+pub mod GraphLaws
+pub mod PageLaws
+pub mod TakeLaws

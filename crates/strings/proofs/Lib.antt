@@ -1,0 +1,5 @@
+-- Read LineLaws and TextLaws before TextOfLaws.
+mod TestLaws
+mod LineLaws
+pub mod TextLaws
+mod TextOfLaws

@@ -1,2 +1,0 @@
-pub mod WithType
-pub mod Does

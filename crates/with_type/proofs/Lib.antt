@@ -1,0 +1,3 @@
+pub mod TypeNoted
+pub mod TypeWritten
+pub mod WithTypeLaws
