@@ -16,6 +16,7 @@ use crate::draw::is_block;
 use second::calls::FAULT;
 use second::script::{Kind, Script};
 use std::collections::BTreeMap;
+use std::panic::{catch_unwind, AssertUnwindSafe};
 use willetcoffer::{RunReport, SavedRun, State};
 
 /// What was broken.
@@ -94,6 +95,16 @@ impl Difference {
     }
 }
 
+fn differs<T>(breach: Breach, what: String) -> Result<T, Difference> {
+    Err(Difference::new(breach, what))
+}
+
+/// An engine that panics is a difference too.
+pub(crate) fn unless_panicked<T>(work: impl FnOnce() -> Result<T, Difference>) -> Result<T, Difference> {
+    let panicked = || differs(Breach::Panic, "an engine panicked".to_string());
+    catch_unwind(AssertUnwindSafe(work)).unwrap_or_else(|_| panicked())
+}
+
 /// What counts of the calls so far.
 #[derive(Clone, Debug, Default)]
 pub struct History {
@@ -153,7 +164,6 @@ pub fn judge(made: &Made, tampered: bool, history: &mut History) -> Result<(), D
     let [answer, other] = &made.answers;
     let [station, second] = &made.after;
     let tampered = tampered || history.tampered;
-    let differs = |breach, what| Err(Difference::new(breach, what));
     if let Some(what) = answer.first_difference(other) {
         return differs(Breach::Answers, what);
     }
@@ -199,12 +209,12 @@ pub fn judge(made: &Made, tampered: bool, history: &mut History) -> Result<(), D
 /// The promises of a run that was not refused.
 fn ran(report: Option<RunReport>, budget: u64, history: &mut History) -> Result<(), Difference> {
     let Some(RunReport { steps, state }) = report else {
-        return Err(Difference::new(Breach::Steps, "a report that no run writes".to_string()));
+        return differs(Breach::Steps, "a report that no run writes".to_string());
     };
     let steps = u64::from(steps);
     history.steps += steps;
     if steps > budget || (state == State::Spent && steps != budget) {
-        return Err(Difference::new(Breach::Steps, format!("{steps} steps of {budget}, {state}")));
+        return differs(Breach::Steps, format!("{steps} steps of {budget}, {state}"));
     }
     Ok(())
 }

@@ -15,8 +15,9 @@
 //! | [`judge`] | what two engines owe each other on one call, text or page, and what either owes by itself, also over the calls of a case |
 //! | [`count`] | what was met, and whether it was met often enough |
 //! | [`case`] | one case, from drawing to judging |
+//! | [`input`] | one text or page, from drawing to judging: what a call without a station is lent |
 //! | [`replay`], [`shrink`] | a case as a list of moves without chance, and made smaller while it still shows its difference |
-//! | [`run`] | case after case, text after text, page after page |
+//! | [`run`] | case after case, input after input |
 #![forbid(unsafe_code)]
 #![warn(missing_docs)]
 
@@ -25,6 +26,7 @@ pub mod call;
 pub mod case;
 pub mod count;
 pub mod draw;
+pub mod input;
 pub mod judge;
 pub mod records;
 pub mod replay;

@@ -4,7 +4,9 @@
 use compare::call::archive::Archive;
 use compare::call::engine::{fast, plain};
 use compare::call::evaluator::Evaluator;
+use compare::call::number::Text;
 use compare::call::printer::Printer;
+use compare::call::schema::SchemaPage;
 use compare::call::Engine;
 use compare::count::Coverage;
 use compare::run::{Compare, Outcome, Plan};
@@ -54,8 +56,7 @@ fn again(plan: &mut Plan, option: &str, text: &str) -> Result<(), String> {
 }
 
 fn options() -> Result<Options, String> {
-    let [cases, numbers, schemas] = [50_000, LONG, LONG];
-    let mut plan = Plan { seed: 1, from: 0, cases, numbers, schemas, printed: false, differences: 1, trace: false };
+    let mut plan = Plan { cases: 50_000, numbers: LONG, schemas: LONG, ..Plan::NONE };
     let mut engines = ["second", "archive"].map(String::from);
     let (mut printer, mut evaluator) = ((None, EVERY), (None, EVERY));
     let mut arguments = std::env::args().skip(1);
@@ -131,8 +132,8 @@ fn compare() -> Result<bool, String> {
     let (a, b) = (engine(&a)?, engine(&b)?);
     let mut compare = Compare { engines: [&*a, &*b], printer, evaluator, coverage: Coverage::default() };
     let (start, outcome) = (Instant::now(), compare.run(&plan));
-    let (after_cases, numbers) = (Instant::now(), compare.numbers(&plan));
-    let (after_numbers, schemas) = (Instant::now(), compare.schemas(&plan));
+    let (after_cases, numbers) = (Instant::now(), compare.inputs::<Text>(&plan));
+    let (after_numbers, schemas) = (Instant::now(), compare.inputs::<SchemaPage>(&plan));
     let times = [after_cases - start, after_numbers - after_cases, after_numbers.elapsed()];
     let sums = Sums { differences: [outcome.differences, numbers, schemas], times };
     let Compare { mut coverage, printer, evaluator, engines } = compare;

@@ -7,8 +7,7 @@ pub use asked::{Asked, Numbers};
 pub use words::{describe, describe_asked};
 
 use crate::call::{Call, Engine, Made, Station};
-use crate::judge::{judge, published, ranks, suggestions, Breach, Difference, History, Once};
-use std::panic::{catch_unwind, AssertUnwindSafe};
+use crate::judge::{judge, published, ranks, suggestions, unless_panicked, Difference, History, Once};
 use willetcoffer::Card;
 
 /// A station before its load, and what is done on it.
@@ -107,10 +106,8 @@ impl Replay {
     /// suggestions are the only moves.
     pub fn play(&self, engines: [&dyn Engine; 2]) -> Option<(usize, Difference)> {
         let mut place = 0;
-        let play = AssertUnwindSafe(|| self.play_on(engines, &mut place, &mut |_, _| {}));
-        let result = catch_unwind(play);
-        let panicked = || Err(Difference::new(Breach::Panic, "an engine panicked".to_string()));
-        result.unwrap_or_else(|_| panicked()).err().map(|difference| (place, difference))
+        let result = unless_panicked(|| self.play_on(engines, &mut place, &mut |_, _| {}));
+        result.err().map(|difference| (place, difference))
     }
 
     /// The same, each call shown to `see` with its tampering's name.
@@ -176,7 +173,7 @@ impl Replay {
         let mut text = String::new();
         let mut see = |made: &Made, label: &'static str| text += &describe(made, label, engines);
         // A panic has said its own words; what came before it is told.
-        let _ = catch_unwind(AssertUnwindSafe(|| self.play_on(engines, &mut 0, &mut see)));
+        let _ = unless_panicked(|| self.play_on(engines, &mut 0, &mut see));
         let asked = self.asked_on(engines[0]);
         text + &asked.map_or(String::new(), |(asked, station)| describe_asked(asked, &station))
     }

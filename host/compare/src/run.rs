@@ -1,7 +1,6 @@
-//! Case after case, text after text and page after page: differences printed, each with a smaller one that shows it too.
+//! Case after case, and input after input: differences printed, each with a smaller one that shows it too.
 
-mod numbers;
-mod schemas;
+mod inputs;
 
 use crate::before;
 use crate::call::evaluator::Evaluator;
@@ -9,10 +8,9 @@ use crate::call::printer::Printer;
 use crate::call::Engine;
 use crate::case::Case;
 use crate::count::Coverage;
-use crate::judge::{Breach, Difference};
+use crate::judge::{unless_panicked, Breach, Difference};
 use crate::replay::Replay;
 use crate::shrink::{shrink, Patience};
-use std::panic::{catch_unwind, AssertUnwindSafe};
 use std::time::Duration;
 
 /// Which cases, texts of numbers and pages for schemas, and when to stop.
@@ -34,6 +32,12 @@ pub struct Plan {
     pub differences: usize,
     /// Whether each case's index is said before it begins.
     pub trace: bool,
+}
+
+impl Plan {
+    /// No case, text or page; a plan with some stops at the first difference.
+    pub const NONE: Plan =
+        Plan { seed: 1, from: 0, cases: 0, numbers: 0, schemas: 0, printed: false, differences: 1, trace: false };
 }
 
 /// What came of it.
@@ -69,9 +73,7 @@ impl Compare<'_> {
                 *slowest = (*slowest).max((time, index));
             }
             let Err(difference) = result else { continue };
-            println!("DIFFERENCE in case {}:{index}: {}", plan.seed, difference.what);
-            let names = self.engines.map(|engine| engine.name());
-            println!("  again: compare --engines {} --case {}:{index}", names.join(","), plan.seed);
+            self.tell("case", plan.seed, index, &difference);
             print!("{}", self.smaller(plan.seed, index, &difference));
             outcome.differences += 1;
             if outcome.differences >= plan.differences {
@@ -79,6 +81,13 @@ impl Compare<'_> {
             }
         }
         outcome
+    }
+
+    /// Says a difference, and how to make it again.
+    fn tell(&self, word: &str, seed: u64, index: u64, difference: &Difference) {
+        println!("DIFFERENCE in {word} {seed}:{index}: {}", difference.what);
+        let names = self.engines.map(|engine| engine.name());
+        println!("  again: compare --engines {} --{word} {seed}:{index}", names.join(","));
     }
 
     /// One case: the printer's output, then its calls, each with what the evaluators are asked.
@@ -122,7 +131,7 @@ impl Compare<'_> {
         let what = self.judged(&small, difference.breach).unwrap_or_default();
         let heads = format!("  smaller, {} bytes of {before}, shows: {what}\n", small.bytes());
         let moves = if small.moves.is_empty() { card_in_words(&small) } else { small.tell(self.engines) };
-        heads + &moves.lines().map(|line| format!("    {line}\n")).collect::<String>()
+        heads + &indented(&moves)
     }
 
     /// What this case shows, if it is a breach of this sort.
@@ -152,6 +161,10 @@ impl Compare<'_> {
     }
 }
 
+fn indented(words: &str) -> String {
+    words.lines().map(|line| format!("    {line}\n")).collect()
+}
+
 fn card_in_words(replay: &Replay) -> String {
     let bytes: Vec<String> = replay.station.card.joined().iter().map(|byte| format!("{byte:02x}")).collect();
     format!("card {}\n", bytes.join(" "))
@@ -160,12 +173,6 @@ fn card_in_words(replay: &Replay) -> String {
 /// Runs a case.
 fn guarded(case: &mut Case) -> Result<(), Difference> {
     unless_panicked(|| case.run())
-}
-
-/// An engine that panics is a difference too.
-fn unless_panicked<T>(work: impl FnOnce() -> Result<T, Difference>) -> Result<T, Difference> {
-    let panicked = || Difference::new(Breach::Panic, "an engine panicked".to_string());
-    catch_unwind(AssertUnwindSafe(work)).unwrap_or_else(|_| Err(panicked()))
 }
 
 /// Without a word about panics: while a case is cut down, an engine may panic over and over.

@@ -1,11 +1,9 @@
 //! Shrinking: a case that shows a difference is cut down, piece by piece, while it still shows one of the same sort.
 
-mod schema_page;
-mod text;
+mod input;
 pub mod tree;
 
-pub use schema_page::shrink_page;
-pub use text::shrink_text;
+pub use input::shrink_input;
 
 use crate::call::Call;
 use crate::records::{self, numbered};
@@ -61,6 +59,23 @@ pub fn shrink(replay: Replay, patience: Patience, fails: &mut dyn FnMut(&Replay)
     }
 }
 
+/// Leaves out pieces of a list while the rest fails: first large runs of them, then smaller ones, each from the end.
+fn leave_out<T: Clone>(mut list: Vec<T>, mut fails: impl FnMut(&[T]) -> bool) {
+    let mut size = list.len();
+    while size > 0 {
+        let mut end = list.len();
+        while end > 0 {
+            let start = end.saturating_sub(size);
+            let rest = [&list[..start], &list[end..]].concat();
+            if fails(&rest) {
+                list = rest;
+            }
+            end = start;
+        }
+        size /= 2;
+    }
+}
+
 /// The card at this place: the station's, then those that a tampering puts in.
 fn card_at(replay: &mut Replay, place: usize) -> Option<&mut Card> {
     let others = replay.moves.iter_mut().filter_map(|m| m.tampering.as_mut()?.card.as_mut());
@@ -87,22 +102,9 @@ impl Shrink<'_> {
         fails
     }
 
-    /// Leaves out pieces of a list: first large runs of them, then smaller ones, each from the end.
+    /// Leaves out pieces of a list.
     fn pieces<T: Clone>(&mut self, list: Vec<T>, put: &dyn Fn(&mut Replay, &[T])) {
-        let mut list = list;
-        let mut size = list.len();
-        while size > 0 {
-            let mut end = list.len();
-            while end > 0 {
-                let start = end.saturating_sub(size);
-                let rest = [&list[..start], &list[end..]].concat();
-                if self.attempt(|replay| put(replay, &rest)) {
-                    list = rest;
-                }
-                end = start;
-            }
-            size /= 2;
-        }
+        leave_out(list, |rest| self.attempt(|replay| put(replay, rest)));
     }
 
     /// Fewer moves after the first, which is the load.

@@ -1,10 +1,9 @@
 //! The ranks that calls are lent: engines that take them otherwise are found, and where two of them are wrong alike, by what each owes by
 //! itself, as far as that goes.
 
-use compare::call::engine::{fast, Second};
+use compare::call::engine::{fast, Second, Ways};
 use compare::call::{Call, Engine, Station};
-use compare::case::Case;
-use compare::count::{sort_of, Coverage};
+use compare::count::sort_of;
 use compare::draw::ranks::{good, spoil, spoil_in_place, turn};
 use compare::draw::rng::Rng;
 use compare::judge::ranks::{due, each_once};
@@ -18,7 +17,7 @@ use std::cell::RefCell;
 use willetcoffer::limits::{RANKS_WIDTH, RUN_REPORT_WIDTH};
 use willetcoffer::ranks::BUILT_IN;
 use willetcoffer::Card;
-use wrong::{How, Other, Turn, Wrong};
+use wrong::{differing, How, Instead, Turn, FAST};
 
 mod wrong;
 
@@ -30,13 +29,11 @@ type Stands = fn(&Ranks) -> bool;
 
 /// The first breach.
 fn breach(engines: [&dyn Engine; 2]) -> Option<Breach> {
-    let mut coverage = Coverage::default();
-    let mut run = |index| Case::new(SEED, index, engines, &mut coverage).run().err();
-    (0..CASES).find_map(|index| run(index).map(|difference| difference.breach))
+    wrong::breach(SEED, CASES, engines)
 }
 
 fn ranking(alphabet: Alphabet) -> Second<Seek> {
-    fast().ranking(alphabet)
+    fast().by(Ways { alphabet, ..Ways::FAST })
 }
 
 /// Found against the right one.
@@ -203,7 +200,7 @@ fn another_place_is_found() {
         }),
     ];
     for (name, call) in places {
-        let other = Other(call);
+        let other = Instead { call: &call, ..FAST };
         let found = breach([&fast(), &other]);
         assert_eq!((found, breach([&other, &other])), (Some(Breach::Answers), Some(Breach::Lent)), "{name}");
     }
@@ -227,7 +224,7 @@ fn calls_that_do_not_look_are_found() {
         },
     ];
     for (place, call) in careless.into_iter().enumerate() {
-        let other = Other(call);
+        let other = Instead { call: &call, ..FAST };
         let found = breach([&fast(), &other]);
         assert_eq!((found, breach([&other, &other])), (Some(Breach::Answers), Some(Breach::Lent)), "{place}");
     }
@@ -239,9 +236,9 @@ struct Remembers {
     refuses: bool,
 }
 
-impl Engine for Remembers {
-    fn name(&self) -> &'static str {
-        "remembers"
+impl Remembers {
+    fn new(refuses: bool) -> Remembers {
+        Remembers { ranks: RefCell::new(BUILT_IN.to_vec()), refuses }
     }
 
     fn call(&self, station: &mut Station, call: &Call, report: &mut [u8]) -> u32 {
@@ -259,22 +256,15 @@ impl Engine for Remembers {
         station.ranks = ranks;
         code
     }
-
-    fn number(&self, text: &[u8], record: &mut [u8]) -> u32 {
-        fast().number(text, record)
-    }
-
-    fn schema(&self, page: &[u8], schema: &mut [u8], report: &mut [u8]) -> u32 {
-        fast().schema(page, schema, report)
-    }
 }
 
 #[test]
 fn an_engine_that_remembers_is_found() {
-    let remembers = |refuses| Remembers { ranks: RefCell::new(BUILT_IN.to_vec()), refuses };
-    assert!(matches!(breach([&fast(), &remembers(false)]), Some(Breach::Answers | Breach::Tables)));
-    assert_eq!(breach([&fast(), &remembers(true)]), Some(Breach::Answers));
-    let refuses = remembers(true);
+    let [goes_by, refuses] = [false, true].map(Remembers::new);
+    let goes_by = Instead { call: &|station, call, report| goes_by.call(station, call, report), ..FAST };
+    assert!(matches!(breach([&fast(), &goes_by]), Some(Breach::Answers | Breach::Tables)));
+    let refuses = Instead { call: &|station, call, report| refuses.call(station, call, report), ..FAST };
+    assert_eq!(breach([&fast(), &refuses]), Some(Breach::Answers));
     assert_eq!(breach([&refuses, &refuses]), Some(Breach::Unsound));
 }
 
@@ -302,13 +292,14 @@ fn what_else_goes_by_ranks_is_found() {
         },
     ];
     for (place, turn) in turns.into_iter().enumerate() {
-        assert!(breach([&fast(), &Wrong(turn)]).is_some(), "{place}");
+        let turned = Instead { turn, ..FAST };
+        assert!(breach([&fast(), &turned]).is_some(), "{place}");
         // A record skipped too many is found by the law about what is taken in, too.
-        let alike = breach([&Wrong(turn), &Wrong(turn)]);
+        let alike = breach([&turned, &turned]);
         assert!(matches!(alike, Some(Breach::Turned | Breach::Whole)), "{place}: {alike:?}");
     }
     // A run that gives up where ranks are turned round, though nothing asks for an order.
-    let lazy = Other(|station, call, report| {
+    let lazy: How = |station, call, report| {
         let before = station.clone();
         let code = fast().call(station, call, report);
         if let (Call::Run { .. }, 0, true) = (call, code, station.ranks[0] < station.ranks[1]) {
@@ -316,7 +307,8 @@ fn what_else_goes_by_ranks_is_found() {
             report.copy_from_slice(&[0, 0, 0, 0, 2, 0, 0, 0]);
         }
         code
-    });
+    };
+    let lazy = Instead { call: &lazy, ..FAST };
     assert!(breach([&fast(), &lazy]).is_some());
     assert!(matches!(breach([&lazy, &lazy]), Some(Breach::Turned | Breach::Total)));
 }
@@ -329,24 +321,21 @@ fn a_table_that_21_changes_is_found() {
             station.saved.fill(0);
         }
     };
-    assert_eq!(breach([&fast(), &Wrong(clears)]), Some(Breach::Tables));
-    assert_eq!(breach([&Wrong(clears), &Wrong(clears)]), Some(Breach::Kept));
+    let clears = Instead { turn: clears, ..FAST };
+    assert_eq!(breach([&fast(), &clears]), Some(Breach::Tables));
+    assert_eq!(breach([&clears, &clears]), Some(Breach::Kept));
 }
 
 /// Of the first cases that show a difference to the right engine, cut down, the one with the fewest ranks that are not as built in.
 fn cut_down(alphabet: Alphabet) -> Replay {
     let (first, other) = (fast(), ranking(alphabet));
     let engines: [&dyn Engine; 2] = [&first, &other];
-    let differing = (0..CASES).filter_map(|index| {
-        let mut coverage = Coverage::default();
-        let mut case = Case::new(SEED, index, engines, &mut coverage).keeping();
-        case.run().err()?;
-        let kept = case.kept().expect("a case that keeps its moves");
+    let small = differing(SEED, CASES, engines).map(|(kept, _)| {
         let (_, shown) = kept.play(engines).expect("made again, it shows");
         let same = |replay: &Replay| replay.play(engines).is_some_and(|(_, d)| d.breach == shown.breach);
-        Some(shrink(kept, Patience::default(), &mut |replay| same(replay)))
+        shrink(kept, Patience::default(), &mut |replay| same(replay))
     });
-    differing.take(FIRST).min_by_key(other_places).expect("a case shows it")
+    small.take(FIRST).min_by_key(other_places).expect("a case shows it")
 }
 
 /// How many cases are cut down.

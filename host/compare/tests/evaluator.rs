@@ -1,16 +1,18 @@
 //! The evaluators of tuples: those that agree pass, and those with something wrong are found and cut down.
 
-use compare::call::engine::{fast, plain, Second};
+use compare::call::engine::{fast, plain, Second, Ways};
 use compare::call::evaluator::Evaluator;
-use compare::call::{Call, Engine, Station};
+use compare::call::Engine;
 use compare::case::Case;
 use compare::count::Coverage;
 use compare::judge::{Breach, Difference};
-use compare::run::Compare;
 use second::eval::{Bindings, Evaluate, Fault, Store};
 use second::script::{Cond, Query};
 use second::seek::Seek;
 use second::truth::Truth;
+use wrong::{compare, Instead, FAST};
+
+mod wrong;
 
 const SEED: u64 = 29;
 
@@ -104,7 +106,7 @@ impl Rule {
 }
 
 fn evaluating(evaluate: Evaluate) -> Second<Seek> {
-    fast().evaluating(evaluate)
+    fast().by(Ways { evaluate, ..Ways::FAST })
 }
 
 #[test]
@@ -129,34 +131,9 @@ fn wrong_counts_are_found() {
     }
 }
 
-/// An engine that writes other lines.
-struct Lines(fn(String) -> String);
-
-impl Engine for Lines {
-    fn name(&self) -> &'static str {
-        "wrong"
-    }
-
-    fn call(&self, station: &mut Station, call: &Call, report: &mut [u8]) -> u32 {
-        fast().call(station, call, report)
-    }
-
-    fn number(&self, text: &[u8], record: &mut [u8]) -> u32 {
-        fast().number(text, record)
-    }
-
-    fn schema(&self, page: &[u8], schema: &mut [u8], report: &mut [u8]) -> u32 {
-        fast().schema(page, schema, report)
-    }
-
-    fn evaluate(&self, input: &[u8]) -> Option<String> {
-        fast().evaluate(input).map(self.0)
-    }
-}
-
 #[test]
 fn wrong_lines_are_found() {
-    assert_eq!(breach(&Lines(|text| text)), None);
+    assert_eq!(breach(&FAST), None);
     let wrong: [fn(String) -> String; 6] = [
         |text| text.replace("cut off\n", ""),
         |text| text.replace("refused 21", "refused 10"),
@@ -166,7 +143,8 @@ fn wrong_lines_are_found() {
         |text| text.replace("true", "false"),
     ];
     for (place, lines) in wrong.into_iter().enumerate() {
-        assert_eq!(breach(&Lines(lines)), Some(Breach::Evaluator), "{place}");
+        let wrong = Instead { evaluate: &|input| fast().evaluate(input).map(lines), ..FAST };
+        assert_eq!(breach(&wrong), Some(Breach::Evaluator), "{place}");
     }
 }
 
@@ -175,9 +153,7 @@ fn wrong_lines_are_found() {
 fn a_list_of_tuples_is_cut_down() {
     let wrong = evaluating(|s, q, b| Rule { both: |first| first, ..RIGHT }.evaluate(s, q, b));
     let (index, difference) = difference(&wrong, 300).expect("some query has a both");
-    let (first, evaluator) = (fast(), Evaluator::new(None, 1));
-    let mut compare = Compare { engines: [&first, &wrong], printer: None, evaluator, coverage: Coverage::default() };
-    let text = compare.smaller(SEED, index, &difference);
+    let text = compare([&fast(), &wrong]).smaller(SEED, index, &difference);
     let lines: Vec<&str> = text.lines().map(str::trim).collect();
     let asked = lines.iter().position(|line| *line == "evaluate now 0").expect("what is asked is told");
     assert!(lines[asked + 1].starts_with("tuple [") && lines.len() == asked + 2, "{text}");

@@ -12,7 +12,7 @@ use second::lang::LangRange;
 use second::pattern::Pattern;
 use second::refusal::{refuse, Refusal};
 use second::rules::Env;
-use second::script::{Block, Cond, Expr, Kind, Query, Script};
+use second::script::{Cond, Expr, Kind, Query, Script};
 use second::search::{Search, Task, Tuple};
 use second::seek::Seek;
 use second::terms::Terms;
@@ -21,13 +21,13 @@ use second::types::{Datatype, Type};
 use willetcoffer::limits::{FETCHED_OFFSET, ITEMS_OFFSET, ITEM_WIDTH, SAVED_WIDTH};
 use willetcoffer::page::records;
 use willetcoffer::saved::{ITEM_MARK, ITEM_TUPLE};
+use wrong::{differences, first_with, Instead, FAST};
+
+mod wrong;
 
 /// The first difference in so many cases.
 fn difference(other: &dyn Engine, cases: u64) -> Option<String> {
-    let first = fast();
-    let mut coverage = Coverage::default();
-    let mut run = |index| Case::new(11, index, [&first, other], &mut coverage).run().err();
-    (0..cases).find_map(|index| run(index).map(|difference| difference.what))
+    differences(11, cases, [&fast(), other]).next().map(|difference| difference.what)
 }
 
 #[test]
@@ -158,9 +158,6 @@ struct Tables {
 const RIGHT: Tables =
     Tables { none: Truth::Unknown, not: Truth::not, and: Truth::and, or: Truth::or, holds: Truth::holds };
 
-/// Tuples that it tries; past these it goes by the right tables.
-const TRIED: usize = 2_000;
-
 impl Tables {
     fn cond(&self, store: &Store, cond: &Cond, bindings: &Bindings) -> Result<Truth, Fault> {
         let part = |cond: &Cond| self.cond(store, cond, bindings);
@@ -174,35 +171,11 @@ impl Tables {
             }),
         }
     }
-
-    fn query(&self, store: &Store, query: &Query, bindings: &Bindings) -> Result<bool, Fault> {
-        let part = |query: &Query| self.query(store, query, bindings);
-        match query {
-            Query::Both(a, b) => Ok(part(a)? & part(b)?),
-            Query::Union(a, b) => Ok(part(a)? | part(b)?),
-            Query::Filter(cond, _) => self.cond(store, cond, bindings).map(self.holds),
-            Query::Pattern(_) | Query::Empty => store.query(query, bindings),
-        }
-    }
 }
 
 impl Search for Tables {
     fn first(&self, task: &Task) -> Result<Option<Tuple>, Fault> {
-        let any = Block { query: Query::Empty, ..task.block.clone() };
-        let mut last = task.last.map(<[u16]>::to_vec);
-        for _ in 0..TRIED {
-            let next = Seek.first(&Task { block: &any, last: last.as_deref(), ..*task })?;
-            let Some(tuple) = next else { return Ok(None) };
-            let mut bindings = *task.bindings;
-            for ((variable, _), number) in any.pairs.iter().zip(&tuple) {
-                bindings[usize::from(*variable)] = Some(*number);
-            }
-            if self.query(&task.store, &task.block.query, &bindings)? {
-                return Ok(Some(tuple));
-            }
-            last = Some(tuple);
-        }
-        Seek.first(task)
+        first_with(task, &|cond, bindings| self.cond(&task.store, cond, bindings).map(self.holds))
     }
 }
 
@@ -257,20 +230,14 @@ enum Fraud {
     RootAlone,
 }
 
-struct Wrong(Fraud);
-
-impl Engine for Wrong {
-    fn name(&self) -> &'static str {
-        "wrong"
-    }
-
-    fn call(&self, station: &mut Station, call: &Call, report: &mut [u8]) -> u32 {
+impl Fraud {
+    fn call(self, station: &mut Station, call: &Call, report: &mut [u8]) -> u32 {
         match call {
             Call::Load => self.load(station),
             Call::Run { .. } => self.run(station, call, report),
             Call::Page { graph, page, report: length } => {
                 let page = match records(page).next() {
-                    Some(first) if self.0 == Fraud::FirstOnly => first.to_vec(),
+                    Some(first) if self == Fraud::FirstOnly => first.to_vec(),
                     _ => page.clone(),
                 };
                 self.page(station, &Call::Page { graph: *graph, page, report: *length }, report)
@@ -281,27 +248,17 @@ impl Engine for Wrong {
         }
     }
 
-    fn number(&self, text: &[u8], record: &mut [u8]) -> u32 {
-        fast().number(text, record)
-    }
-
-    fn schema(&self, page: &[u8], schema: &mut [u8], report: &mut [u8]) -> u32 {
-        fast().schema(page, schema, report)
-    }
-}
-
-impl Wrong {
-    fn load(&self, station: &mut Station) -> u32 {
+    fn load(self, station: &mut Station) -> u32 {
         let code = fast().call(station, &Call::Load, &mut []);
-        if code != 0 && self.0 == Fraud::Clears {
+        if code != 0 && self == Fraud::Clears {
             station.quad_table.fill(0);
         }
         code
     }
 
-    fn run(&self, station: &mut Station, call: &Call, report: &mut [u8]) -> u32 {
+    fn run(self, station: &mut Station, call: &Call, report: &mut [u8]) -> u32 {
         let before = station.saved.clone();
-        if self.0 == Fraud::Trusts && station.saved.len() == SAVED_WIDTH {
+        if self == Fraud::Trusts && station.saved.len() == SAVED_WIDTH {
             // Last tuples past the table are made good before anybody looks.
             let used = station.used();
             let items = station.saved[ITEMS_OFFSET..].chunks_mut(ITEM_WIDTH);
@@ -316,7 +273,7 @@ impl Wrong {
         let code = fast().call(station, call, report);
         let saved = &mut station.saved;
         let fetched = FETCHED_OFFSET..ITEMS_OFFSET;
-        match (self.0, code) {
+        match (self, code) {
             (Fraud::Spends, 0) => report[..5].copy_from_slice(&[0, 0, 0, 0, 3]),
             (Fraud::Rests, 0) => saved.copy_from_slice(&before),
             (Fraud::Invents, 0) => report[0] = report[0].wrapping_add(1),
@@ -327,13 +284,13 @@ impl Wrong {
         code
     }
 
-    fn total(&self, station: &mut Station, call: &Call, report: &mut [u8]) -> u32 {
+    fn total(self, station: &mut Station, call: &Call, report: &mut [u8]) -> u32 {
         let code = fast().call(station, call, report);
         let Station { card, .. } = station;
         let Ok((_, _, Script { nodes })) = read(&card.terms, &card.schema, &card.script) else { return code };
         let named = nodes.iter().filter(|node| matches!(node.kind, Kind::FromNamed(..))).count();
         let once_at_the_root = !is_block(&nodes[0], true);
-        match (self.0, code) {
+        match (self, code) {
             (Fraud::LeavesOut, 0) if report[..] != [0; 4] => report[0] = report[0].wrapping_sub(named as u8),
             (Fraud::RootAlone, 0) if once_at_the_root => report.copy_from_slice(&(nodes.len() as u32).to_le_bytes()),
             _ => {}
@@ -341,10 +298,10 @@ impl Wrong {
         code
     }
 
-    fn page(&self, station: &mut Station, call: &Call, report: &mut [u8]) -> u32 {
+    fn page(self, station: &mut Station, call: &Call, report: &mut [u8]) -> u32 {
         let before = station.quad_table.clone();
         let code = fast().call(station, call, report);
-        match (self.0, code) {
+        match (self, code) {
             (Fraud::Keeps, 0) => station.quad_table.copy_from_slice(&before),
             (Fraud::Reports, 12..) => report.fill(0),
             _ => {}
@@ -357,6 +314,7 @@ impl Wrong {
 fn wrong_calls_are_found() {
     use Fraud::*;
     for fraud in [Clears, Spends, Rests, Invents, FirstOnly, Keeps, Reports, HandsOn, Trusts, LeavesOut, RootAlone] {
-        assert!(difference(&Wrong(fraud), 4000).is_some(), "{fraud:?}");
+        let wrong = Instead { call: &|station, call, report| fraud.call(station, call, report), ..FAST };
+        assert!(difference(&wrong, 4000).is_some(), "{fraud:?}");
     }
 }

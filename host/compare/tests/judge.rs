@@ -1,19 +1,15 @@
 //! The judge: promises that two engines may break alike, so that comparing them would not show it.
 
 use compare::call::Call;
-use compare::case::Case;
-use compare::count::Coverage;
 use compare::judge::Breach;
-use wrong::{Turn, Wrong};
+use wrong::{Instead, Turn, FAST};
 
 mod wrong;
 
 /// The first breach of two engines that are wrong in the same way.
 fn breach(turn: Turn) -> Option<Breach> {
-    let engine = Wrong(turn);
-    let mut coverage = Coverage::default();
-    let mut run = |index| Case::new(17, index, [&engine, &engine], &mut coverage).run().err();
-    (0..2000).find_map(|index| run(index).map(|difference| difference.breach))
+    let engine = Instead { turn, ..FAST };
+    wrong::breach(17, 2000, [&engine, &engine])
 }
 
 #[test]

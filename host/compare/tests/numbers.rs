@@ -1,19 +1,20 @@
 //! The texts of numbers: engines that read them otherwise are found, also where two of them are wrong alike, by what each owes by itself.
 
-use compare::call::engine::{fast, plain, Second};
-use compare::call::evaluator::Evaluator;
+use compare::call::engine::{fast, plain, Second, Ways};
 use compare::call::number::{Read, Text};
-use compare::call::{Call, Engine, Station};
-use compare::count::Coverage;
+use compare::call::Engine;
 use compare::draw::numbers::text;
 use compare::judge::numbers::{judge, str_text};
 use compare::judge::Breach;
-use compare::run::{Compare, Plan};
+use compare::run::Plan;
 use second::number::{self, parts, Parts, Reading};
 use second::refusal::{refuse, Refusal};
 use second::seek::Seek;
 use second::term::Term;
 use willetcoffer::limits::{DECIMAL_LIMIT, INTEGER_LIMIT, NUMBER_RECORD_WIDTH, NUMBER_TEXT_LIMIT};
+use wrong::{breach_of, compare, each_found, Instead, Reads, FAST};
+
+mod wrong;
 
 const SEED: u64 = 16;
 /// Enough for each wrong engine; the gate has as many.
@@ -21,21 +22,18 @@ const TEXTS: u64 = 20_000;
 
 /// The first breach.
 fn breach(engines: [&dyn Engine; 2]) -> Option<Breach> {
-    (0..TEXTS).find_map(|index| judge(&text(SEED, index), engines).err()).map(|difference| difference.breach)
+    breach_of::<Text>(SEED, TEXTS, engines)
 }
 
 type Outcome = Result<Term, Refusal>;
 
 fn reading(reading: Reading) -> Second<Seek> {
-    fast().reading(reading)
+    fast().by(Ways { reading, ..Ways::FAST })
 }
 
 /// Each is found against the right one, and by this breach where both read so.
 fn found(alike: Breach, wrong: &[(&str, Reading)]) {
-    for (name, wrong) in wrong {
-        assert_eq!(breach([&fast(), &reading(*wrong)]), Some(Breach::Answers), "{name}");
-        assert_eq!(breach([&reading(*wrong), &reading(*wrong)]), Some(alike), "{name}, both");
-    }
+    each_found(breach, wrong.iter().map(|(name, wrong)| (*name, reading(*wrong), alike)));
 }
 
 #[test]
@@ -300,34 +298,10 @@ fn what_str_gives_is_read_otherwise() {
     }
 }
 
-/// An engine that does something else with the record.
-struct Other(Made);
-
-impl Engine for Other {
-    fn name(&self) -> &'static str {
-        "wrong"
-    }
-
-    fn call(&self, station: &mut Station, call: &Call, report: &mut [u8]) -> u32 {
-        fast().call(station, call, report)
-    }
-
-    fn number(&self, text: &[u8], record: &mut [u8]) -> u32 {
-        (self.0)(text, record)
-    }
-
-    fn schema(&self, page: &[u8], schema: &mut [u8], report: &mut [u8]) -> u32 {
-        fast().schema(page, schema, report)
-    }
-}
-
 /// What the right call gives with a record of the right length.
 fn called(text: &[u8]) -> u32 {
     fast().number(text, &mut [0; NUMBER_RECORD_WIDTH])
 }
-
-/// How a call is made.
-type Made = fn(&[u8], &mut [u8]) -> u32;
 
 /// The right call; where it gives this number, the record is altered.
 fn altered(text: &[u8], record: &mut [u8], number: u32, alter: fn(&mut [u8])) -> u32 {
@@ -340,7 +314,7 @@ fn altered(text: &[u8], record: &mut [u8], number: u32, alter: fn(&mut [u8])) ->
 
 #[test]
 fn wrong_records_are_found() {
-    let wrong: [(&str, Made, Breach); 10] = [
+    let wrong: [(&str, Reads, Breach); 10] = [
         ("touched on 17", |text, record| altered(text, record, 17, |record| record[0] = 0x14), Breach::Kept),
         ("touched on 16", |text, record| altered(text, record, 16, |record| record[8] = 0), Breach::Kept),
         ("cleared on 1", |text, record| altered(text, record, 1, |record| record.fill(0)), Breach::Kept),
@@ -373,18 +347,10 @@ fn wrong_records_are_found() {
             Breach::Lent,
         ),
     ];
-    for (name, wrong, alike) in wrong {
-        assert_eq!(breach([&fast(), &Other(wrong)]), Some(Breach::Answers), "{name}");
-        assert_eq!(breach([&Other(wrong), &Other(wrong)]), Some(alike), "{name}, both");
-    }
+    each_found(breach, wrong.into_iter().map(|(name, number, alike)| (name, Instead { number, ..FAST }, alike)));
 }
 
-fn compare<'a>(engines: [&'a dyn Engine; 2]) -> Compare<'a> {
-    Compare { engines, printer: None, evaluator: Evaluator::new(None, 1), coverage: Coverage::default() }
-}
-
-const PLAN: Plan =
-    Plan { seed: SEED, from: 0, cases: 0, numbers: TEXTS, schemas: 0, printed: false, differences: 1, trace: false };
+const PLAN: Plan = Plan { seed: SEED, numbers: TEXTS, ..Plan::NONE };
 
 /// As many texts as the gate reads meet everything that is required, and without texts all of it is missing.
 #[test]
@@ -393,7 +359,7 @@ fn all_that_is_required_is_met() {
     let mut compare = compare([&engine, &engine]);
     let required = compare.coverage.missing_of_numbers();
     assert!(required.len() > 50 && required.iter().all(|missing| missing.ends_with(": 0 of 100")), "{required:?}");
-    assert_eq!((compare.numbers(&PLAN), compare.coverage.missing_of_numbers()), (0, Vec::new()));
+    assert_eq!((compare.inputs::<Text>(&PLAN), compare.coverage.missing_of_numbers()), (0, Vec::new()));
 }
 
 /// A text is what its seed and index make it, and what it was written for is what it says: a third way to know what is right.
@@ -424,10 +390,10 @@ fn texts_are_written_for_what_they_are() {
 fn a_text_is_cut_down() {
     let (first, wrong) = (fast(), reading(|text| if text.contains(&b'E') { refuse(16, "") } else { read(text) }));
     let mut compare = compare([&first, &wrong]);
-    assert_eq!(compare.numbers(&PLAN), 1);
+    assert_eq!(compare.inputs::<Text>(&PLAN), 1);
     let long = Text { bytes: b"-0012.500E+03".to_vec(), record: NUMBER_RECORD_WIDTH, due: None };
-    let difference = compare.number(&long).expect_err("an E is refused");
-    let told = compare.smaller_text(&long, &difference);
+    let difference = compare.input(&long).expect_err("an E is refused");
+    let told = compare.smaller_input(&long, &difference);
     let lines: Vec<&str> = told.lines().map(str::trim).collect();
     assert_eq!(lines[..3], ["smaller, 3 bytes of 13:", "number \"0E0\", 3 bytes", "a record of 9 bytes"], "{told}");
     assert!(
@@ -440,15 +406,16 @@ fn a_text_is_cut_down() {
 #[test]
 fn a_panic_is_cut_down() {
     let first = fast();
-    let wrong = Other(|text, record| {
+    let number: Reads = |text, record| {
         assert!(!text.contains(&b'.'), "a point");
         fast().number(text, record)
-    });
+    };
+    let wrong = Instead { number, ..FAST };
     let compare = compare([&first, &wrong]);
     let long = Text { bytes: b"12.5".to_vec(), record: 8, due: None };
-    let difference = compare.number(&long).expect_err("a panic");
+    let difference = compare.input(&long).expect_err("a panic");
     assert_eq!(difference.breach, Breach::Panic);
-    let told = compare.smaller_text(&long, &difference);
+    let told = compare.smaller_input(&long, &difference);
     assert!(told.contains("number \".\", 1 bytes") && told.contains("wrong: a panic"), "{told}");
 }
 

@@ -1,10 +1,8 @@
 //! One order for quads: engines that keep another are found, and where two of them are wrong alike, by the law about stations that
 //! are filled alike, as far as it goes.
 
-use compare::call::engine::{fast, Second};
+use compare::call::engine::{fast, Second, Ways};
 use compare::call::{Call, Engine, Station};
-use compare::case::Case;
-use compare::count::Coverage;
 use compare::judge::{Breach, Stores};
 use compare::replay::Replay;
 use compare::shrink::{shrink, Patience};
@@ -14,18 +12,19 @@ use second::seek::Seek;
 use second::write::{success, uri};
 use willetcoffer::page::records;
 use willetcoffer::Card;
+use wrong::differing;
+
+mod wrong;
 
 const SEED: u64 = 10;
 
 /// The first breach in so many cases.
 fn breach(engines: [&dyn Engine; 2], cases: u64) -> Option<Breach> {
-    let mut coverage = Coverage::default();
-    let mut run = |index| Case::new(SEED, index, engines, &mut coverage).run().err();
-    (0..cases).find_map(|index| run(index).map(|difference| difference.breach))
+    wrong::breach(SEED, cases, engines)
 }
 
 fn ordering(order: Order) -> Second<Seek> {
-    fast().ordering(order)
+    fast().by(Ways { order, ..Ways::FAST })
 }
 
 /// Found against the right one.
@@ -139,12 +138,8 @@ fn made_again(order: Order) -> Vec<Replay> {
     let wrong = ordering(order);
     let engines: [&dyn Engine; 2] = [&wrong, &wrong];
     let mut broken = Vec::new();
-    for index in 0..1000 {
-        let mut coverage = Coverage::default();
-        let mut case = Case::new(SEED, index, engines, &mut coverage).keeping();
-        let Err(difference) = case.run() else { continue };
-        let kept = case.kept().expect("a case that keeps its moves");
-        assert_eq!(kept.play(engines).map(|(_, shown)| shown.breach), Some(difference.breach), "{index}");
+    for (kept, difference) in differing(SEED, 1000, engines) {
+        assert_eq!(kept.play(engines).map(|(_, shown)| shown.breach), Some(difference.breach), "{}", difference.what);
         broken.push(kept);
     }
     broken

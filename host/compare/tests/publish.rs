@@ -1,9 +1,7 @@
 //! Engines that publish something else, or refuse otherwise: each is found, also where both engines are wrong alike.
 
-use compare::call::engine::{fast, with, Second};
+use compare::call::engine::{fast, with, Second, Ways};
 use compare::call::{Call, Engine, Made, Station, UNWRITTEN};
-use compare::case::Case;
-use compare::count::Coverage;
 use compare::judge::published::{self, page_of};
 use compare::judge::ranks::each_once;
 use compare::judge::{Breach, History};
@@ -21,7 +19,7 @@ use willetcoffer::limits::{
 };
 use willetcoffer::page::records;
 use willetcoffer::Card;
-use wrong::{How, Other, Turn, Wrong};
+use wrong::{differences, differing, How, Instead, Turn, FAST};
 
 mod wrong;
 
@@ -30,16 +28,12 @@ const CASES: u64 = 1500;
 
 /// The first breach of two engines.
 fn breach(engines: [&dyn Engine; 2]) -> Option<Breach> {
-    let mut coverage = Coverage::default();
-    let mut run = |index| Case::new(SEED, index, engines, &mut coverage).run().err();
-    (0..CASES).find_map(|index| run(index).map(|difference| difference.breach))
+    wrong::breach(SEED, CASES, engines)
 }
 
 /// Whether a case shows one of these breaches; another case may show another, as an engine is held to more than one law.
 fn shows(engines: [&dyn Engine; 2], breaches: &[Breach]) -> bool {
-    let mut coverage = Coverage::default();
-    let mut run = |index| Case::new(SEED, index, engines, &mut coverage).run().err();
-    (0..CASES).any(|index| run(index).is_some_and(|difference| breaches.contains(&difference.breach)))
+    differences(SEED, CASES, engines).any(|difference| breaches.contains(&difference.breach))
 }
 
 /// Whether it is found beside an engine that is right, as other answers, and beside itself, as this breach.
@@ -53,7 +47,7 @@ fn found(engine: &dyn Engine, alone: Breach) -> bool {
 }
 
 fn publishing(publishing: Publishing) -> Second<Seek> {
-    with("wrong", [arcs::solve; 2], Seek).publishing(publishing)
+    with("wrong", [arcs::solve; 2], Seek).by(Ways { publishing, ..Ways::FAST })
 }
 
 /// The page's records, each made into something else, or left out.
@@ -326,7 +320,7 @@ fn other_refusals() {
     for (place, how) in wrong.into_iter().enumerate() {
         // 1 where it is not due has a breach of its own.
         let alone = if place == 9 { Breach::Lent } else { Breach::Published };
-        assert!(found(&Other(how), alone), "{place}");
+        assert!(found(&Instead { call: &how, ..FAST }, alone), "{place}");
     }
 }
 
@@ -347,8 +341,9 @@ fn short_buffers() {
             (code, _) => code,
         }
     }
-    assert!(found(&Other(|s, c, r| as_much_as_fits(s, c, r, 0)), Breach::Published));
-    assert!(found(&Other(|s, c, r| as_much_as_fits(s, c, r, 23)), Breach::Kept));
+    for (told, alone) in [(0, Breach::Published), (23, Breach::Kept)] {
+        assert!(found(&Instead { call: &|s, c, r| as_much_as_fits(s, c, r, told), ..FAST }, alone), "{told}");
+    }
 }
 
 /// Unsound stores are taken, or are looked at after the graph and the buffer.
@@ -360,12 +355,12 @@ fn soundness() {
         (code, _) => code,
     };
     // What is unsound is not promised anything, so that alone it is not found.
-    assert_eq!(breach([&fast(), &Other(after)]), Some(Breach::Answers));
+    assert_eq!(breach([&fast(), &Instead { call: &after, ..FAST }]), Some(Breach::Answers));
     let never: How = |station, call, report| match (fast().call(station, call, report), call) {
         (10, Call::Publish { .. }) => 22,
         (code, _) => code,
     };
-    assert_eq!(breach([&fast(), &Other(never)]), Some(Breach::Answers));
+    assert_eq!(breach([&fast(), &Instead { call: &never, ..FAST }]), Some(Breach::Answers));
 }
 
 /// Another report, a rest that is touched, a refusal that writes, a station that is changed.
@@ -469,7 +464,7 @@ fn what_is_written() {
         ),
     ];
     for (place, (turn, alone)) in wrong.into_iter().enumerate() {
-        assert!(found(&Wrong(turn), alone), "{place}");
+        assert!(found(&Instead { turn, ..FAST }, alone), "{place}");
     }
 }
 
@@ -487,20 +482,22 @@ fn other_lengths() {
             _ => fast().call(station, call, report),
         }
     }
-    assert!(found(&Other(|station, call, report| taken(station, call, report, 4)), Breach::Lent));
-    assert!(found(&Other(|station, call, report| taken(station, call, report, 0)), Breach::Lent));
+    for least in [4, 0] {
+        let taken = Instead { call: &|station, call, report| taken(station, call, report, least), ..FAST };
+        assert!(found(&taken, Breach::Lent), "{least}");
+    }
     let late: How = |station, call, report| match (fast().call(station, call, report), call) {
         (1, Call::Publish { graph, .. }) if !station.has_fetched(*graph) => 22,
         (code, _) => code,
     };
-    assert!(found(&Other(late), Breach::Lent));
+    assert!(found(&Instead { call: &late, ..FAST }, Breach::Lent));
     let ranked: Turn = |station, call, code, report| {
         if matches!(call, Call::Publish { .. }) && !each_once(&station.ranks) {
             (*code, station.page) = (21, vec![UNWRITTEN; station.page.len()]);
             report.fill(UNWRITTEN);
         }
     };
-    assert!(found(&Wrong(ranked), Breach::Lent));
+    assert!(found(&Instead { turn: ranked, ..FAST }, Breach::Lent));
 }
 
 /// What the page was published from is right, and the laws are not kept.
@@ -515,7 +512,7 @@ fn laws() {
             list.into_iter().enumerate().for_each(|(place, graph)| station.set(FETCHED_OFFSET + 2 * place, graph));
         }
     };
-    assert!(found(&Wrong(moved), Breach::TakenIn));
+    assert!(found(&Instead { turn: moved, ..FAST }, Breach::TakenIn));
     // Under the script of the other station, success alone, a graph is published by the numbers of its terms.
     let by_numbers: How = |station, call, report| {
         let code = fast().call(station, call, report);
@@ -525,7 +522,8 @@ fn laws() {
         }
         code
     };
-    let alike = breach([&Other(by_numbers), &Other(by_numbers)]);
+    let by_numbers = Instead { call: &by_numbers, ..FAST };
+    let alike = breach([&by_numbers, &by_numbers]);
     assert!(matches!(alike, Some(Breach::Alike | Breach::Published)), "{alike:?}");
 }
 
@@ -560,13 +558,7 @@ fn the_law_of_room() {
 fn cut_down() {
     let (first, other) = (fast(), publishing(in_the_order_of_quads));
     let engines: [&dyn Engine; 2] = [&first, &other];
-    let kept = (0..CASES).find_map(|index| {
-        let mut coverage = Coverage::default();
-        let mut case = Case::new(SEED, index, engines, &mut coverage).keeping();
-        case.run().err()?;
-        case.kept()
-    });
-    let kept = kept.expect("a case shows it");
+    let (kept, _) = differing(SEED, CASES, engines).next().expect("a case shows it");
     let shows = |replay: &Replay| replay.play(engines).is_some_and(|(_, shown)| shown.breach == Breach::Answers);
     assert!(shows(&kept));
     let small = shrink(kept, Patience::default(), &mut |replay| shows(replay));

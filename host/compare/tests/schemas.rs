@@ -1,14 +1,11 @@
 //! Pages that a schema is gathered from: engines that gather otherwise are found, also where two of them are wrong alike, by what each owes by itself.
 
-use compare::call::engine::{fast, plain, Second};
-use compare::call::evaluator::Evaluator;
+use compare::call::engine::{fast, plain, Second, Ways};
 use compare::call::schema::{Entries, Gathered as Given, SchemaPage};
-use compare::call::{Call, Engine, Station};
-use compare::count::Coverage;
+use compare::call::Engine;
 use compare::draw::schemas::page;
-use compare::judge::schemas::judge;
 use compare::judge::Breach;
-use compare::run::{Compare, Plan};
+use compare::run::Plan;
 use second::gather::{self, asked, Gathered, Gathering};
 use second::page::{read, Triple};
 use second::seek::Seek;
@@ -16,6 +13,9 @@ use second::term::{fill, trim, Term, Uri};
 use second::types::Datatype::{self, AnyUri, Decimal, Integer};
 use second::write::{entry, string, triple, uri};
 use willetcoffer::limits::{ENTRY_LIMIT, ENTRY_WIDTH, PAGE_LIMIT, SCHEMA_REPORT_WIDTH, SCHEMA_WIDTH};
+use wrong::{breach_of, compare, each_found, Gathers, How, Instead, FAST};
+
+mod wrong;
 
 const SEED: u64 = 19;
 /// Enough for each wrong engine; the gate has ten times as many.
@@ -23,19 +23,16 @@ const PAGES: u64 = 2_000;
 
 /// The first breach.
 fn breach(engines: [&dyn Engine; 2]) -> Option<Breach> {
-    (0..PAGES).find_map(|index| judge(&page(SEED, index), engines).err()).map(|difference| difference.breach)
+    breach_of::<SchemaPage>(SEED, PAGES, engines)
 }
 
 fn gathering(gathering: Gathering) -> Second<Seek> {
-    fast().gathering(gathering)
+    fast().by(Ways { gathering, ..Ways::FAST })
 }
 
 /// Each is found against the right one, and by this breach where both gather so.
 fn found(alike: Breach, wrong: &[(&str, Gathering)]) {
-    for (name, wrong) in wrong {
-        assert_eq!(breach([&fast(), &gathering(*wrong)]), Some(Breach::Answers), "{name}");
-        assert_eq!(breach([&gathering(*wrong), &gathering(*wrong)]), Some(alike), "{name}, both");
-    }
+    each_found(breach, wrong.iter().map(|(name, wrong)| (*name, gathering(*wrong), alike)));
 }
 
 #[test]
@@ -302,36 +299,9 @@ fn other_subjects_are_the_same() {
     found(Breach::Written, &wrong);
 }
 
-/// How a call is made.
-type Made = fn(&[u8], &mut [u8], &mut [u8]) -> u32;
-
-/// An engine that does something else with a page.
-struct Other(Made);
-
-impl Engine for Other {
-    fn name(&self) -> &'static str {
-        "wrong"
-    }
-
-    fn call(&self, station: &mut Station, call: &Call, report: &mut [u8]) -> u32 {
-        fast().call(station, call, report)
-    }
-
-    fn number(&self, text: &[u8], record: &mut [u8]) -> u32 {
-        fast().number(text, record)
-    }
-
-    fn schema(&self, page: &[u8], schema: &mut [u8], report: &mut [u8]) -> u32 {
-        (self.0)(page, schema, report)
-    }
-}
-
 /// Each is found against the right one, and by this breach where both are so.
-fn found_other(wrong: &[(&str, Made, Breach)]) {
-    for (name, wrong, alike) in wrong {
-        assert_eq!(breach([&fast(), &Other(*wrong)]), Some(Breach::Answers), "{name}");
-        assert_eq!(breach([&Other(*wrong), &Other(*wrong)]), Some(*alike), "{name}, both");
-    }
+fn found_other(wrong: &[(&str, Gathers, Breach)]) {
+    each_found(breach, wrong.iter().map(|(name, schema, alike)| (*name, Instead { schema: *schema, ..FAST }, *alike)));
 }
 
 /// The right call; where it gives this number, schema and report are altered.
@@ -545,38 +515,18 @@ fn other_refusals_are_found() {
 /// The law: a load refuses what was gathered.
 #[test]
 fn a_schema_that_a_load_refuses() {
-    struct Loads;
-    impl Engine for Loads {
-        fn name(&self) -> &'static str {
-            "wrong"
+    let full: How = |station, call, report| {
+        if station.card.schema.len() == ENTRY_LIMIT * ENTRY_WIDTH {
+            5
+        } else {
+            fast().call(station, call, report)
         }
-
-        fn call(&self, station: &mut Station, call: &Call, report: &mut [u8]) -> u32 {
-            if station.card.schema.len() == ENTRY_LIMIT * ENTRY_WIDTH {
-                5
-            } else {
-                fast().call(station, call, report)
-            }
-        }
-
-        fn number(&self, text: &[u8], record: &mut [u8]) -> u32 {
-            fast().number(text, record)
-        }
-
-        fn schema(&self, page: &[u8], schema: &mut [u8], report: &mut [u8]) -> u32 {
-            fast().schema(page, schema, report)
-        }
-    }
-    assert_eq!(breach([&fast(), &Loads]), Some(Breach::Loads));
-}
-
-fn compare<'a>(engines: [&'a dyn Engine; 2]) -> Compare<'a> {
-    Compare { engines, printer: None, evaluator: Evaluator::new(None, 1), coverage: Coverage::default() }
+    };
+    assert_eq!(breach([&fast(), &Instead { call: &full, ..FAST }]), Some(Breach::Loads));
 }
 
 /// As many pages as the gate reads.
-const PLAN: Plan =
-    Plan { seed: SEED, from: 0, cases: 0, numbers: 0, schemas: 20_000, printed: false, differences: 1, trace: false };
+const PLAN: Plan = Plan { seed: SEED, schemas: 20_000, ..Plan::NONE };
 
 /// The gate's pages meet everything that is required, and without pages all of it is missing.
 #[test]
@@ -585,7 +535,7 @@ fn all_that_is_required_is_met() {
     let mut compare = compare([&engine, &engine]);
     let required = compare.coverage.missing_of_schemas(20_000);
     assert!(required.len() > 70 && required.iter().all(|missing| missing.contains(": 0 of 1")), "{required:?}");
-    assert_eq!((compare.schemas(&PLAN), compare.coverage.missing_of_schemas(20_000)), (0, Vec::new()));
+    assert_eq!((compare.inputs::<SchemaPage>(&PLAN), compare.coverage.missing_of_schemas(20_000)), (0, Vec::new()));
 }
 
 /// A page is what its seed and index make it, and what it was written for is what it says: a third way to know what is right.
@@ -623,7 +573,7 @@ fn a_page_is_cut_down() {
     let wrong =
         gathering(|t| chosen(t, asked, |all| least(all).map(|one| if all.contains(&Integer) { Integer } else { one })));
     let mut compare = compare([&first, &wrong]);
-    assert_eq!(compare.schemas(&PLAN), 1);
+    assert_eq!(compare.inputs::<SchemaPage>(&PLAN), 1);
     let range = |subject: &str, object: Term| triple(&fill(subject.as_bytes()), &fill(b"rdfs:range"), &object);
     let records = [
         range("p:a", uri("xsd:string")),
@@ -633,8 +583,8 @@ fn a_page_is_cut_down() {
         range("p:b", uri("xsd:decimal")),
     ];
     let page = lent(records.concat());
-    let difference = compare.schema(&page).expect_err("integer for integer and decimal");
-    let told = compare.smaller_page(&page, &difference);
+    let difference = compare.input(&page).expect_err("integer for integer and decimal");
+    let told = compare.smaller_input(&page, &difference);
     let lines: Vec<&str> = told.lines().map(str::trim).collect();
     assert_eq!(lines[0], format!("smaller, 578 bytes of {}:", page.page.len()), "{told}");
     assert_eq!(lines[2..4], ["p:b rdfs:range xsd:integer", "p:b rdfs:range xsd:decimal"], "{told}");
@@ -645,16 +595,17 @@ fn a_page_is_cut_down() {
 #[test]
 fn a_panic_is_cut_down() {
     let first = fast();
-    let wrong = Other(|page, schema, report| {
+    let schema: Gathers = |page, schema, report| {
         assert!(!page.windows(10).any(|ten| ten == b"xsd:string"), "a string");
         fast().schema(page, schema, report)
-    });
+    };
+    let wrong = Instead { schema, ..FAST };
     let compare = compare([&first, &wrong]);
     let record = |object: &str| triple(&fill(b"p:a"), &fill(b"rdfs:range"), &uri(object));
     let page = lent([record("xsd:anyURI"), record("xsd:string"), record("c:X")].concat());
-    let difference = compare.schema(&page).expect_err("a panic");
+    let difference = compare.input(&page).expect_err("a panic");
     assert_eq!(difference.breach, Breach::Panic);
-    let told = compare.smaller_page(&page, &difference);
+    let told = compare.smaller_input(&page, &difference);
     assert!(told.contains("smaller, 289 bytes of 867") && told.contains("wrong: a panic"), "{told}");
 }
 

@@ -1,42 +1,33 @@
 //! The shrinker, on differences made for it: each is cut down to little more than what shows it, and still shows it.
 
 use compare::call::engine::fast;
-use compare::call::evaluator::Evaluator;
 use compare::call::{Call, Engine};
 use compare::case::Case;
 use compare::count::Coverage;
 use compare::judge::{Breach, Difference};
 use compare::replay::Replay;
-use compare::run::{Compare, Plan};
+use compare::run::Plan;
 use compare::shrink::tree::Node;
 use compare::shrink::{shrink, Patience};
 use std::time::Duration;
 use willetcoffer::limits::SLOT_WIDTH;
 use willetcoffer::page::records;
-use wrong::Wrong;
+use wrong::{compare, differing, Instead, Turn, FAST};
 
 mod wrong;
 
 /// The first case that shows a difference, as it is and cut down, with the breach.
-fn cut_down(wrong: &Wrong) -> (Replay, Replay, Breach) {
-    let first = fast();
-    let engines: [&dyn Engine; 2] = [&first, wrong];
-    for index in 0..2000 {
-        let mut coverage = Coverage::default();
-        let mut case = Case::new(5, index, engines, &mut coverage).keeping();
-        if case.run().is_ok() {
-            continue;
-        }
-        let kept = case.kept().expect("a case that keeps its moves");
-        let (_, difference) = kept.play(engines).expect("made again, it shows");
-        let same = |replay: &Replay| replay.play(engines).is_some_and(|(_, d)| d.breach == difference.breach);
-        let patience = Patience { tries: 20_000, time: Duration::from_secs(60) };
-        let small = shrink(kept.clone(), patience, &mut |replay| same(replay));
-        assert!(same(&small), "cut down, it still shows");
-        assert!(small.bytes() <= kept.bytes() && small.moves.len() <= kept.moves.len());
-        return (kept, small, difference.breach);
-    }
-    panic!("no case shows it");
+fn cut_down(turn: Turn) -> (Replay, Replay, Breach) {
+    let (first, wrong) = (fast(), Instead { turn, ..FAST });
+    let engines: [&dyn Engine; 2] = [&first, &wrong];
+    let (kept, _) = differing(5, 2000, engines).next().expect("a case shows it");
+    let (_, difference) = kept.play(engines).expect("made again, it shows");
+    let same = |replay: &Replay| replay.play(engines).is_some_and(|(_, d)| d.breach == difference.breach);
+    let patience = Patience { tries: 20_000, time: Duration::from_secs(60) };
+    let small = shrink(kept.clone(), patience, &mut |replay| same(replay));
+    assert!(same(&small), "cut down, it still shows");
+    assert!(small.bytes() <= kept.bytes() && small.moves.len() <= kept.moves.len());
+    (kept, small, difference.breach)
 }
 
 /// How often a kind stands in a script that can be read.
@@ -50,12 +41,12 @@ fn kinds(script: &[u8], kind: u8) -> usize {
 /// A load of a script with a comparison by equality is refused, though it is accepted: a block with one such filter is left.
 #[test]
 fn a_script_is_cut_down() {
-    let wrong = Wrong(|station, call, code, _| {
+    let turn: Turn = |station, call, code, _| {
         if *call == Call::Load && kinds(&station.card.script, 0x57) > 0 && *code == 0 {
             *code = 8;
         }
-    });
-    let (before, small, breach) = cut_down(&wrong);
+    };
+    let (before, small, breach) = cut_down(turn);
     assert_eq!(breach, Breach::Answers);
     let card = &small.station.card;
     assert!(before.station.card.script.len() > card.script.len());
@@ -69,14 +60,14 @@ fn a_script_is_cut_down() {
 /// A page with a record whose object is a decimal counts one skipped record more: a page of that record is left.
 #[test]
 fn a_page_is_cut_down() {
-    let wrong = Wrong(|_, call, code, report| {
+    let turn: Turn = |_, call, code, report| {
         if let (Call::Page { page, .. }, 0) = (call, *code) {
             if records(page).any(|record| record[0] == 0x84) {
                 report[0] += 1;
             }
         }
-    });
-    let (_, small, breach) = cut_down(&wrong);
+    };
+    let (_, small, breach) = cut_down(turn);
     assert_eq!(breach, Breach::Answers);
     let [load, page] = &small.moves[..] else { panic!("a load and a page are left") };
     assert_eq!(load.call, Call::Load);
@@ -90,12 +81,12 @@ fn a_page_is_cut_down() {
 /// A run of three steps or more is said to have taken one more: a budget of three is left, and three records to step over.
 #[test]
 fn a_run_is_cut_down() {
-    let wrong = Wrong(|_, call, code, report| {
+    let turn: Turn = |_, call, code, report| {
         if let (Call::Run { .. }, 0) = (call, *code) {
             report[0] += u8::from(report[0] >= 3);
         }
-    });
-    let (_, small, breach) = cut_down(&wrong);
+    };
+    let (_, small, breach) = cut_down(turn);
     assert_eq!(breach, Breach::Answers);
     let runs = small.moves.iter().filter(|m| matches!(m.call, Call::Run { .. })).count();
     assert_eq!(runs, 1);
@@ -107,7 +98,7 @@ fn a_run_is_cut_down() {
 /// Refusal 10 is forgotten where a quad was tampered with: the tampering stays, with no byte too many.
 #[test]
 fn tampering_is_cut_down() {
-    let wrong = Wrong(|station, call, code, report| {
+    let turn: Turn = |station, call, code, report| {
         if let (Call::Run { .. }, 10) = (call, *code) {
             // A quad that names a term past the table.
             if station.quad_table.chunks(2).any(|number| u16::from_le_bytes([number[0], number[1]]) >= 512) {
@@ -115,8 +106,8 @@ fn tampering_is_cut_down() {
                 report.fill(0);
             }
         }
-    });
-    let (_, small, _) = cut_down(&wrong);
+    };
+    let (_, small, _) = cut_down(turn);
     let tampered: Vec<_> = small.moves.iter().filter_map(|m| m.tampering.as_ref()).collect();
     let [tampering] = &tampered[..] else { panic!("one tampering is left") };
     let [change] = &tampering.changes[..] else { panic!("in one place") };
@@ -127,10 +118,10 @@ fn tampering_is_cut_down() {
 /// An engine that panics is cut down as well.
 #[test]
 fn a_panic_is_cut_down() {
-    let wrong = Wrong(|station, call, _, _| {
+    let turn: Turn = |station, call, _, _| {
         assert!(*call != Call::Load || kinds(&station.card.script, 0x63) == 0, "a union");
-    });
-    let first = fast();
+    };
+    let (first, wrong) = (fast(), Instead { turn, ..FAST });
     let engines: [&dyn Engine; 2] = [&first, &wrong];
     let (index, kept) = (0..2000)
         .find_map(|index| {
@@ -151,16 +142,14 @@ fn a_panic_is_cut_down() {
 /// The comparison prints the smaller case: what it shows, its card and its calls.
 #[test]
 fn the_smaller_case_is_told() {
-    let wrong = Wrong(|station, call, code, _| {
+    let turn: Turn = |station, call, code, _| {
         if *call == Call::Load && kinds(&station.card.script, 0x74) > 0 && *code == 0 {
             *code = 7;
         }
-    });
-    let first = fast();
-    let evaluator = Evaluator::new(None, 1);
-    let mut compare = Compare { engines: [&first, &wrong], printer: None, evaluator, coverage: Coverage::default() };
-    let plan =
-        Plan { seed: 5, from: 0, cases: 200, numbers: 0, schemas: 0, printed: false, differences: 1, trace: false };
+    };
+    let (first, wrong) = (fast(), Instead { turn, ..FAST });
+    let mut compare = compare([&first, &wrong]);
+    let plan = Plan { seed: 5, cases: 200, ..Plan::NONE };
     assert_eq!(compare.run(&plan).differences, 1);
     let index = (0..200)
         .find(|index| {

@@ -1,9 +1,7 @@
 //! Engines that name another written type, or none, or say something else: each is found, also where both engines are wrong alike.
 
-use compare::call::engine::{fast, with, Second};
+use compare::call::engine::{fast, with, Second, Ways};
 use compare::call::{Call, Engine, Station};
-use compare::case::Case;
-use compare::count::Coverage;
 use compare::draw::Draw;
 use compare::judge::Breach;
 use compare::records::open_pairs;
@@ -15,7 +13,7 @@ use second::seek::Seek;
 use second::suggest::{self, open_places, Suggest, Suggestion};
 use second::types::{Datatype, Type};
 use willetcoffer::limits::{SUGGEST_REPORT_WIDTH, TERM_TABLE_WIDTH};
-use wrong::{Other, Turn, Wrong};
+use wrong::{How, Instead, Turn, FAST};
 
 mod wrong;
 
@@ -23,9 +21,7 @@ const CASES: u64 = 1500;
 
 /// The first breach of two engines.
 fn breach(engines: [&dyn Engine; 2]) -> Option<Breach> {
-    let mut coverage = Coverage::default();
-    let mut run = |index| Case::new(23, index, engines, &mut coverage).run().err();
-    (0..CASES).find_map(|index| run(index).map(|difference| difference.breach))
+    wrong::breach(23, CASES, engines)
 }
 
 /// Whether it is found beside an engine that is right, as other answers, and beside itself, as this breach.
@@ -34,7 +30,7 @@ fn found(engine: &dyn Engine, alone: Breach) -> bool {
 }
 
 fn suggesting(suggest: Suggest) -> Second<Seek> {
-    with("wrong", [arcs::solve; 2], Seek).suggesting(suggest)
+    with("wrong", [arcs::solve; 2], Seek).by(Ways { suggest, ..Ways::FAST })
 }
 
 /// A variable, the place of its written type, and a type to write there.
@@ -264,7 +260,7 @@ fn other_reports() {
         ),
     ];
     for (place, (turn, alone)) in wrong.into_iter().enumerate() {
-        assert!(found(&Wrong(turn), alone), "{place}");
+        assert!(found(&Instead { turn, ..FAST }, alone), "{place}");
     }
 }
 
@@ -282,22 +278,24 @@ fn other_lengths() {
             _ => fast().call(station, call, report),
         }
     }
-    assert!(found(&Other(|station, call, report| taken(station, call, report, 4)), Breach::Lent));
-    assert!(found(&Other(|station, call, report| taken(station, call, report, 0)), Breach::Lent));
-    let late = Other(|station, call, report| match (fast().call(station, call, report), call) {
+    for least in [4, 0] {
+        let taken = Instead { call: &|station, call, report| taken(station, call, report, least), ..FAST };
+        assert!(found(&taken, Breach::Lent), "{least}");
+    }
+    let late: How = |station, call, report| match (fast().call(station, call, report), call) {
         (1, Call::Suggest { .. }) => match fast().call(station, &Call::suggest(), &mut [0; SUGGEST_REPORT_WIDTH]) {
             0 => 1,
             code => code,
         },
         (code, _) => code,
-    });
-    assert!(found(&late, Breach::Lent));
+    };
+    assert!(found(&Instead { call: &late, ..FAST }, Breach::Lent));
     let touched: Turn = |_, call, code, report| {
         if let (Call::Suggest { .. }, 1) = (call, *code) {
             report.fill(0);
         }
     };
-    assert!(found(&Wrong(touched), Breach::Kept));
+    assert!(found(&Instead { turn: touched, ..FAST }, Breach::Kept));
 }
 
 /// The places of open variables by the records' widths are those by the tree.

@@ -4,8 +4,6 @@
 use compare::before;
 use compare::call::engine::{fast, with, Counts, Second};
 use compare::call::{Call, Engine, Station};
-use compare::case::Case;
-use compare::count::Coverage;
 use compare::draw::rng::Rng;
 use compare::draw::texts::{other_end, Texts};
 use compare::judge::Breach;
@@ -17,16 +15,15 @@ use second::eval::{Bindings, Fault, Store};
 use second::limits::{SLOT, TAG, TERM_TABLE, TEXT};
 use second::page::Triple;
 use second::schema::Schema;
-use second::script::{Block, Cond, Expr, Query};
+use second::script::{Cond, Expr};
 use second::search::{Search, Task, Tuple};
-use second::seek::Seek;
 use second::term::{fill, trim, Term};
 use second::truth::Truth;
 use second::types::Datatype;
 use second::value::Value;
 use second::write::{entry, string, tagged, terms, triple, uri};
 use std::time::Duration;
-use wrong::{How, Other, Turn, Wrong};
+use wrong::{differences, differing, first_with, How, Instead, Turn, FAST};
 
 mod wrong;
 
@@ -35,16 +32,12 @@ const CASES: u64 = 3000;
 
 /// The first breach.
 fn breach(engines: [&dyn Engine; 2]) -> Option<Breach> {
-    let mut coverage = Coverage::default();
-    let mut run = |index| Case::new(SEED, index, engines, &mut coverage).run().err();
-    (0..CASES).find_map(|index| run(index).map(|difference| difference.breach))
+    wrong::breach(SEED, CASES, engines)
 }
 
 /// Whether a case shows this breach; another case may show another, as a law that graphs are published by.
 fn shows(engines: [&dyn Engine; 2], breach: Breach) -> bool {
-    let mut coverage = Coverage::default();
-    let mut run = |index| Case::new(SEED, index, engines, &mut coverage).run().err();
-    (0..CASES).any(|index| run(index).is_some_and(|difference| difference.breach == breach))
+    differences(SEED, CASES, engines).any(|difference| difference.breach == breach)
 }
 
 /// Found against the right one, and where both are wrong so.
@@ -107,7 +100,7 @@ fn cut(text: &mut [u8; TEXT]) {
 
 #[test]
 fn the_right_engine_passes() {
-    let other = Other(|station, call, report| reading(station, call, report, |_| {}));
+    let other = Instead { call: &|station, call, report| reading(station, call, report, |_| {}), ..FAST };
     assert_eq!(found(&other), (None, None));
 }
 
@@ -150,7 +143,7 @@ fn texts_that_are_read_otherwise_are_found() {
         }),
     ];
     for (name, how) in readers {
-        let (right, alike) = found(&Other(how));
+        let (right, alike) = found(&Instead { call: &how, ..FAST });
         assert!(matches!(right, Some(Breach::Answers | Breach::Tables)), "{name}: {right:?}");
         assert_eq!(alike, Some(Breach::Whole), "{name}");
     }
@@ -185,7 +178,7 @@ fn good_texts_that_are_refused_are_found() {
         }),
     ];
     for (name, turn) in turns {
-        assert!(shows([&fast(), &Wrong(turn)], Breach::Answers), "{name}");
+        assert!(shows([&fast(), &Instead { turn, ..FAST }], Breach::Answers), "{name}");
     }
 }
 
@@ -195,9 +188,6 @@ struct Short {
     look: Option<Look>,
     bytes: usize,
 }
-
-/// Tuples that it tries; past these it sees all.
-const TRIED: usize = 2_000;
 
 impl Short {
     /// What this look sees of a text.
@@ -247,35 +237,11 @@ impl Short {
             test => store.cond(test, bindings),
         }
     }
-
-    fn query(&self, store: &Store, query: &Query, bindings: &Bindings) -> Result<bool, Fault> {
-        let part = |query: &Query| self.query(store, query, bindings);
-        match query {
-            Query::Both(a, b) => Ok(part(a)? & part(b)?),
-            Query::Union(a, b) => Ok(part(a)? | part(b)?),
-            Query::Filter(cond, _) => self.cond(store, cond, bindings).map(Truth::holds),
-            Query::Pattern(_) | Query::Empty => store.query(query, bindings),
-        }
-    }
 }
 
 impl Search for Short {
     fn first(&self, task: &Task) -> Result<Option<Tuple>, Fault> {
-        let any = Block { query: Query::Empty, ..task.block.clone() };
-        let mut last = task.last.map(<[u16]>::to_vec);
-        for _ in 0..TRIED {
-            let next = Seek.first(&Task { block: &any, last: last.as_deref(), ..*task })?;
-            let Some(tuple) = next else { return Ok(None) };
-            let mut bindings = *task.bindings;
-            for ((variable, _), number) in any.pairs.iter().zip(&tuple) {
-                bindings[usize::from(*variable)] = Some(*number);
-            }
-            if self.query(&task.store, &task.block.query, &bindings)? {
-                return Ok(Some(tuple));
-            }
-            last = Some(tuple);
-        }
-        Seek.first(task)
+        first_with(task, &|cond, bindings| self.cond(&task.store, cond, bindings).map(Truth::holds))
     }
 }
 
@@ -352,7 +318,7 @@ fn slots_that_are_not_looked_at_are_found() {
         }),
     ];
     for (name, how) in careless {
-        assert_eq!(breach([&fast(), &Other(how)]), Some(Breach::Answers), "{name}");
+        assert_eq!(breach([&fast(), &Instead { call: &how, ..FAST }]), Some(Breach::Answers), "{name}");
     }
 }
 
@@ -368,7 +334,7 @@ fn terms_told_apart_by_too_little_are_found() {
             *code = if (0..slots.len()).any(alike) { 10 } else { 0 };
         }
     };
-    assert_eq!(found(&Wrong(twice)), (Some(Breach::Answers), Some(Breach::Unsound)));
+    assert_eq!(found(&Instead { turn: twice, ..FAST }), (Some(Breach::Answers), Some(Breach::Unsound)));
     // Listed terms, and a schema's properties, that differ past byte 40 alone are the same.
     let listed: Turn = |station, call, code, _| {
         let terms = second::terms::read_listed(&station.card.terms).unwrap_or_default();
@@ -385,7 +351,7 @@ fn terms_told_apart_by_too_little_are_found() {
         }
     };
     for turn in [listed, properties] {
-        assert_eq!(breach([&fast(), &Wrong(turn)]), Some(Breach::Answers));
+        assert_eq!(breach([&fast(), &Instead { turn, ..FAST }]), Some(Breach::Answers));
     }
 }
 
@@ -415,7 +381,7 @@ fn texts_looked_up_by_too_little_are_found() {
         |station, call, report| mistaken(station, call, report, true),
     ];
     for (place, how) in lookups.into_iter().enumerate() {
-        let (right, alike) = found(&Other(how));
+        let (right, alike) = found(&Instead { call: &how, ..FAST });
         assert!(matches!(right, Some(Breach::Answers | Breach::Tables)), "{place}: {right:?}");
         assert_eq!(alike, Some(Breach::Whole), "{place}");
     }
@@ -477,7 +443,7 @@ fn tables_of_before_that_are_taken_are_found() {
         }),
     ];
     for (name, how) in takers {
-        assert_eq!(found(&Other(how)), (Some(Breach::Answers), Some(Breach::Lent)), "{name}");
+        assert_eq!(found(&Instead { call: &how, ..FAST }), (Some(Breach::Answers), Some(Breach::Lent)), "{name}");
     }
 }
 
@@ -514,14 +480,14 @@ fn records_of_before_that_are_taken_are_found() {
         }),
     ];
     for (name, how) in takers {
-        assert_eq!(found(&Other(how)), (Some(Breach::Answers), Some(Breach::Old)), "{name}");
+        assert_eq!(found(&Instead { call: &how, ..FAST }), (Some(Breach::Answers), Some(Breach::Old)), "{name}");
     }
 }
 
 /// Slots of before in a table of now are unsound.
 #[test]
 fn slots_of_before_that_are_taken_are_found() {
-    let taken = Other(|station, call, report| {
+    let taken: How = |station, call, report| {
         let before = station.clone();
         let code = fast().call(station, call, report);
         if code != 10 {
@@ -531,21 +497,16 @@ fn slots_of_before_that_are_taken_are_found() {
         let code = fast().call(station, call, report);
         *station = before;
         code
-    });
-    assert!(matches!(breach([&fast(), &taken]), Some(Breach::Answers | Breach::Tables)));
+    };
+    assert!(matches!(breach([&fast(), &Instead { call: &taken, ..FAST }]), Some(Breach::Answers | Breach::Tables)));
 }
 
 /// A difference on a station whose term table has another length is made again and cut down.
 #[test]
 fn a_table_of_before_is_cut_down() {
-    let (first, other) = (fast(), Other(widened));
+    let (first, other) = (fast(), Instead { call: &widened, ..FAST });
     let engines: [&dyn Engine; 2] = [&first, &other];
-    let kept = (0..CASES).find_map(|index| {
-        let mut coverage = Coverage::default();
-        let mut case = Case::new(SEED, index, engines, &mut coverage).keeping();
-        case.run().err().and(case.kept())
-    });
-    let kept = kept.expect("a case shows it");
+    let (kept, _) = differing(SEED, CASES, engines).next().expect("a case shows it");
     let shows = |replay: &Replay| replay.play(engines).is_some_and(|(_, d)| d.breach == Breach::Answers);
     assert!(shows(&kept));
     let patience = Patience { tries: 20_000, time: Duration::from_secs(60) };

@@ -143,118 +143,62 @@ pub struct TablesRef<'a> {
     pub quads: &'a [u8],
 }
 
+/// Makes a call of the C interface, its arguments in their order: slices that it reads, slices that it writes, numbers that it is given.
+macro_rules! call {
+    ($name:ident, $($(read($($read:expr),*))? $(write($($write:expr),*))? $(give($($number:expr),*))?),*) => {
+        // SAFETY: each pointer comes with the length of the slice it was taken from; the slices outlive the call, and those that
+        // it writes overlap no other, being borrowed mutably. The call reads and writes within these lengths and keeps no
+        // pointer (proved of the exported function).
+        unsafe {
+            $name($(
+                $($($read.as_ptr(), $read.len(),)*)?
+                $($($write.as_mut_ptr(), $write.len(),)*)?
+                $($($number,)*)?
+            )*)
+        }
+    };
+}
+
 /// Loads a card: on 0 both tables and the saved run are written, else nothing is.
 pub fn load(card: &Card, tables: TablesMut<'_>, saved: &mut [u8]) -> u32 {
-    // SAFETY: each pointer comes with the length of the slice it was taken from; the slices outlive the call, and those that
-    // it writes overlap no other, being borrowed mutably. The call reads and writes within these lengths and keeps no
-    // pointer (proved of the exported function).
-    unsafe {
-        willetcoffer_load(
-            tables.ranks.as_ptr(),
-            tables.ranks.len(),
-            card.terms.as_ptr(),
-            card.terms.len(),
-            card.schema.as_ptr(),
-            card.schema.len(),
-            card.script.as_ptr(),
-            card.script.len(),
-            tables.terms.as_mut_ptr(),
-            tables.terms.len(),
-            tables.quads.as_mut_ptr(),
-            tables.quads.len(),
-            saved.as_mut_ptr(),
-            saved.len(),
-        )
-    }
+    call!(
+        willetcoffer_load,
+        read(tables.ranks, card.terms, card.schema, card.script),
+        write(tables.terms, tables.quads, saved)
+    )
 }
 
 /// Takes up to `budget` steps: on 0 the saved run and the report are written, else nothing is.
 pub fn run(card: &Card, tables: TablesRef<'_>, saved: &mut [u8], budget: u64, now: i64, report: &mut [u8]) -> u32 {
-    // SAFETY: as in `load`.
-    unsafe {
-        willetcoffer_run(
-            tables.ranks.as_ptr(),
-            tables.ranks.len(),
-            card.terms.as_ptr(),
-            card.terms.len(),
-            card.schema.as_ptr(),
-            card.schema.len(),
-            card.script.as_ptr(),
-            card.script.len(),
-            tables.terms.as_ptr(),
-            tables.terms.len(),
-            tables.quads.as_ptr(),
-            tables.quads.len(),
-            saved.as_mut_ptr(),
-            saved.len(),
-            budget,
-            now,
-            report.as_mut_ptr(),
-            report.len(),
-        )
-    }
+    call!(
+        willetcoffer_run,
+        read(tables.ranks, card.terms, card.schema, card.script, tables.terms, tables.quads),
+        write(saved),
+        give(budget, now),
+        write(report)
+    )
 }
 
 /// Takes a page in: on 0 both tables, the saved run and the report are written, else nothing is.
 pub fn page(card: &Card, tables: TablesMut<'_>, saved: &mut [u8], graph: u64, page: &[u8], report: &mut [u8]) -> u32 {
-    // SAFETY: as in `load`.
-    unsafe {
-        willetcoffer_page(
-            tables.ranks.as_ptr(),
-            tables.ranks.len(),
-            card.terms.as_ptr(),
-            card.terms.len(),
-            card.schema.as_ptr(),
-            card.schema.len(),
-            card.script.as_ptr(),
-            card.script.len(),
-            tables.terms.as_mut_ptr(),
-            tables.terms.len(),
-            tables.quads.as_mut_ptr(),
-            tables.quads.len(),
-            saved.as_mut_ptr(),
-            saved.len(),
-            graph,
-            page.as_ptr(),
-            page.len(),
-            report.as_mut_ptr(),
-            report.len(),
-        )
-    }
+    call!(
+        willetcoffer_page,
+        read(tables.ranks, card.terms, card.schema, card.script),
+        write(tables.terms, tables.quads, saved),
+        give(graph),
+        read(page),
+        write(report)
+    )
 }
 
 /// Tells how many steps a script takes in all: on 0 the report is written, else nothing is.
 pub fn total(card: &Card, report: &mut [u8]) -> u32 {
-    // SAFETY: as in `load`.
-    unsafe {
-        willetcoffer_total(
-            card.terms.as_ptr(),
-            card.terms.len(),
-            card.schema.as_ptr(),
-            card.schema.len(),
-            card.script.as_ptr(),
-            card.script.len(),
-            report.as_mut_ptr(),
-            report.len(),
-        )
-    }
+    call!(willetcoffer_total, read(card.terms, card.schema, card.script), write(report))
 }
 
 /// Names one written type that would do: on 0 the report is written, else nothing is.
 pub fn suggest(card: &Card, report: &mut [u8]) -> u32 {
-    // SAFETY: as in `load`.
-    unsafe {
-        willetcoffer_suggest(
-            card.terms.as_ptr(),
-            card.terms.len(),
-            card.schema.as_ptr(),
-            card.schema.len(),
-            card.script.as_ptr(),
-            card.script.len(),
-            report.as_mut_ptr(),
-            report.len(),
-        )
-    }
+    call!(willetcoffer_suggest, read(card.terms, card.schema, card.script), write(report))
 }
 
 /// Writes a fetched graph as a page: on 0 the front of `page` and the report are written, else nothing is. The ranks of the tables are not
@@ -267,47 +211,20 @@ pub fn publish(
     page: &mut [u8],
     report: &mut [u8],
 ) -> u32 {
-    // SAFETY: as in `load`.
-    unsafe {
-        willetcoffer_publish(
-            card.terms.as_ptr(),
-            card.terms.len(),
-            card.schema.as_ptr(),
-            card.schema.len(),
-            card.script.as_ptr(),
-            card.script.len(),
-            tables.terms.as_ptr(),
-            tables.terms.len(),
-            tables.quads.as_ptr(),
-            tables.quads.len(),
-            saved.as_ptr(),
-            saved.len(),
-            graph,
-            page.as_mut_ptr(),
-            page.len(),
-            report.as_mut_ptr(),
-            report.len(),
-        )
-    }
+    call!(
+        willetcoffer_publish,
+        read(card.terms, card.schema, card.script, tables.terms, tables.quads, saved),
+        give(graph),
+        write(page, report)
+    )
 }
 
 /// Reads the text of a number: on 0 the record is written, else nothing is.
 pub fn number(text: &[u8], record: &mut [u8]) -> u32 {
-    // SAFETY: as in `load`.
-    unsafe { willetcoffer_number(text.as_ptr(), text.len(), record.as_mut_ptr(), record.len()) }
+    call!(willetcoffer_number, read(text), write(record))
 }
 
 /// Gathers a schema from a page: on 0 the front of the schema and the report are written, else nothing is.
 pub fn schema(page: &[u8], schema: &mut [u8], report: &mut [u8]) -> u32 {
-    // SAFETY: as in `load`.
-    unsafe {
-        willetcoffer_schema(
-            page.as_ptr(),
-            page.len(),
-            schema.as_mut_ptr(),
-            schema.len(),
-            report.as_mut_ptr(),
-            report.len(),
-        )
-    }
+    call!(willetcoffer_schema, read(page), write(schema, report))
 }

@@ -7,7 +7,7 @@ use second::count;
 use second::early;
 use second::edge::{take_looks, Look};
 use second::eval::{Evaluate, Fault};
-use second::evaluator::{evaluate_with, Ways};
+use second::evaluator::{self, evaluate_with};
 use second::gather::{self, Gathering};
 use second::note::{take_notes, Note};
 use second::number::{self, Reading};
@@ -72,47 +72,66 @@ pub trait Engine {
     }
 }
 
+/// How an engine of the crate `second` does what can be done in more than one way.
+#[derive(Clone, Copy)]
+pub struct Ways {
+    /// Quads kept in order.
+    pub order: Order,
+    /// Ranks tested and followed.
+    pub alphabet: Alphabet,
+    /// Numbers read.
+    pub reading: Reading,
+    /// Written types suggested.
+    pub suggest: Suggest,
+    /// Schemas gathered.
+    pub gathering: Gathering,
+    /// Graphs published.
+    pub publishing: Publishing,
+    /// Tuples evaluated.
+    pub evaluate: Evaluate,
+}
+
+impl Ways {
+    /// The fast ones; tuples are evaluated by giving up early.
+    pub const FAST: Ways = Ways {
+        order: order::FAST,
+        alphabet: rank::FAST,
+        reading: number::fast,
+        suggest: suggest::fast,
+        gathering: gather::fast,
+        publishing: publish::fast,
+        evaluate: early::evaluate,
+    };
+
+    /// Those by the definitions.
+    pub const PLAIN: Ways = Ways {
+        order: order::PLAIN,
+        alphabet: rank::PLAIN,
+        reading: number::plain,
+        suggest: suggest::plain,
+        gathering: gather::plain,
+        publishing: publish::plain,
+        evaluate: count::evaluate,
+    };
+}
+
 /// An engine of the crate `second`.
 pub struct Second<S> {
     name: &'static str,
     /// For loads and the printer, and for the other calls.
     typers: [second::check::Typer; 2],
     search: S,
-    order: Order,
-    alphabet: Alphabet,
-    reading: Reading,
-    suggest: Suggest,
-    gathering: Gathering,
-    publishing: Publishing,
-    evaluate: Evaluate,
+    ways: Ways,
     why: Cell<&'static str>,
     notes: RefCell<Vec<Note>>,
     looks: RefCell<Vec<(Look, usize)>>,
 }
 
 /// An engine with these parts: how types are worked out in loads and by the printer, and in the other calls; and how
-/// answers are found. It keeps quads in order, takes ranks, reads numbers, suggests, gathers schemas and publishes graphs as the fast engine does,
-/// and evaluates tuples by giving up early.
+/// answers are found. All else it does as the fast engine does.
 pub fn with<S>(name: &'static str, typers: [second::check::Typer; 2], search: S) -> Second<S> {
     let (why, notes, looks) = (Cell::new(""), RefCell::default(), RefCell::default());
-    let (order, alphabet, evaluate): (_, _, Evaluate) = (order::FAST, rank::FAST, early::evaluate);
-    let (reading, suggest): (Reading, Suggest) = (number::fast, suggest::fast);
-    let (gathering, publishing): (Gathering, Publishing) = (gather::fast, publish::fast);
-    Second {
-        name,
-        typers,
-        search,
-        order,
-        alphabet,
-        reading,
-        suggest,
-        gathering,
-        publishing,
-        evaluate,
-        why,
-        notes,
-        looks,
-    }
+    Second { name, typers, search, ways: Ways::FAST, why, notes, looks }
 }
 
 /// The fast engine.
@@ -145,57 +164,19 @@ fn counted(script: &Script, terms: &Terms) -> Result<Env, Refusal> {
 
 /// The engine by the definitions, its search bounded by [`Bounded`].
 pub fn plain() -> Second<Bounded> {
-    let plain = with("plain", [counted, assignments::solve_again], Bounded::default());
-    plain
-        .ordering(order::PLAIN)
-        .ranking(rank::PLAIN)
-        .reading(number::plain)
-        .suggesting(suggest::plain)
-        .gathering(gather::plain)
-        .publishing(publish::plain)
-        .evaluating(count::evaluate)
+    with("plain", [counted, assignments::solve_again], Bounded::default()).by(Ways::PLAIN)
 }
 
 impl<S> Second<S> {
-    /// The same, quads kept in this order.
-    pub fn ordering(self, order: Order) -> Second<S> {
-        Second { order, ..self }
-    }
-
-    /// The same, ranks tested and followed in this way.
-    pub fn ranking(self, alphabet: Alphabet) -> Second<S> {
-        Second { alphabet, ..self }
-    }
-
-    /// The same, numbers read in this way.
-    pub fn reading(self, reading: Reading) -> Second<S> {
-        Second { reading, ..self }
-    }
-
-    /// The same, written types suggested in this way.
-    pub fn suggesting(self, suggest: Suggest) -> Second<S> {
-        Second { suggest, ..self }
-    }
-
-    /// The same, schemas gathered in this way.
-    pub fn gathering(self, gathering: Gathering) -> Second<S> {
-        Second { gathering, ..self }
-    }
-
-    /// The same, graphs published in this way.
-    pub fn publishing(self, publishing: Publishing) -> Second<S> {
-        Second { publishing, ..self }
-    }
-
-    /// The same, tuples evaluated in this way.
-    pub fn evaluating(self, evaluate: Evaluate) -> Second<S> {
-        Second { evaluate, ..self }
+    /// The same in these ways.
+    pub fn by(self, ways: Ways) -> Second<S> {
+        Second { ways, ..self }
     }
 }
 
 impl<S: Search + Counts> Second<S> {
     fn engine(&self, again: bool) -> second::Engine<'_> {
-        let Second { order, alphabet, reading, suggest, gathering, publishing, .. } = *self;
+        let Ways { order, alphabet, reading, suggest, gathering, publishing, .. } = self.ways;
         let typer = self.typers[usize::from(again)];
         second::Engine { typer, order, alphabet, reading, suggest, gathering, publishing, search: &self.search }
     }
@@ -253,9 +234,8 @@ impl<S: Search + Counts> Engine for Second<S> {
     }
 
     fn evaluate(&self, input: &[u8]) -> Option<String> {
-        let (order, alphabet, evaluate) = (self.order, self.alphabet, self.evaluate);
-        let ways = Ways { typer: self.typers[1], order, alphabet, evaluate };
-        Some(evaluate_with(ways, input))
+        let Ways { order, alphabet, evaluate, .. } = self.ways;
+        Some(evaluate_with(evaluator::Ways { typer: self.typers[1], order, alphabet, evaluate }, input))
     }
 
     fn why(&self) -> &'static str {

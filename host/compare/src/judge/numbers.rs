@@ -1,16 +1,12 @@
 //! What two engines owe each other on the text of a number, and what either of them owes by itself: 1 exactly where it is due, a record that
 //! is kept or is a number's, what the text was written for, and the law that str's text for what is read reads as the same.
 
-use super::{Breach, Difference};
+use super::{differs, Breach, Difference};
 use crate::call::number::{Read, Text};
 use crate::call::Engine;
 use second::term::{trim, Term};
 use second::value::Value;
 use willetcoffer::limits::NUMBER_RECORD_WIDTH;
-
-fn differs<T>(breach: Breach, what: String) -> Result<T, Difference> {
-    Err(Difference::new(breach, what))
-}
 
 /// The text that str gives for a number.
 pub fn str_text(number: Term) -> Vec<u8> {

@@ -1,7 +1,7 @@
 //! What two engines owe each other on a page that a schema is gathered from, and what either of them owes by itself: 1 and 13 exactly where they
 //! are due, nothing written on a refusal, a schema that a load takes and nothing after it, and what the page was written for.
 
-use super::{Breach, Difference};
+use super::{differs, Breach, Difference};
 use crate::call::schema::{in_words, Entries, Gathered, SchemaPage};
 use crate::call::{Call, Engine, Station};
 use second::page;
@@ -10,10 +10,6 @@ use std::collections::BTreeSet;
 use willetcoffer::limits::{SCHEMA_REPORT_WIDTH, SCHEMA_WIDTH};
 use willetcoffer::script::success;
 use willetcoffer::Card;
-
-fn differs<T>(breach: Breach, what: String) -> Result<T, Difference> {
-    Err(Difference::new(breach, what))
-}
 
 /// Has the schema gathered by both and holds them to what they owe; what they gave.
 pub fn judge(page: &SchemaPage, engines: [&dyn Engine; 2]) -> Result<Gathered, Difference> {
