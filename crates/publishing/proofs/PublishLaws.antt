@@ -8,7 +8,7 @@ use mathlib.Core.Option.{some}
 use borrow.Author.Tests.{lt-ltb, le-ltb, ltb-true}
 use lib.Dec.{eqb, eqb→eq, ltb, leb, leb→le}
 use lib.ListN.{length, take, drop, length-take}
-use Rattle.definitions.specs.Limits.{termLimit, quadLimit, graphLimit}
+use Rattle.definitions.specs.Limits.{termLimit, quadLimit, graphLimit, termTableWidth}
 use Rattle.definitions.specs.Lists.{keep, isIn}
 use Rattle.definitions.specs.Bytes.{part}
 use Rattle.definitions.specs.Terms.{Schema}
@@ -163,9 +163,11 @@ module _ {l : Lent} {saved : SavedRun} {r : Entered} {rows leasts : List ℕ} (w
           ap (λ b. b && true) (lt-ltb g (r .count) (omega (arith, w .finds .lent 0 .tabled .counted, b, n)))
       go false i = andFalse (ltb g (r .count))
 
+  wide : length (l .termTable) ≡ termTableWidth
+  wide = both-fit (lengthsOf l) (trueIs (bothTablesFit (lengthsOf l)) (w .fits)) .0
+
   store-sound : SoundStore S kept
-  store-sound =
-      record { apart = known .termsApart; valid = valid-held l saved x soundly (w .bytes) (both-fit (lengthsOf l) (trueIs (bothTablesFit (lengthsOf l)) (w .fits)) .0); order = known .quadsInOrder; quads = known .quads }
+  store-sound = record { apart = known .termsApart; valid = valid-held l saved x soundly (w .bytes) wide; order = known .quadsInOrder; quads = known .quads }
 
   module _ (g : ℕ) {low high : ℕ} (a : Splits rows (saved .store .quads) (g * graphWeight) low) (b : Splits rows (saved .store .quads) (g * graphWeight + (graphWeight - 1) + 1) high) where
     abbrev n : ℕ
@@ -189,7 +191,6 @@ module _ {l : Lent} {saved : SavedRun} {r : Entered} {rows leasts : List ℕ} (w
 
     pub graph-stretch : Stretch (l .termTable) rows g low high kept
     graph-stretch =
-        let wide = both-fit (lengthsOf l) (trueIs (bothTablesFit (lengthsOf l)) (w .fits)) .0 in
         record {
           ordered = cut .0;
           within = omega (arith, cut .1, room);

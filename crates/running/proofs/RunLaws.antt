@@ -117,7 +117,8 @@ module _ (ranks terms schema script table store : List ℕ) (saved : SavedRun)
       let o = h lends in
       let c = x .checked in
       let last = lastOf (x .state) (o .ran .passed) in
-      let control : end .control ≡ savedControl (reported c) (last .control) = o .control ∙ ap (λ (ts : List ℕ). savedControl ts (last .control)) (types-reported ranks terms schema script table store saved x entered e) in
+      let types = types-reported ranks terms schema script table store saved x entered e in
+      let control : end .control ≡ savedControl (reported c) (last .control) = o .control ∙ ap (λ (ts : List ℕ). savedControl ts (last .control)) types in
       let same : last .store ≡ x .state .store =
       last-all (λ s. s .store ≡ x .state .store) (x .state) (o .ran .passed) refl
       (run-keeps (settingOf c ranks (signed clock)) (typeAt (c .types)) budget (x .state) (o .ran) (o .noFault)) in
