@@ -11,7 +11,7 @@ use Rattle.definitions.specs.Exports.{LoadExport, loadExport, runExport,
 use Rattle.definitions.specs.Limits.{textWidth, savedWidth, runReportWidth, totalReportWidth, suggestReportWidth}
 use Rattle.definitions.specs.Bytes.{filled}
 use Rattle.definitions.proofs.Opened.{opened}
-use Rattle.definitions.proofs.Season.{card, withTables}
+use Rattle.definitions.proofs.Card.{card, withTables}
 
 lent : List ℕ
 lent = replicate savedWidth 9
@@ -24,7 +24,7 @@ loadedCard = withTables card (first .termTable) (first .quadTable)
 
 -- height 1, no quad and no graph; types anyURI and decimal; nothing bound or fetched; the root at offset 0
 load-saves : first .saved ≡ 1 ∷ 0 ∷ 0 ∷ 0 ∷ 0 ∷ 0 ∷ 1 ∷ 3 ∷ replicate 478 0
-unfolding lent first opened Rattle.definitions.proofs.Season.card Rattle.definitions.proofs.Season.uri Rattle.definitions.proofs.Season.number
+unfolding lent first opened Rattle.definitions.proofs.Card.card Rattle.definitions.proofs.Card.uri Rattle.definitions.proofs.Card.number
 load-saves = refl
 
 report : List ℕ
@@ -40,8 +40,8 @@ run-reports :
     ∷ ok (record { number = 10; saved = set (first .saved) 22 2; report = report })
     ∷ ok (record { number = 1; saved = take 485 (first .saved); report = report })
     ∷ []
-unfolding lent first loadedCard report opened Rattle.definitions.proofs.Season.card Rattle.definitions.proofs.Season.uri
-    Rattle.definitions.proofs.Season.number Rattle.definitions.proofs.Season.withTables
+unfolding lent first loadedCard report opened Rattle.definitions.proofs.Card.card Rattle.definitions.proofs.Card.uri
+    Rattle.definitions.proofs.Card.number Rattle.definitions.proofs.Card.withTables
 run-reports = refl
 
 -- ── total ───────────────────────────────────────────────────────────────────────────────────

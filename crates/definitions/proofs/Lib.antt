@@ -1,7 +1,8 @@
 pub mod Opened
 pub mod Examples
-pub mod Season
+pub mod Card
 pub mod Faults
+pub mod MachineExamples
 pub mod ValueExamples
 pub mod NumeralExamples
 pub mod ExportExamples

@@ -23,7 +23,7 @@ use Rattle.definitions.specs.declared.RunAnswer.the-variants as RunAnswers
 use Rattle.definitions.specs.declared.PageAnswer.the-variants as PageAnswers
 use Rattle.definitions.specs.declared.SuggestAnswer.the-variants as SuggestAnswers
 use Rattle.definitions.proofs.Opened.{opened}
-use Rattle.definitions.proofs.Season.{card, uri, number}
+use Rattle.definitions.proofs.Card.{card, uri, number}
 use Rattle.theorems.specs.Hosts.{asLeft, others, HostCall, running, paging, Handed, keptAfterLoad, engineCall, engineCalls}
 use Rattle.theorems.specs.Demand3.{Demand3}
 use Rattle.theorems.proofs.Demand3.{demand-3}
@@ -35,7 +35,7 @@ use Rattle.theorems.proofs.ExactSteps.{exact-steps}
 use Rattle.theorems.specs.OneType.{withCode, Accepts, Suggested}
 use Rattle.theorems.proofs.OneType.{one-types}
 
--- `Season.card`: from named c:club, an each block; term 1 is c:club
+-- `Card.card`: from named c:club, an each block; term 1 is c:club
 accepted : load card .returned .answer ≡ LoadAnswers.Accepted
 unfolding card uri number opened
 accepted = refl

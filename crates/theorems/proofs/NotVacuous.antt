@@ -22,7 +22,7 @@ use Rattle.definitions.specs.declared.RunState.the-variants.{Ended, Wanted, Wai
 use Rattle.definitions.specs.declared.RunAnswer.the-variants as RunAnswers
 use Rattle.definitions.specs.declared.PageAnswer.the-variants as PageAnswers
 use Rattle.definitions.proofs.Opened.{opened}
-use Rattle.definitions.proofs.Season.{uri, number}
+use Rattle.definitions.proofs.Card.{uri, number}
 use Rattle.theorems.proofs.Safety.{Safe, safety-from-load}
 
 -- ── terms, schema and page ──────────────────────────────────────────────────────────────────

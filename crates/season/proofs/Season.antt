@@ -2,28 +2,26 @@
 use Prim.Native.Nat.{ℕ, _+_}
 use mathlib.Core.Path.{_≡_, refl}
 use mathlib.Core.List.{List, [], _∷_, _++_}
-use lib.IntN.{ℤ, pos, negsuc}
+use lib.IntN.{pos, negsuc}
 use lib.ListN.{replicate, set}
 use Rattle.definitions.specs.Limits.{ranksWidth, termTableWidth, quadTableWidth, textWidth, tagWidth}
 use Rattle.definitions.specs.Alphabet.{below, builtIn}
 use Rattle.definitions.specs.Ascii.{ascii}
-use Rattle.definitions.specs.Bytes.{filled, littleBytes, unsigned}
+use Rattle.definitions.specs.Bytes.{filled}
 use Rattle.definitions.specs.Outcome.{Outcome, ok, fault}
 use Rattle.definitions.specs.Calls.{Lengths, Lent, load, runCall, PageResult, pageCall, PublishResult, publishCall}
 use Rattle.definitions.specs.CallList.{Call, running, paging, Answer, ran, paged}
 use Rattle.definitions.specs.declared.SavedRun.{SavedRun}
 use Rattle.definitions.specs.declared.Ran.{Ran}
 use Rattle.definitions.specs.declared.RunState.{RunState}
 use Rattle.definitions.specs.declared.RunState.the-variants.{Ended, Wanted, Spent}
 use Rattle.definitions.specs.declared.RunAnswer.the-variants as RunAnswers
 use Rattle.definitions.specs.declared.PageAnswer.the-variants as PageAnswers
 use Rattle.definitions.specs.declared.PublishAnswer.the-variants as PublishAnswers
 use Rattle.definitions.proofs.Opened.{opened}
+use Rattle.definitions.proofs.Card.{withTables, uri, number, card}
 
 -- ── calls one after the other, each with the tables and the saved run as the one before left them ──
-
-unfoldable pub withTables : Lent → (termTable quadTable : List ℕ) → Lent
-withTables l t q = record { ranks = l .ranks; terms = l .terms; schema = l .schema; script = l .script; termTable = t; quadTable = q }
 
 -- a call's answer, and what it left; a fault answers nothing
 record Left : Type 0 where
@@ -53,30 +51,7 @@ afterCalls (c ∷ cs) x =
 afterLoad : Lent → Left
 afterLoad l = let r = load l in record { answers = []; lent = withTables l (r .termTable) (r .quadTable); saved = r .returned .saved }
 
--- ── the card ────────────────────────────────────────────────────────────────────────────────
-
-unfoldable pub uri : List ℕ → List ℕ
-uri text = filled textWidth text
-
-unfoldable pub number : ℤ → List ℕ
-number n = littleBytes 8 (unsigned n)
-
--- term 0 the integer 3, 1 the graph c:club, 2 l:1, and by the schema 3 p:speed, a decimal
-unfoldable pub card : Lent
-card =
-    record {
-      ranks = builtIn;
-      terms = 0x13 ∷ number (pos 3) ++ (0x11 ∷ uri (ascii "c:club") ++ (0x11 ∷ uri (ascii "l:1")));
-      schema = 0x21 ∷ uri (ascii "p:speed") ++ (3 ∷ []);
-      -- from named c:club: each $0 $1 where { c:club: $0 p:speed $1 }: success
-      script =
-          0x72 ∷ 0x32 ∷ 1 ∷ 0
-          ∷ 0x73 ∷ 1 ∷ 2 ∷ 0 ∷ 0 ∷ 1 ∷ 0 ∷ 0 ∷ 0 ∷ 0 ∷ 0
-          ∷ 0x61 ∷ 0x32 ∷ 1 ∷ 0 ∷ 0x31 ∷ 0 ∷ 0x32 ∷ 3 ∷ 0 ∷ 0x31 ∷ 1
-          ∷ 0x71 ∷ [];
-      termTable = replicate termTableWidth 7;
-      quadTable = replicate quadTableWidth 7;
-    }
+-- ── the pages ───────────────────────────────────────────────────────────────────────────────
 
 triple : (kind : ℕ) → (subject property : List ℕ) → (object : List ℕ) → List ℕ
 triple k s p o = k ∷ uri s ++ (uri p ++ o)

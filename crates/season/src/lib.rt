@@ -1,0 +1,1 @@
+// No code: the definitions at work over whole tables, call by call, in proofs/.
