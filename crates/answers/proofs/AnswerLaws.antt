@@ -275,9 +275,9 @@ found-is S Γ terms few vs n l r = go (r .found)
 
 pub block-made : (s : List ℕ) (at : ℕ) (types used : List ℕ) (size : ℕ) → size ≡ byte s (at + 2) → (vars : List ℕ) → vars ≡ pairNumbers s at
     → (codes : List ℕ) → codes ≡ typesOf types vars → (last : List ℕ) → last ≡ fourOf used
-    → _≡_ {A = Block} (record { «at» = at + 11; left = 24; size = size; vars = vars; types = codes; last = last }) (blockOf s at types used)
+    → _≡_ {A = Block} (record { «at» = at + 11; size = size; vars = vars; types = codes; last = last }) (blockOf s at types used)
 block-made s at types used size e vars v codes t last l =
-    λ z. record { «at» = at + 11; left = 24; size = e z; vars = v z; types = (t ∙ ap (typesOf types) v) z; last = l z }
+    λ z. record { «at» = at + 11; size = e z; vars = v z; types = (t ∙ ap (typesOf types) v) z; last = l z }
 
 -- ── the search ──────────────────────────────────────────────────────────────────────────────
 

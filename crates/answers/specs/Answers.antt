@@ -31,7 +31,6 @@ abbrev pub blockOf : (script : List ℕ) → (at : ℕ) → (types last : List �
 blockOf s at types last =
     record {
       «at» = at + 11;
-      left = 24;
       size = byte s (at + 2);
       vars = pairNumbers s at;
       types = typesOf types (pairNumbers s at);

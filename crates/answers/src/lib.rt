@@ -19,7 +19,6 @@ ghost use Rattle.answers.specs.Answers.{knownOf, pairNumbers, typesOf, f
 ghost use Rattle.acts.specs.Steps.{Top};
 ghost use Rattle.answers.specs.Lends.{Lends, AnswersNow, TriesNow};
 ghost use Rattle.definitions.specs.Limits.{blockWidth, variableLimit};
-use definitions::DEPTH_LIMIT;
 use definitions::PAIR_LIMIT;
 use definitions::QUERY_OFFSET;
 use definitions::VARIABLE_LIMIT;
@@ -132,7 +131,6 @@ fn block_of(
     let last = wide_numbers(used);
     Block {
         at: query,
-        left: DEPTH_LIMIT,
         size,
         vars,
         types,

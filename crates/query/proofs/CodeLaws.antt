@@ -14,7 +14,7 @@ use Rattle.definitions.specs.Evaluate.{numberOf}
 use Rattle.definitions.specs.Saved.{isBound}
 use Rattle.laws.specs.Sound.{NameBounded}
 use Rattle.scan.specs.Scan.{fixed, sought, free, agrees, pick}
-use Rattle.query.specs.Seek.{known as placed, placeOf, nameKnown}
+use Rattle.query.specs.Known.{known as placed, placeOf, nameKnown}
 use Rattle.scan.proofs.Places.{at-sought, at-fixed, at-free}
 use Rattle.scan.specs.Codes.{soughtCode, freeCode, placeAt}
 use Rattle.query.specs.Codes.{numberAt, bindingsOf, codeOf, Coded}

@@ -31,7 +31,7 @@ use Rattle.values.specs.Meaning.{meaning, Good, Gives, Tells, compared, textTes
 use Rattle.values.specs.Means.{Holds}
 use Rattle.values.specs.declared.Value.{Value}
 use Rattle.scan.specs.Scan.{fixed, scan}
-use Rattle.query.specs.Seek.{nameKnown, exprKnown}
+use Rattle.query.specs.Known.{nameKnown, exprKnown}
 use Rattle.scan.specs.Codes.{soughtCode, placeAt, placesAt}
 use Rattle.query.specs.Codes.{numberAt, bindingsOf, codeOf, Coded}
 use Rattle.scan.specs.declared.Four.{Four}

@@ -22,7 +22,7 @@ use Rattle.laws.proofs.Walked.{leaf-walked}
 use Rattle.laws.proofs.Productions.{Two}
 use Rattle.laws.proofs.Tests.{trueIs, andFalse}
 use Rattle.values.specs.Meaning.{Tells}
-use Rattle.query.specs.Seek.{exprKnown, comesTo, joined, may}
+use Rattle.query.specs.Known.{exprKnown, comesTo, joined, may}
 use Rattle.scan.specs.Codes.{soughtCode}
 use Rattle.query.specs.Codes.{bindingsOf}
 use Rattle.query.specs.declared.Context.{Context}

@@ -3,7 +3,7 @@ use mathlib.Core.Path.{_≡_, refl}
 use mathlib.Core.Bool.{Bool, true, false}
 use lib.Dec.{T}
 use Rattle.definitions.specs.Outcome.{Outcome, ok, fault}
-use Rattle.query.specs.Seek.{passes}
+use Rattle.query.specs.Known.{passes}
 
 pub passes-ok : (m : Outcome Bool) → T (passes m) → m ≡ ok true
 passes-ok (ok true) h = refl

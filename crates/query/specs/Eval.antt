@@ -15,7 +15,7 @@ use Rattle.laws.specs.Walks.{Loads}
 use Rattle.definitions.specs.Evaluated.{condRecords, queryRecords}
 use Rattle.definitions.specs.Saved.{termsIn}
 use Rattle.query.specs.Codes.{bindingsOf}
-use Rattle.query.specs.Seek.{exprKnown, may, SureTests}
+use Rattle.query.specs.Known.{exprKnown, may, SureTests}
 use Rattle.query.specs.StoreLent.{settingIn, Told, Tabled}
 use Rattle.query.specs.declared.Context.{Context}
 use Rattle.definitions.specs.Values.{valueOf}

@@ -14,7 +14,7 @@ ghost use Rattle.laws.specs.Walks.{Walked};
 ghost use Rattle.query.specs.StoreLent.{Told, Tabled, Stored, rowsOf};
 ghost use mathlib.Core.Path.{_≡_};
 ghost use Rattle.query.specs.Codes.{bindingsOf};
-ghost use Rattle.query.specs.Seek.{exprKnown};
+ghost use Rattle.query.specs.Known.{exprKnown};
 ghost use Rattle.query.specs.Eval.{Lent, RanksLent, NumberGives, ValueOf, TruthOf, HoldsOf};
 use crate::Context;
 use crate::Held;

@@ -4,25 +4,32 @@ use native.Mathlib.Omega.{arith}
 use mathlib.Core.Path.{_≡_, refl, sym, _∙_, ap, subst, subst⁻¹, fun-ext}
 use mathlib.Core.List.{List, _∷_}
 use mathlib.Core.Bool.{Bool, true, false, cond, _||_}
-use mathlib.Core.Option.{none}
+use mathlib.Core.Option.{Option, none, some}
 use lib.Dec.{T, eqb, eqb→eq, eqb-refl}
-use lib.ListN.{length, getD, set}
+use lib.ListN.{length, getD, set, take, drop, length-take}
 use lib.Seq.{getD-set-same, getD-set-other}
+use Rattle.definitions.specs.Limits.{depthLimit}
 use Rattle.definitions.specs.Lists.{isIn}
-use Rattle.definitions.specs.Outcome.{ok}
+use Rattle.definitions.specs.Tree.{Query}
+use Rattle.definitions.specs.Reading.{readQuery}
 use Rattle.definitions.specs.Evaluate.{Bindings}
-use Rattle.query.specs.Seek.{clear, find, fastAnswer}
+use Rattle.definitions.specs.Search.{Tuple, bind}
+use Rattle.laws.specs.Bindings.{Fits}
 use Rattle.scan.specs.Codes.{freeCode}
 use Rattle.query.specs.Codes.{numberAt, bindingsOf}
 use Rattle.query.specs.declared.Context.{Context}
 use Rattle.query.specs.StoreLent.{settingIn}
+use Rattle.seeking.specs.Seeking.{holds}
+use Rattle.seeking.specs.Parts.{partsWidth, PartsOf}
 use Rattle.search.specs.Ready.{Ready}
-use Rattle.search.specs.Finding.{numbersFrom, tupleOf, lastOf, World, setting, ReadyFor, FindOf, AnswerOf}
+use Rattle.search.specs.Finding.{clear, numbersFrom, tupleOf, lastOf, World, Parted, First, isAfter, From, Once, Cleared, setting, ReadyFor, Good, FirstOf, FindOf, AfterOf, AnswerOf}
 use Rattle.search.specs.declared.Block.{Block}
 use Rattle.search.specs.declared.Found.{Found}
-use Rattle.search.proofs.FastAnswer.{distinct-once, fast-answer}
+use Rattle.search.proofs.FirstTuple.{first-map, Good as GoodAnswer, answer-first}
+use Rattle.search.proofs.Chosen.{distinct-once, clear-cleared, clear-bind}
 use Rattle.search.proofs.ReadyLaws.{ready-clear}
-use Rattle.search.proofs.LevelLaws.{numbers-none, numbers-more}
+use Rattle.search.proofs.TupleArrays.{numbers-none, numbers-more}
+use Rattle.search.proofs.FindLaws.{from-zero}
 
 -- ── a block's variables not known ───────────────────────────────────────────────────────────
 
@@ -61,21 +68,53 @@ module _ (vars : List ℕ) (size : ℕ) (whole : Bindings) (j : ℕ) (opened : L
 pub clear-start : (vars : List ℕ) (size : ℕ) (γ : Bindings) → clear (numbersFrom size vars 0) γ ≡ clear (numbersFrom (size - 0) vars 0) γ
 clear-start vars size γ = let e : size - 0 ≡ size = omega arith in rw e refl
 
+-- ── the parts of its query ──────────────────────────────────────────────────────────────────
+
+pub parted : (script : List ℕ) (x : Context) (block : Block) (size : ℕ) (list : List ℕ) → size ≤ partsWidth
+    → ((q : Query) (m : ℕ) → readQuery script (x .loaded) depthLimit (block .«at») ≡ some (q, m) → PartsOf script (x .loaded) (take size list) q)
+    → Parted script (take (size - 0) (drop 0 list)) x block
+parted script x block size list h f =
+    let e : size - 0 ≡ size = omega arith in
+    subst⁻¹ (λ (n : ℕ). Parted script (take n list) x block) e (record { room = omega (arith, length-take size list, h); each = f })
+
 -- ── the answer ──────────────────────────────────────────────────────────────────────────────
 
 module _ {script ranks table quads leasts : List ℕ} {x : Context} {block : Block} (w : World script ranks table quads leasts x block) (known opened : List ℕ) (started : Bool)
     (cleared : bindingsOf opened ≡ clear (numbersFrom (block .size) (block .vars) 0) (bindingsOf known)) where
-  pub answer-is : (r : Found) → FindOf w opened 0 started r → AnswerOf w known started r
-  unfolding fastAnswer settingIn
-  answer-is r h apart ready =
-      let vs = numbersFrom (block .size) (block .vars) 0 in
+  abbrev own : List ℕ
+  own = numbersFrom (block .size) (block .vars) 0
+
+  abbrev last : Option Tuple
+  last = lastOf started (block .last) 0 (block .size)
+
+  -- the first of the good tuples that pass a test is the machine's answer, where the test is to come after the last
+  from-first : (P : Tuple → Type 0) → ((t : Tuple) → P t → T (isAfter last t)) → ((t : Tuple) → T (isAfter last t) → P t) → (r : Found)
+      → FirstOf w opened 0 P r → AnswerOf w known started r
+  unfolding settingIn
+  from-first P into out r h apart ready =
       let all : block .size - 0 ≡ block .size = omega arith in
-      let last = lastOf started (block .last) 0 (block .size) in
-      let r₁ : ReadyFor w opened vs =
-      subst⁻¹ (λ (δ : Bindings). Ready (w .schema) (w .typing) (w .terms) δ vs (w .tree)) cleared
-      (ready-clear (w .schema) (w .typing) (w .terms) (bindingsOf known) (w .tree) vs ready) in
-      let found : tupleOf r 0 (block .size) ≡ find (setting w) (w .typing) (w .terms) (w .rows) (w .tree) vs (bindingsOf opened) last =
-      subst (λ (n : ℕ). ReadyFor w opened (numbersFrom n (block .vars) 0)
-      → tupleOf r 0 n ≡ find (setting w) (w .typing) (w .terms) (w .rows) (w .tree) (numbersFrom n (block .vars) 0) (bindingsOf opened) (lastOf started (block .last) 0 n)) all h r₁ in
-      fast-answer (setting w) (w .typing) (w .terms) (w .rows) (bindingsOf known) vs (distinct-once vs apart) (w .tree) ready last
-      ∙ ap ok (sym (found ∙ ap (λ (δ : Bindings). find (setting w) (w .typing) (w .terms) (w .rows) (w .tree) vs δ last) cleared))
+      let whole : bindingsOf opened ≡ clear own (bindingsOf known) = cleared in
+      let ready₁ : ReadyFor w opened own =
+      subst⁻¹ (λ (δ : Bindings). Ready (w .schema) (w .typing) (w .terms) δ own (w .tree)) whole
+      (ready-clear (w .schema) (w .typing) (w .terms) (bindingsOf known) (w .tree) own ready) in
+      let found : First (λ t. Good w opened own t × P t) (tupleOf r 0 (block .size)) =
+      subst (λ (n : ℕ). Once (numbersFrom n (block .vars) 0) → ReadyFor w opened (numbersFrom n (block .vars) 0) → Cleared (numbersFrom n (block .vars) 0) (bindingsOf opened)
+      → First (λ t. Good w opened (numbersFrom n (block .vars) 0) t × P t) (tupleOf r 0 n)) all h (distinct-once own apart) ready₁
+      (subst⁻¹ (Cleared own) whole (clear-cleared own (bindingsOf known))) in
+      answer-first (setting w) (w .typing) (w .terms) (w .rows) (bindingsOf known) own (w .tree) ready last (tupleOf r 0 (block .size))
+      (first-map (λ t. Good w opened own t × P t) (GoodAnswer (setting w) (w .typing) (w .terms) (w .rows) (bindingsOf known) own (w .tree) ready last)
+      (λ u g. (g .0 .0, into u (g .1), subst (λ (δ : Bindings). T (holds (setting w) (w .terms) (w .rows) δ (w .tree))) (same u (g .0 .0)) (g .0 .1)))
+      (λ u g. ((g .0, subst⁻¹ (λ (δ : Bindings). T (holds (setting w) (w .terms) (w .rows) δ (w .tree))) (same u (g .0)) (g .2)), out u (g .1)))
+      (tupleOf r 0 (block .size)) found)
+    where
+      same : (u : Tuple) → Fits (w .schema) (w .typing) (w .terms) own u → bind own u (bindingsOf opened) ≡ bind own u (bindingsOf known)
+      same u f = ap (bind own u) cleared ∙ clear-bind (w .schema) (w .typing) (w .terms) own (bindingsOf known) u f
+
+  pub answer-begins : started ≡ false → (r : Found) → FindOf w opened 0 0 r → AnswerOf w known started r
+  answer-begins e = from-first (From 0) (λ t q. rw e tt) (λ t q. from-zero t)
+
+  pub answer-goes-on : started ≡ true → (r : Found) → AfterOf w opened 0 r → AnswerOf w known started r
+  answer-goes-on e r h =
+      let all : block .size - 0 ≡ block .size = omega arith in
+      from-first (λ t. T (isAfter (lastOf true (block .last) 0 (block .size - 0)) t)) (λ t q. rw e (subst (λ (n : ℕ). T (isAfter (lastOf true (block .last) 0 n) t)) all q))
+      (λ t q. subst⁻¹ (λ (n : ℕ). T (isAfter (lastOf true (block .last) 0 n) t)) all (subst (λ (b : Bool). T (isAfter (lastOf b (block .last) 0 (block .size)) t)) e q)) r h

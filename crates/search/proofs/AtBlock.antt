@@ -6,7 +6,7 @@ use mathlib.Core.Bool.{Bool, not, _||_}
 use mathlib.Core.Option.{some}
 use lib.Dec.{T, eqb}
 use lib.ListN.{length, getD}
-use Rattle.definitions.specs.Limits.{ranksWidth, variableLimit, pairLimit}
+use Rattle.definitions.specs.Limits.{depthLimit, ranksWidth, variableLimit, pairLimit}
 use Rattle.definitions.specs.Bytes.{signed}
 use Rattle.definitions.specs.Lists.{every, distinct, isIn}
 use Rattle.definitions.specs.Types.{typeOfCode}
@@ -104,7 +104,7 @@ module _ (c : Checked) (accepted : Accepted c) (s : State) (sound : Sound c s) w
 
     module _ (script ranks : List ℕ) {table quads leasts : List ℕ} {x : Context} (ranked : length ranks ≡ ranksWidth) (told : Told x)
         (lent : StoreLent table quads leasts x (c .schema) (s .store .terms) (s .store .quads))
-        (b : Block) (next : ℕ) (read : readQuery script (x .loaded) (b .left) (b .«at») ≡ some (q, next)) (size : b .size ≤ pairLimit)
+        (b : Block) (next : ℕ) (read : readQuery script (x .loaded) depthLimit (b .«at») ≡ some (q, next)) (size : b .size ≤ pairLimit)
         (small : (j : ℕ) → getD (b .vars) j 0 < variableLimit)
         (types : (k : ℕ) → k < b .size → typeOfCode (getD (b .types) k 0) ≡ some (typeAt (c .types) (getD (b .vars) k 0))) where
       -- what is lent stands for

@@ -1,45 +1,53 @@
--- The search over bytes and arrays is the model's: one law for each way through the code.
-use Prim.Native.Nat.{ℕ, _+_, _-_, _≤_, _<_}
+-- The search over bytes and arrays: one law for each way through the code.
+use Prim.Native.Nat.{ℕ, zero, suc, _+_, _-_, _≤_, _<_, min}
 use native.Mathlib.Omega.{arith}
-use mathlib.Core.Path.{_≡_, refl, sym, _∙_, ap, ap₂, subst, subst⁻¹, fun-ext}
+use mathlib.Core.Path.{_≡_, refl, sym, _∙_, ap, subst, subst⁻¹, fun-ext}
 use mathlib.Core.Logic.{⊎-elim}
 use mathlib.Core.List.{List, [], _∷_}
-use mathlib.Core.Bool.{Bool, true, false, cond, _&&_}
+use mathlib.Core.Bool.{Bool, true, false, cond, true≢false}
 use mathlib.Core.Option.{Option, none, some}
-use lib.Dec.{T, eqb, eqb→eq}
+use lib.Dec.{T, eqb, eqb→eq, eqb-refl, lt→ltb}
 use lib.ListN.{length, getD, set}
 use lib.Seq.{getD-set-same, getD-set-other}
-use borrow.Author.Tests.{lt-ltb, eq-eqb, ne-eqb}
-use Rattle.definitions.specs.Limits.{variableLimit}
+use borrow.Author.Tests.{lt-ltb}
+use Rattle.definitions.specs.Limits.{depthLimit, variableLimit}
+use Rattle.definitions.specs.Lists.{isIn}
 use Rattle.definitions.specs.Tree.{Query}
 use Rattle.definitions.specs.Reading.{readQuery}
 use Rattle.definitions.specs.Evaluate.{Bindings, Quad, query}
-use Rattle.definitions.specs.Search.{Tuple}
+use Rattle.definitions.specs.Search.{Tuple, earlier, bind}
 use Rattle.definitions.specs.Sound.{numberHas}
+use Rattle.definitions.specs.Values.{before}
 use Rattle.codes.specs.TypeCodes.{codeLeq}
 use Rattle.laws.proofs.Ranges.{split}
 use Rattle.laws.proofs.Reading.{same-read}
+use Rattle.laws.proofs.Tests.{isTrue}
 use Rattle.laws.specs.Walks.{Loads, Walked}
 use Rattle.laws.proofs.NoFault.{fine-ok}
 use Rattle.laws.specs.Bindings.{Holds}
-use Rattle.laws.specs.ReadAnswers.{isSome}
-use Rattle.query.specs.Seek.{passes, seek, skip, set as bindTo, isLast, restOf, tries, ahead, next, nextAfter, mayHold, hopeAt, hopeful, find}
+use Rattle.laws.proofs.Bindings.{test-holds, holds-test, is-below}
+use Rattle.query.specs.Known.{passes}
 use Rattle.scan.specs.Codes.{soughtCode, freeCode}
 use Rattle.query.specs.Codes.{numberAt, bindingsOf}
 use Rattle.query.specs.declared.Context.{Context}
 use Rattle.query.specs.StoreLent.{settingIn, rowsOf}
 use Rattle.query.specs.Eval.{RanksLent, HoldsOf}
-use Rattle.search.specs.Seeking.{SeekOf}
-use Rattle.search.specs.Ready.{Ready}
-use Rattle.search.specs.Finding.{numbersFrom, tupleOf, lastOf, skipTypes, World, later, setting, ReadyFor, NextOf, NextAfter, HopeAt, hopeFrom, HopeOf, findFrom, FindOf}
-use Rattle.search.specs.declared.Block.{Block}
-use Rattle.search.specs.declared.Found.{Found}
 use Rattle.query.proofs.Outcomes.{ok-passes}
 use Rattle.query.proofs.TermLaws.{few}
+use Rattle.seeking.specs.Seeking.{Keeps, holds, Reaches, SeekOf, Denies}
+use Rattle.seeking.specs.Parts.{PartsOf}
+use Rattle.search.specs.Ready.{Ready}
+use Rattle.search.specs.Finding.{numbersFrom, tupleOf, lastOf, skipTypes, skip, bindTo, World, Parted, later, First, From, Once, Cleared, setting, Has, ReadyFor, Passes, PassedTo, NextOf}
+use Rattle.search.specs.Finding.{HopeAt, HopeOf, WorthOf, Good, FirstOf, FindOf, AfterOf, isAfter}
+use Rattle.search.specs.declared.Block.{Block}
+use Rattle.search.specs.declared.Found.{Found}
 use Rattle.search.proofs.TypeLaws.{has-code, skip-is, skip-low}
+use Rattle.search.proofs.TupleOrder.{lower, alike}
+use Rattle.search.proofs.FirstTuple.{first-map}
+use Rattle.search.proofs.TryLaws.{skip-reaches, skip-typed, earlier-cases}
 use Rattle.search.proofs.ReadyLaws.{ready-sure, ready-fine, ready-set, ready-more}
-use Rattle.search.proofs.FastAnswer.{next-floor, next-holds, after-floor, after-holds}
-use Rattle.search.proofs.LevelLaws.{level-past, level-none, level-found, level-on, numbers-none, numbers-more, start-of, last-of, rest-of, ahead-of, tuple-set}
+use Rattle.search.proofs.Chosen.{cleared-set, keeps-bind, set-keeps, set-bind-at, tuple-has}
+use Rattle.search.proofs.TupleArrays.{numbers-none, numbers-more, in-later, tuple-set}
 
 -- ── one more variable known ─────────────────────────────────────────────────────────────────
 
@@ -49,23 +57,33 @@ module _ (known : List ℕ) (v i : ℕ) (inside : v < length known) (small : i <
   set-bindings = fun-ext at
     where
       at : (x : ℕ) → numberAt (getD (set known v i) x freeCode) ≡ cond (eqb x v) (some i) (numberAt (getD known x freeCode))
-      at x = go (eqb x v) (eqb→eq x v) (λ (e : x ≡ v). subst⁻¹ (λ y. T (eqb y v)) e (lib.Dec.eqb-refl v))
+      at x = go (eqb x v) (eqb→eq x v) (λ (e : x ≡ v). subst⁻¹ (λ y. T (eqb y v)) e (eqb-refl v))
         where
           go : (b : Bool) → (T b → x ≡ v) → (x ≡ v → T b) → numberAt (getD (set known v i) x freeCode) ≡ cond b (some i) (numberAt (getD known x freeCode))
           go true e f = rw (e tt, getD-set-same known v i freeCode inside, lt-ltb i soughtCode small) refl
           go false e f = rw (getD-set-other known v x i freeCode (λ e. f e)) refl
 
+pub from-zero : (t : Tuple) → From 0 t
+from-zero [] = tt
+from-zero (i ∷ t) = omega arith
+
 -- ── what is lent to the search ──────────────────────────────────────────────────────────────
 
 module _ {script ranks table quads leasts : List ℕ} {x : Context} {block : Block} (w : World script ranks table quads leasts x block) where
-  pub loads-here : Loads (readQuery script (x .loaded) (block .left) (block .«at»))
+  pub loads-here : Loads (readQuery script (x .loaded) depthLimit (block .«at»))
   loads-here = (w .tree, w .next, w .read)
 
   pub lent-here : (known : List ℕ) → length known ≡ variableLimit → RanksLent ranks table known x
   lent-here known h = record { ranked = w .ranked; terms = record { terms = w .terms; tabled = w .lent .tabled; told = w .told; variables = h } }
 
+  pub parts-here : {parts : List ℕ} → Parted script parts x block → PartsOf script (x .loaded) parts (w .tree)
+  parts-here p = p .each (w .tree) (w .next) (w .read)
+
   counted : x .count ≡ length (w .terms)
   counted = sym (w .lent .tabled .counted)
+
+  pub few-terms : x .count ≤ 512
+  few-terms = few table x (w .terms) (w .lent .tabled)
 
   abbrev vars : List ℕ
   vars = block .vars
@@ -73,38 +91,35 @@ module _ {script ranks table quads leasts : List ℕ} {x : Context} {block : Blo
   abbrev size : ℕ
   size = block .size
 
+  small-number : {δ : Bindings} {k : ℕ} (h : Has w δ k) → h .number < x .count
+  small-number h = omega (arith, is-below (w .terms) (h .number) (h .typed .term) (h .typed .there), counted)
+
   module _ (known : List ℕ) where
     abbrev γ : Bindings
     γ = bindingsOf known
 
-    abbrev nextAt : ℕ → ℕ → ℕ
-    nextAt v lo = next (setting w) (w .typing) (w .terms) (w .rows) (w .tree) γ v lo
-
-    abbrev findAt : List ℕ → Bindings → Option Tuple → Option Tuple
-    findAt vs δ o = find (setting w) (w .typing) (w .terms) (w .rows) (w .tree) vs δ o
-
-    abbrev seekAt : ℕ → ℕ → ℕ
-    seekAt v lo = seek (setting w) (w .terms) (w .rows) γ v (w .tree) lo
-
-    -- what a walk over the block's query gives
-    abbrev Sought : (Query → Type 0) → ℕ → Type 0
-    Sought P n = Walked P (readQuery script (x .loaded) (block .left) (block .«at»)) n
-
-    -- ── the seek ──────────────────────────────────────────────────────────────────────────────
-
-    seek-is : (v lo : ℕ) {a n : ℕ} → Sought (SeekOf ranks table known x (rowsOf quads x) v lo a) n → (vs : List ℕ) → ReadyFor w known vs → a ≡ seekAt v lo
+    -- what a seek promises, of the block's query
+    reaches : (v lo a : ℕ) → SeekOf ranks table known x (rowsOf quads x) v lo a (w .tree) → (vs : List ℕ) → ReadyFor w known vs
+        → Reaches (setting w) (w .terms) (w .rows) γ v lo a (w .tree)
     unfolding settingIn
-    seek-is v lo {a} s vs r =
-        let h : SeekOf ranks table known x (w .rows) v lo a (w .tree) =
-        subst (λ (rows : List Quad). SeekOf ranks table known x rows v lo a (w .tree)) (w .lent .quadsAre)
-        (subst (SeekOf ranks table known x (rowsOf quads x) v lo a) (same-read (s .read) (w .read) .0) (s .holds)) in
+    reaches v lo a s vs r =
+        let h : SeekOf ranks table known x (w .rows) v lo a (w .tree) = subst (λ (rows : List Quad). SeekOf ranks table known x rows v lo a (w .tree)) (w .lent .quadsAre) s in
         h .1 (w .schema) (w .terms) (w .lent .tabled .reads) (ready-sure (setting w) (w .typing) (w .terms) (w .rows) γ (w .tree) vs r)
+
+    denied : (v number : ℕ) → Denies ranks table known x (rowsOf quads x) v number (w .tree) → (vs : List ℕ) → ReadyFor w known vs
+        → (δ : Bindings) → Passes w known δ → δ v ≡ some number → ⊥
+    unfolding settingIn
+    denied v number s vs r δ p is =
+        let h : Denies ranks table known x (w .rows) v number (w .tree) = subst (λ (rows : List Quad). Denies ranks table known x rows v number (w .tree)) (w .lent .quadsAre) s in
+        h (w .schema) (w .terms) (w .lent .tabled .reads) (ready-sure (setting w) (w .typing) (w .terms) (w .rows) γ (w .tree) vs r) δ (p .0) is (p .1)
+
+    -- ── the next number ───────────────────────────────────────────────────────────────────────
 
     module _ (k : ℕ) (below : k < size) where
       abbrev v : ℕ
       v = getD vars k 0
 
-      coded : (i : ℕ) → i < x .count → codeLeq (getD leasts i 0) (getD (block .types) k 0) ≡ numberHas (w .schema) (w .terms) i (w .typing v)
+      pub coded : (i : ℕ) → i < x .count → codeLeq (getD leasts i 0) (getD (block .types) k 0) ≡ numberHas (w .schema) (w .terms) i (w .typing v)
       coded i h = has-code (w .schema) (w .terms) leasts (w .lent .leastOf) (getD (block .types) k 0) (w .typing v) (w .types k below) i (omega (arith, counted))
 
       skipped : (i : ℕ) → skipTypes leasts (getD (block .types) k 0) (x .count - i) i ≡ skip (w .schema) (w .typing v) (w .terms) (length (w .terms) - i) i
@@ -117,227 +132,387 @@ module _ {script ranks table quads leasts : List ℕ} {x : Context} {block : Blo
           ∙ skip-is (w .schema) (w .terms) leasts (w .lent .leastOf) (getD (block .types) k 0) (w .typing v) (w .types k below) (length (w .terms) - i) i (omega arith))
           (split (x .count) i)
 
-      pub next-is : (lo : ℕ) {a n r : ℕ} → Sought (SeekOf ranks table known x (rowsOf quads x) v lo a) n
-          → r ≡ skipTypes leasts (getD (block .types) k 0) (x .count - a) a → NextOf w known k lo r
-      unfolding next settingIn
-      next-is lo {a} s e = (
-        omega (arith, s .holds .0, skip-low leasts (getD (block .types) k 0) (x .count - a) a),
-        λ vs r.
-            let i = seek-is v lo s vs r in
-            e ∙ (skipped a ∙ ap (λ j. skip (w .schema) (w .typing v) (w .terms) (length (w .terms) - j) j) i),
-      )
+      module _ (lo : ℕ) where
+        -- the numbers from lo on are passed up to one
+        abbrev pub SoFar : ℕ → Type 0
+        SoFar from = (min lo (x .count) ≤ from) × PassedTo w known k lo from
 
-    -- ── the later variables ───────────────────────────────────────────────────────────────────
+        pub next-starts : SoFar lo
+        next-starts = (omega arith, λ vs r δ p h l. l)
 
-    module _ (j : ℕ) where
-      pub hopeful-ends : size ≤ j → hopeFrom w known j ≡ true
-      unfolding hopeful
-      hopeful-ends h = rw (numbers-none vars size j h) refl
+        module _ (from : ℕ) (so-far : SoFar from) where
+          pub next-past : x .count ≤ from → NextOf w known k lo (x .count)
+          next-past h = (omega arith, λ b. absurd (omega arith), λ vs r δ p a l. omega (arith, h, so-far .1 vs r δ p a l))
 
-      module _ (h : j < size) {b : Bool} (e : HopeAt w known j b) (vs : List ℕ) (r : ReadyFor w known vs) where
-        opened : hopeFrom w known j ≡ b && hopeFrom w known (j + 1)
-        unfolding hopeful
-        opened = rw (numbers-more vars size j h) (ap (λ x. x && hopeFrom w known (j + 1)) (sym (e vs r)))
+          module _ (s : ℕ) (es : SeekOf ranks table known x (rowsOf quads x) v from s (w .tree)) where
+            to-seek : PassedTo w known k lo s
+            to-seek vs r δ p h l = reaches v from s es vs r δ (p .0) (h .number) (h .is) (so-far .1 vs r δ p h l) (p .1)
 
-        pub hopeful-lost : b ≡ false → hopeFrom w known j ≡ false
-        hopeful-lost f = opened ∙ rw f refl
+            module _ (typed : ℕ) (et : typed ≡ skipTypes leasts (getD (block .types) k 0) (x .count - s) s) where
+              pub next-here : typed ≡ s → NextOf w known k lo s
+              next-here e = (
+                omega (arith, so-far .0, es .0),
+                λ b.
+                    let f : skip (w .schema) (w .typing v) (w .terms) (length (w .terms) - s) s ≡ s = sym (skipped s) ∙ (sym et ∙ e) in
+                    test-holds (w .schema) (w .terms) (w .typing v) s
+                    (subst (λ i. T (numberHas (w .schema) (w .terms) i (w .typing v))) f
+                    (skip-typed (w .schema) (w .typing v) (w .terms) (length (w .terms) - s) s (omega arith) (omega (arith, f, counted, b)))),
+                to-seek,
+              )
 
-        pub hopeful-on : b ≡ true → hopeFrom w known j ≡ hopeFrom w known (j + 1)
-        hopeful-on f = opened ∙ rw f refl
+              pub next-higher : s ≤ typed
+              next-higher = omega (arith, et, skip-low leasts (getD (block .types) k 0) (x .count - s) s)
 
-    module _ (k : ℕ) (tight : Bool) where
-      -- ── past the last level ─────────────────────────────────────────────────────────────────
+              pub next-on : SoFar typed
+              next-on = (
+                omega (arith, so-far .0, es .0, next-higher),
+                λ vs r δ p h l.
+                    subst⁻¹ (λ i. i ≤ h .number) (et ∙ skipped s)
+                    (skip-reaches (w .schema) (w .typing v) (w .terms) (length (w .terms) - s) s (h .number) (to-seek vs r δ p h l) (holds-test (w .schema) (w .terms) (w .typing v) (h .number) (h .typed))),
+              )
 
-      module _ (over : size ≤ k) (t : List ℕ) where
-        none-left : size - k ≡ 0
-        none-left = omega arith
+    -- ── a number chosen ───────────────────────────────────────────────────────────────────────
 
-        pub find-tight : tight ≡ true → FindOf w known k tight (record { found = false; tuple = t })
-        unfolding find
-        find-tight e r = rw (numbers-none vars size k over, e) refl
+    module _ (k i : ℕ) (small : i < x .count) (inside : getD vars k 0 < length known) where
+      abbrev with : List ℕ
+      with = set known (getD vars k 0) i
 
-        pub find-test : tight ≡ false → {b : Bool} {m n : ℕ} → Sought (HoldsOf ranks table known x (rowsOf quads x) b m) n
-            → FindOf w known k tight (record { found = b; tuple = t })
-        unfolding find numbersFrom settingIn
-        find-test e {b} {m} s r =
-            let h : HoldsOf ranks table known x (w .rows) b m (w .tree) =
-            subst (λ (rows : List Quad). HoldsOf ranks table known x rows b m (w .tree)) (w .lent .quadsAre)
-            (subst (HoldsOf ranks table known x (rowsOf quads x) b m) (same-read (s .read) (w .read) .0) (s .holds)) in
-            let r₀ : ReadyFor w known [] = subst (ReadyFor w known) (numbers-none vars size k over) r in
-            let f = fine-ok (ready-fine (setting w) (w .typing) (w .terms) (w .rows) γ (w .tree) r₀) in
-            let p : b ≡ passes (query (setting w) (w .terms) (w .rows) γ (w .tree)) =
-            h (w .schema) (w .terms) (w .lent .tabled .reads) (f .0) (f .1) .0 ∙ sym (ok-passes (f .1)) in
-            rw (none-left, e) (ap (λ c. cond c (some []) none) p)
+      with-is : bindingsOf with ≡ bindTo (getD vars k 0) i γ
+      with-is = set-bindings known (getD vars k 0) i inside (omega (arith, few-terms))
 
-      -- ── a level's loop ──────────────────────────────────────────────────────────────────────
+      pub with-here : bindingsOf with (getD vars k 0) ≡ some i
+      with-here = ap (λ (δ : Bindings). δ (getD vars k 0)) with-is ∙ rw (isTrue (eqb (getD vars k 0) (getD vars k 0)) (eqb-refl (getD vars k 0))) refl
 
-      abbrev lastHere : Option Tuple
-      lastHere = lastOf tight (block .last) k (size - k)
+      pub with-passes : {δ : Bindings} → Passes w known δ → δ (getD vars k 0) ≡ some i → Passes w with δ
+      with-passes {δ} p is = (subst⁻¹ (λ (β : Bindings). Keeps β δ) with-is (set-keeps (getD vars k 0) i γ δ (p .0) is), p .1)
 
-      -- what the levels after this one find, with number i here
-      abbrev body : ℕ → Option Tuple
-      body i =
-          let rest = later block (k + 1) in
-          let δ = bindTo (getD vars k 0) i γ in
-          cond (hopeful (setting w) (w .typing) (w .terms) (w .rows) (w .tree) δ (ahead (restOf lastHere i) rest)) (findAt rest δ (restOf lastHere i)) none
+      module _ (typed : Holds (w .schema) (w .terms) i (w .typing (getD vars k 0))) where
+        -- for the same variables
+        pub with-ready : (vs : List ℕ) → ReadyFor w known vs → ReadyFor w with vs
+        with-ready vs r =
+            subst⁻¹ (λ (δ : Bindings). Ready (w .schema) (w .typing) (w .terms) δ vs (w .tree)) with-is
+            (ready-set (w .schema) (w .typing) (w .terms) γ (w .tree) (getD vars k 0) i vs (ready-more (w .schema) (w .typing) (w .terms) γ (w .tree) (getD vars k 0) vs r) typed)
 
-      abbrev stepAt : ℕ → ℕ
-      stepAt lo = nextAfter (setting w) (w .typing) (w .terms) (w .rows) (w .tree) γ (getD vars k 0) lastHere lo
+        -- and for those after it
+        pub with-rest : (vs : List ℕ) → ReadyFor w known (getD vars k 0 ∷ vs) → ReadyFor w with vs
+        with-rest vs r =
+            subst⁻¹ (λ (δ : Bindings). Ready (w .schema) (w .typing) (w .terms) δ vs (w .tree)) with-is
+            (ready-set (w .schema) (w .typing) (w .terms) γ (w .tree) (getD vars k 0) i vs r typed)
 
-      abbrev level : ℕ → Option Tuple
-      level lo = tries body stepAt (length (w .terms)) (length (w .terms)) lo
+  module _ (known : List ℕ) where
+    -- ── a variable that still has a number ────────────────────────────────────────────────────
 
-      -- the level from lo on gives the result
-      abbrev pub SoFar : ℕ → Type 0
-      SoFar lo = ReadyFor w known (later block k) → findFrom w known k tight ≡ level lo
-
-      module _ (below : k < size) where
-        -- ── the next number, after the last tuple ───────────────────────────────────────────────
-
-        module _ (lo : ℕ) (h : lo < x .count) {t : Bool} (et : t ≡ codeLeq (getD leasts lo 0) (getD (block .types) k 0)) where
-          chosen : isLast lastHere lo && numberHas (w .schema) (w .terms) lo (w .typing (getD vars k 0)) ≡ (tight && eqb lo (getD (block .last) k 0)) && t
-          chosen = ap₂ (λ (a b : Bool). a && b) (last-of tight (block .last) size k below lo) (sym (et ∙ coded k below lo h))
-
-          pub after-own : (tight && eqb lo (getD (block .last) k 0)) && t ≡ true → NextAfter w known k tight lo lo
-          unfolding nextAfter settingIn
-          after-own o = (omega arith, λ vs r. sym (ap (λ (b : Bool). cond b lo (nextAt (getD vars k 0) lo)) (chosen ∙ o)))
-
-          pub after-sought : (tight && eqb lo (getD (block .last) k 0)) && t ≡ false → {r : ℕ} → NextOf w known k lo r → NextAfter w known k tight lo r
-          unfolding nextAfter settingIn
-          after-sought o n = (n .0, λ vs r. n .1 vs r ∙ sym (ap (λ (b : Bool). cond b lo (nextAt (getD vars k 0) lo)) (chosen ∙ o)))
-
-        pub level-enter : (lo : ℕ) → lo ≡ cond tight (getD (block .last) k 0) 0 → SoFar lo
-        unfolding find
-        level-enter lo e r = rw (numbers-more vars size k below) (ap level (start-of tight (block .last) size k below ∙ sym e))
-
-        module _ (lo : ℕ) (so-far : SoFar lo) (t : List ℕ) where
-          floor : (lo : ℕ) → stepAt lo < length (w .terms) → lo ≤ stepAt lo
-          floor lo h = after-floor (setting w) (w .typing) (w .terms) (w .rows) (w .tree) γ (getD vars k 0) lastHere lo h
-
-          pub find-past : x .count ≤ lo → FindOf w known k tight (record { found = false; tuple = t })
-          find-past h r = level-past body stepAt (length (w .terms)) floor lo (findFrom w known k tight) (so-far r) (omega (arith, counted))
-
-          module _ (i : ℕ) (ei : NextAfter w known k tight lo i) where
-            pub find-none : x .count ≤ i → FindOf w known k tight (record { found = false; tuple = t })
-            find-none h r =
-                level-none body stepAt (length (w .terms)) floor lo (findFrom w known k tight) (so-far r) i (ei .1 (later block k) r) (omega (arith, counted))
-
-            module _ (small : i < x .count) (inside : getD vars k 0 < length known) where
-              abbrev with : List ℕ
-              with = set known (getD vars k 0) i
-
-              abbrev rest : List ℕ
-              rest = later block (k + 1)
-
-              with-is : bindingsOf with ≡ bindTo (getD vars k 0) i γ
-              with-is = set-bindings known (getD vars k 0) i inside (omega (arith, few table x (w .terms) (w .lent .tabled)))
-
-              ready-rest : ReadyFor w known (later block k) → ReadyFor w with rest
-              unfolding settingIn
-              ready-rest r =
-                  let r₁ : ReadyFor w known (getD vars k 0 ∷ rest) = subst (ReadyFor w known) (numbers-more vars size k below) r in
-                  let h = after-holds (setting w) (w .typing) (w .terms) (w .rows) (w .tree) γ (getD vars k 0) lastHere lo
-                  (subst (λ x. x < length (w .terms)) (ei .1 (later block k) r) (omega (arith, counted))) in
-                  subst⁻¹ (λ (δ : Bindings). Ready (w .schema) (w .typing) (w .terms) δ rest (w .tree)) with-is
-                  (ready-set (w .schema) (w .typing) (w .terms) γ (w .tree) (getD vars k 0) i rest r₁
-                  (subst⁻¹ (λ x. Holds (w .schema) (w .terms) x (w .typing (getD vars k 0))) (ei .1 (later block k) r) h))
-
-              turn : ReadyFor w known (later block k) → body i ≡ none → findFrom w known k tight ≡ level (i + 1)
-              turn r b =
-                  level-on body stepAt (length (w .terms)) floor lo (findFrom w known k tight) (so-far r) i (ei .1 (later block k) r) (omega (arith, counted)) b
-
-              -- where the numbers so far are the last tuple's, no variable is asked
-              module _ (still : Bool) (es : still ≡ tight && eqb i (getD (block .last) k 0)) (from : ℕ) (ea : from ≡ cond still size (k + 2))
-                  (f : Bool) (ef : HopeOf w with from f) where
-                body-is : ReadyFor w known (later block k) → body i ≡ cond f (findAt rest (bindingsOf with) (restOf lastHere i)) none
-                body-is r =
-                    ap₂ (λ (c : Bool) (δ : Bindings). cond c (findAt rest δ (restOf lastHere i)) none)
-                    (ap₂ (λ (δ : Bindings) (vs : List ℕ). hopeful (setting w) (w .typing) (w .terms) (w .rows) (w .tree) δ vs)
-                    (sym with-is) (ahead-of tight (block .last) size k below vars i from (ea ∙ ap (λ t. cond t size (k + 2)) es)) ∙ sym (ef rest (ready-rest r))) (sym with-is)
-
-                pub find-skip : f ≡ false → SoFar (i + 1)
-                find-skip e r = turn r (body-is r ∙ rw e refl)
-
-                module _ (e : f ≡ true) (y : Found) (ey : FindOf w with (k + 1) still y) where
-                  rest-is : ReadyFor w known (later block k) → body i ≡ tupleOf y (k + 1) (size - (k + 1))
-                  rest-is r =
-                      body-is r ∙ (ap (λ c. cond c (findAt rest (bindingsOf with) (restOf lastHere i)) none) e
-                      ∙ (ap (findAt rest (bindingsOf with)) (rest-of tight (block .last) size k below i
-                      ∙ ap (λ t. lastOf t (block .last) (k + 1) (size - (k + 1))) (sym es)) ∙ sym (ey (ready-rest r))))
-
-                  pub find-on : y .found ≡ false → SoFar (i + 1)
-                  find-on g r = turn r (rest-is r ∙ rw g refl)
-
-                  pub find-hit : y .found ≡ true → k < length (y .tuple) → FindOf w known k tight (record { found = true; tuple = set (y .tuple) k i })
-                  find-hit g h r =
-                      ap some (tuple-set y size k i below h)
-                      ∙ level-found body stepAt (length (w .terms)) floor lo (findFrom w known k tight) (so-far r) i (ei .1 (later block k) r) (omega (arith, counted))
-                      (numbersFrom (size - (k + 1)) (y .tuple) (k + 1)) (rest-is r ∙ rw g refl)
-
-  -- ── a variable that still has a number ──────────────────────────────────────────────────────
-
-  module _ (known : List ℕ) (j : ℕ) where
-    abbrev here : ℕ
-    here = getD vars j 0
-
-    abbrev may : ℕ → Option Tuple
-    may i = cond (mayHold (setting w) (w .typing) (w .terms) (w .rows) (w .tree) (bindingsOf known) here i) (some []) none
-
-    -- the numbers from lo on decide
-    abbrev pub HopeFrom : ℕ → Type 0
-    HopeFrom lo = (vs : List ℕ) → ReadyFor w known vs
-        → hopeAt (setting w) (w .typing) (w .terms) (w .rows) (w .tree) (bindingsOf known) here
-        ≡ isSome (tries may (nextAt known here) (length (w .terms)) (length (w .terms)) lo)
-
-    pub hope-starts : HopeFrom 0
-    unfolding hopeAt
-    hope-starts vs r = refl
-
-    floor-here : (lo : ℕ) → nextAt known here lo < length (w .terms) → lo ≤ nextAt known here lo
-    floor-here lo h = next-floor (setting w) (w .typing) (w .terms) (w .rows) (w .tree) (bindingsOf known) here lo h
-
-    module _ (lo : ℕ) (so-far : HopeFrom lo) where
-      abbrev whole : Option Tuple
-      whole = tries may (nextAt known here) (length (w .terms)) (length (w .terms)) lo
-
+    module _ (j lo : ℕ) (so-far : PassedTo w known j 0 lo) where
       pub hope-past : x .count ≤ lo → HopeAt w known j false
-      hope-past h vs r =
-          sym (so-far vs r ∙ ap isSome (sym (level-past may (nextAt known here) (length (w .terms)) floor-here lo whole refl (omega (arith, counted)))))
+      hope-past h e vs r δ p a = omega (arith, h, small-number a, so-far vs r δ p a (omega arith))
 
       module _ (i : ℕ) (ei : NextOf w known j lo i) where
+        at-least : (vs : List ℕ) → ReadyFor w known vs → (δ : Bindings) → Passes w known δ → (h : Has w δ j) → i ≤ h .number
+        at-least vs r δ p h = ei .2 vs r δ p h (so-far vs r δ p h (omega arith))
+
         pub hope-none : x .count ≤ i → HopeAt w known j false
-        hope-none h vs r =
-            sym (so-far vs r ∙ ap isSome (sym (level-none may (nextAt known here) (length (w .terms)) floor-here lo whole refl i (ei .1 vs r) (omega (arith, counted)))))
+        hope-none h e vs r δ p a = omega (arith, h, small-number a, at-least vs r δ p a)
 
-        module _ (small : i < x .count) (inside : here < length known) {a n : ℕ}
-            (s : Sought (set known here i) (SeekOf ranks table (set known here i) x (rowsOf quads x) here i a) n) where
-          with-here : bindingsOf (set known here i) ≡ bindTo here i (bindingsOf known)
-          with-here = set-bindings known here i inside (omega (arith, few table x (w .terms) (w .lent .tabled)))
+        pub hope-on : (small : i < x .count) (inside : getD vars j 0 < length known)
+            → Denies ranks table (set known (getD vars j 0) i) x (rowsOf quads x) (getD vars j 0) i (w .tree) → PassedTo w known j 0 (i + 1)
+        hope-on small inside d vs r δ p h l =
+            let b = at-least vs r δ p h in
+            let other : h .number ≡ i → ⊥ = (λ (e : h .number ≡ i).
+            let is = h .is ∙ ap some e in
+            denied (set known (getD vars j 0) i) (getD vars j 0) i d vs (with-ready known j i small inside (ei .1 small) vs r) δ (with-passes known j i small inside p is) is) in
+            omega (arith, b, other)
 
-          ready-here : (vs : List ℕ) → ReadyFor w known vs → ReadyFor w (set known here i) vs
-          unfolding settingIn
-          ready-here vs r =
-              let h = next-holds (setting w) (w .typing) (w .terms) (w .rows) (w .tree) (bindingsOf known) here lo
-              (subst (λ x. x < length (w .terms)) (ei .1 vs r) (omega (arith, counted))) in
-              subst⁻¹ (λ (δ : Bindings). Ready (w .schema) (w .typing) (w .terms) δ vs (w .tree)) with-here
-              (ready-set (w .schema) (w .typing) (w .terms) (bindingsOf known) (w .tree) here i vs
-              (ready-more (w .schema) (w .typing) (w .terms) (bindingsOf known) (w .tree) here vs r)
-              (subst⁻¹ (λ x. Holds (w .schema) (w .terms) x (w .typing here)) (ei .1 vs r) h))
+    pub hopeful-lost : (from j : ℕ) {b : Bool} → from ≤ j → j < size → HopeAt w known j b → b ≡ false → HopeOf w known from false
+    hopeful-lost from j l h a f e vs r δ p has = a f vs r δ p (has j l h)
 
-          may-is : (vs : List ℕ) → ReadyFor w known vs → may i ≡ cond (eqb a i) (some []) none
-          may-is vs r =
-              let e = seek-is (set known here i) here i s vs (ready-here vs r) in
-              ap (λ (b : ℕ). cond (eqb b i) (some []) none)
-              (sym (e ∙ ap (λ (δ : Bindings). seek (setting w) (w .terms) (w .rows) δ here (w .tree) i) with-here))
+    pub hopeful-all : (from : ℕ) → HopeOf w known from true
+    hopeful-all from e = absurd (true≢false e)
 
-          pub hope-hit : a ≡ i → HopeAt w known j true
-          hope-hit h vs r =
-              let e = eq-eqb a i h in
-              sym (so-far vs r ∙ ap isSome (sym (level-found may (nextAt known here) (length (w .terms)) floor-here lo whole refl i (ei .1 vs r) (omega (arith, counted)) []
-              (may-is vs r ∙ rw e refl))))
+    -- ── a number that is worth it ─────────────────────────────────────────────────────────────
 
-          pub hope-on : (a ≡ i → ⊥) → HopeFrom (i + 1)
-          hope-on h vs r =
-              let e = ne-eqb a i h in
-              so-far vs r ∙ ap isSome (level-on may (nextAt known here) (length (w .terms)) floor-here lo whole refl i (ei .1 vs r) (omega (arith, counted))
-              (may-is vs r ∙ rw e refl))
+    pub worth-last : (k number : ℕ) → WorthOf w known k number true
+    worth-last k number is = hopeful-all (k + 1)
+
+    pub worth-denied : (k number : ℕ) → Denies ranks table known x (rowsOf quads x) (getD vars k 0) number (w .tree) → WorthOf w known k number false
+    worth-denied k number d is e vs r δ p has = denied known (getD vars k 0) number d vs r δ p (p .0 (getD vars k 0) number is)
+
+    pub worth-hopeful : (k number : ℕ) {b : Bool} → HopeOf w known (k + 1 + 1) b → WorthOf w known k number b
+    worth-hopeful k number h is e vs r δ p has = h e vs r δ p (λ j l b. has j (omega arith) b)
+
+  -- ── one level ─────────────────────────────────────────────────────────────────────────────
+
+  -- what a tuple's bindings are: they keep what is known, and have the tuple's numbers
+  module _ (known : List ℕ) (k : ℕ) (below : k < size) (once : Once (getD vars k 0 ∷ later block (k + 1)))
+      (ready : ReadyFor w known (getD vars k 0 ∷ later block (k + 1))) (cleared : Cleared (getD vars k 0 ∷ later block (k + 1)) (bindingsOf known)) where
+    abbrev here : ℕ
+    here = getD vars k 0
+
+    abbrev rest : List ℕ
+    rest = later block (k + 1)
+
+    abbrev all : List ℕ
+    all = here ∷ rest
+
+    passes-with : (i : ℕ) (t : Tuple) → Good w known all (i ∷ t) → Passes w known (bind all (i ∷ t) (bindingsOf known))
+    passes-with i t g = (keeps-bind all (i ∷ t) (bindingsOf known) cleared, g .1)
+
+    has-here : (i : ℕ) (t : Tuple) → Good w known all (i ∷ t) → Has w (bind all (i ∷ t) (bindingsOf known)) k
+    unfolding bind
+    has-here i t g = record { number = i; is = rw (isTrue (eqb here here) (eqb-refl here)) refl; typed = g .0 .0 }
+
+    -- its number is not passed over
+    pub not-passed : (lo r : ℕ) → PassedTo w known k lo r → (i : ℕ) (t : Tuple) → Good w known all (i ∷ t) → lo ≤ i → r ≤ i
+    unfolding has-here
+    not-passed lo r n i t g l = n all ready (bind all (i ∷ t) (bindingsOf known)) (passes-with i t g) (has-here i t g) l
+
+    pub good-small : (i : ℕ) (t : Tuple) → Good w known all (i ∷ t) → i < x .count
+    unfolding has-here
+    good-small i t g = small-number (has-here i t g)
+
+    module _ (i : ℕ) (small : i < x .count) (inside : here < length known) (typed : Holds (w .schema) (w .terms) i (w .typing here)) where
+      abbrev chosen : List ℕ
+      chosen = set known here i
+
+      same : (t : Tuple) → bind all (i ∷ t) (bindingsOf known) ≡ bind rest t (bindingsOf chosen)
+      unfolding bind
+      same t = fun-ext (set-bind-at here i rest t (bindingsOf known) (once .0)) ∙ ap (bind rest t) (sym (with-is known k i small inside))
+
+      pub narrow : (t : Tuple) → Good w known all (i ∷ t) → Good w chosen rest t
+      narrow t g = (g .0 .1, subst (λ (δ : Bindings). T (holds (setting w) (w .terms) (w .rows) δ (w .tree))) (same t) (g .1))
+
+      pub widen : (t : Tuple) → Good w chosen rest t → Good w known all (i ∷ t)
+      widen t g = ((typed, g .0), subst⁻¹ (λ (δ : Bindings). T (holds (setting w) (w .terms) (w .rows) δ (w .tree))) (same t) (g .1))
+
+      pub chosen-ready : ReadyFor w chosen rest
+      chosen-ready = with-rest known k i small inside typed rest ready
+
+      pub chosen-cleared : Cleared rest (bindingsOf chosen)
+      chosen-cleared = subst⁻¹ (Cleared rest) (with-is known k i small inside) (cleared-set here i rest (bindingsOf known) (once .0) cleared)
+
+      -- where it is not worth it no tuple has it
+      pub not-worth : {b : Bool} → WorthOf w chosen k i b → b ≡ false → (t : Tuple) → Good w known all (i ∷ t) → ⊥
+      not-worth h e t g =
+          let n = narrow t g in
+          let β = bind rest t (bindingsOf chosen) in
+          h (with-here known k i small inside) e rest chosen-ready β (keeps-bind rest t (bindingsOf chosen) chosen-cleared, n .1)
+          (λ j l b. has-later t n j l b)
+        where
+          has-later : (t : Tuple) → Good w chosen rest t → (j : ℕ) → k + 1 ≤ j → j < size → Has w (bind rest t (bindingsOf chosen)) j
+          has-later t n j l b =
+              let a = tuple-has (w .schema) (w .typing) (w .terms) rest t (bindingsOf chosen) (n .0) (getD vars j 0) (in-later vars size (k + 1) j l b) in
+              record { number = a .number; is = a .is; typed = a .typed }
+
+      module _ (P Q : Tuple → Type 0) (out : (t : Tuple) → Q (i ∷ t) → P t) where
+        -- nothing found after it
+        pub none-after : First (λ t. Good w chosen rest t × P t) none → (t : Tuple) → Good w known all (i ∷ t) → Q (i ∷ t) → ⊥
+        none-after h t g q = h t (narrow t g, out t q)
+
+        -- the first tuple after it is the first of all, where no number below it has one
+        pub first-after : ((t : Tuple) → P t → Q (i ∷ t)) → ((j : ℕ) (t : Tuple) → Good w known all (j ∷ t) → Q (j ∷ t) → i ≤ j) → (u : Tuple)
+            → First (λ t. Good w chosen rest t × P t) (some u) → First (λ t. Good w known all t × Q t) (some (i ∷ u))
+        first-after into low u h = ((widen u (h .0 .0), into u (h .0 .1)), least)
+          where
+            least : (s : Tuple) → Good w known all s × Q s → T (earlier s (i ∷ u)) → ⊥
+            least [] g e = g .0 .0
+            least (j ∷ s) g e =
+                earlier-cases j i s u ⊥ (λ (m : j < i). let b = low j s (g .0) (g .1) in omega arith)
+                (λ (m : j ≡ i) (n : T (earlier s u)). h .1 s (narrow s (subst (λ y. Good w known all (y ∷ s)) m (g .0)), out s (subst (λ y. Q (y ∷ s)) m (g .1))) n) e
+
+    -- no tuple at all
+    pub no-tuple : (Q : Tuple → Type 0) → ((i : ℕ) (t : Tuple) → Good w known all (i ∷ t) → Q (i ∷ t) → ⊥) → First (λ t. Good w known all t × Q t) none
+    no-tuple Q f [] g = g .0 .0
+    no-tuple Q f (i ∷ t) g = f i t (g .0) (g .1)
+
+  -- ── past the last level ───────────────────────────────────────────────────────────────────
+
+  module _ (known : List ℕ) (k : ℕ) (over : size ≤ k) where
+    -- with no variable left to choose
+    abbrev Rest : (Tuple → Type 0) → Found → List ℕ → Type 0
+    Rest P r vs = Once vs → ReadyFor w known vs → Cleared vs (bindingsOf known) → First (λ t. Good w known vs t × P t) (tupleOf r k (size - k))
+
+    at-end : (P : Tuple → Type 0) (r : Found) → Rest P r [] → FirstOf w known k P r
+    at-end P r f = subst⁻¹ (Rest P r) (numbers-none vars size k over) f
+
+    pub find-test : (lo : ℕ) (t : List ℕ) {b : Bool} {m n : ℕ} → Walked (HoldsOf ranks table known x (rowsOf quads x) b m) (readQuery script (x .loaded) depthLimit (block .«at»)) n
+        → FindOf w known k lo (record { found = b; tuple = t })
+    unfolding bind settingIn numbersFrom before
+    find-test lo t {b} {m} s = at-end (From lo) (record { found = b; tuple = t }) (λ once ready cleared.
+        let h : HoldsOf ranks table known x (w .rows) b m (w .tree) =
+        subst (λ (rows : List Quad). HoldsOf ranks table known x rows b m (w .tree)) (w .lent .quadsAre)
+        (subst (HoldsOf ranks table known x (rowsOf quads x) b m) (same-read (s .read) (w .read) .0) (s .holds)) in
+        let f = fine-ok (ready-fine (setting w) (w .typing) (w .terms) (w .rows) (bindingsOf known) (w .tree) ready) in
+        let p : b ≡ holds (setting w) (w .terms) (w .rows) (bindingsOf known) (w .tree) =
+        h (w .schema) (w .terms) (w .lent .tabled .reads) (f .0) (f .1) .0 ∙ sym (ok-passes (f .1)) in
+        let e : size - k ≡ 0 = omega arith in
+        rw e (go b p))
+      where
+        go : (b : Bool) → b ≡ holds (setting w) (w .terms) (w .rows) (bindingsOf known) (w .tree)
+            → First (λ u. Good w known [] u × From lo u) (cond b (some []) none)
+        go true p = (((tt, subst T p tt), tt), least)
+          where
+            least : (u : Tuple) → Good w known [] u × From lo u → T (earlier u []) → ⊥
+            least [] g e = e
+            least (i ∷ u) g e = g .0 .0
+        go false p = out
+          where
+            out : (u : Tuple) → Good w known [] u × From lo u → ⊥
+            out [] g = subst T (sym p) (g .0 .1)
+            out (i ∷ u) g = g .0 .0
+
+    pub after-ends : (r : Found) → r .found ≡ false → AfterOf w known k r
+    unfolding numbersFrom before
+    after-ends r f = at-end _ r (λ once ready cleared.
+        let e : size - k ≡ 0 = omega arith in
+        rw (f, e) out)
+      where
+        out : (u : Tuple) → Good w known [] u × T (isAfter (some []) u) → ⊥
+        out [] g = g .1
+        out (i ∷ u) g = g .0 .0
+
+  -- ── the levels ────────────────────────────────────────────────────────────────────────────
+
+  module _ (known : List ℕ) (k : ℕ) (below : k < size) where
+    abbrev this : ℕ
+    this = getD vars k 0
+
+    abbrev both : List ℕ
+    both = this ∷ later block (k + 1)
+
+    -- of the variables from this place on
+    abbrev pub Given : Type 0 → Type 0
+    Given A = Once both → ReadyFor w known both → Cleared both (bindingsOf known) → A
+
+    at-level : (P : Tuple → Type 0) (r : Found) → Given (First (λ t. Good w known both t × P t) (tupleOf r k (size - k))) → FirstOf w known k P r
+    at-level P r f =
+        subst⁻¹ (λ (vs : List ℕ). Once vs → ReadyFor w known vs → Cleared vs (bindingsOf known) → First (λ t. Good w known vs t × P t) (tupleOf r k (size - k)))
+        (numbers-more vars size k below) f
+
+    of-level : (P : Tuple → Type 0) (r : Found) → FirstOf w known k P r → Given (First (λ t. Good w known both t × P t) (tupleOf r k (size - k)))
+    of-level P r f =
+        subst (λ (vs : List ℕ). Once vs → ReadyFor w known vs → Cleared vs (bindingsOf known) → First (λ t. Good w known vs t × P t) (tupleOf r k (size - k)))
+        (numbers-more vars size k below) f
+
+    -- a tuple found after a number, with it
+    hit : (P : Tuple → Type 0) (y : Found) (i : ℕ) → k < length (y .tuple) → First P (some (i ∷ numbersFrom (size - (k + 1)) (y .tuple) (k + 1)))
+        → First P (tupleOf (record { found = true; tuple = set (y .tuple) k i }) k (size - k))
+    hit P y i h f = subst⁻¹ (λ (t : Tuple). First P (some t)) (tuple-set y size k i below h) f
+
+    module _ (lo : ℕ) where
+      -- no number below `from` has a tuple
+      abbrev pub LevelFrom : ℕ → Type 0
+      LevelFrom from = Given ((i : ℕ) (t : Tuple) → Good w known both (i ∷ t) → lo ≤ i → from ≤ i)
+
+      pub level-starts : LevelFrom lo
+      level-starts o r c i t g l = l
+
+      module _ (from : ℕ) (so-far : LevelFrom from) where
+        pub find-past : x .count ≤ from → (y : Found) → y .found ≡ false → FindOf w known k lo y
+        find-past h y f = at-level (From lo) y (λ o r c. rw f (no-tuple known k below o r c (From lo)
+            (λ i t g l. let a = good-small known k below o r c i t g in let b = so-far o r c i t g l in omega arith)))
+
+        module _ (i : ℕ) (ei : NextOf w known k from i) where
+          at-least′ : Given ((j : ℕ) (t : Tuple) → Good w known both (j ∷ t) → lo ≤ j → i ≤ j)
+          at-least′ o r c j t g l = not-passed known k below o r c from i (ei .2) j t g (so-far o r c j t g l)
+
+          pub find-none : x .count ≤ i → (y : Found) → y .found ≡ false → FindOf w known k lo y
+          find-none h y f = at-level (From lo) y (λ o r c. rw f (no-tuple known k below o r c (From lo)
+              (λ j t g l. let a = good-small known k below o r c j t g in let b = at-least′ o r c j t g l in omega arith)))
+
+          -- where it has none either
+          past-it : Given ((t : Tuple) → Good w known both (i ∷ t) → ⊥) → LevelFrom (i + 1)
+          past-it n o r c j t g l =
+              let b = at-least′ o r c j t g l in
+              let d : j ≡ i → ⊥ = (λ e. n o r c t (subst (λ y. Good w known both (y ∷ t)) e g)) in
+              omega (arith, b, d)
+
+          module _ (small : i < x .count) (inside : this < length known) where
+            pub find-skip : {b : Bool} → WorthOf w (set known this i) k i b → b ≡ false → LevelFrom (i + 1)
+            find-skip h e = past-it (λ o r c t g. not-worth known k below o r c i small inside (ei .1 small) h e t g)
+
+            module _ (y : Found) (ey : FindOf w (set known this i) (k + 1) 0 y) where
+              rest-first : Given (First (λ t. Good w (set known this i) (later block (k + 1)) t × From 0 t) (tupleOf y (k + 1) (size - (k + 1))))
+              rest-first o r c = ey (o .1) (chosen-ready known k below o r c i small inside (ei .1 small)) (chosen-cleared known k below o r c i small inside (ei .1 small))
+
+              pub find-on : y .found ≡ false → LevelFrom (i + 1)
+              find-on f = past-it (λ o r c t g.
+                  none-after known k below o r c i small inside (ei .1 small) (From 0) (λ t. Unit {0}) (λ t q. from-zero t)
+                  (subst (λ (b : Bool). First (λ t. Good w (set known this i) (later block (k + 1)) t × From 0 t) (cond b (some (numbersFrom (size - (k + 1)) (y .tuple) (k + 1))) none)) f
+                  (rest-first o r c)) t g tt)
+
+              pub find-hit : y .found ≡ true → lo ≤ i → k < length (y .tuple) → FindOf w known k lo (record { found = true; tuple = set (y .tuple) k i })
+              find-hit f l h = at-level (From lo) (record { found = true; tuple = set (y .tuple) k i }) (λ o r c.
+                  hit (λ t. Good w known both t × From lo t) y i h
+                  (first-after known k below o r c i small inside (ei .1 small) (From 0) (From lo) (λ t q. from-zero t) (λ t q. l) (λ j t g q. at-least′ o r c j t g q)
+                  (numbersFrom (size - (k + 1)) (y .tuple) (k + 1))
+                  (subst (λ (b : Bool). First (λ t. Good w (set known this i) (later block (k + 1)) t × From 0 t) (cond b (some (numbersFrom (size - (k + 1)) (y .tuple) (k + 1))) none)) f
+                  (rest-first o r c))))
+
+    -- ── after the last tuple ──────────────────────────────────────────────────────────────────
+
+    abbrev own : ℕ
+    own = getD (block .last) k 0
+
+    abbrev others : Tuple
+    others = numbersFrom (size - (k + 1)) (block .last) (k + 1)
+
+    abbrev After : Tuple → Type 0
+    After t = T (isAfter (some (own ∷ others)) t)
+
+    at-after : (r : Found) → Given (First (λ t. Good w known both t × After t) (tupleOf r k (size - k))) → AfterOf w known k r
+    at-after r f = subst⁻¹ (λ (l : Tuple). FirstOf w known k (λ t. T (isAfter (some l) t)) r) (numbers-more (block .last) size k below) (at-level After r f)
+
+    from-own : (j : ℕ) (t : Tuple) → After (j ∷ t) → own ≤ j
+    from-own j t h = earlier-cases own j others t (own ≤ j) (λ m. omega arith) (λ m e. omega arith) h
+
+    pub after-past : x .count ≤ own → (y : Found) → y .found ≡ false → AfterOf w known k y
+    after-past h y f = at-after y (λ o r c. rw f (no-tuple known k below o r c After
+        (λ j t g q. let a = good-small known k below o r c j t g in let b = from-own j t q in omega arith)))
+
+    -- no tuple with the last one's number comes after it
+    abbrev pub NoneOwn : Type 0
+    NoneOwn = Given ((t : Tuple) → Good w known both (own ∷ t) → After (own ∷ t) → ⊥)
+
+    pub after-find : NoneOwn → (y : Found) → FindOf w known k (own + 1) y → AfterOf w known k y
+    after-find n y ey = at-after y (λ o r c.
+        first-map (λ t. Good w known both t × From (own + 1) t) (λ t. Good w known both t × After t) into (out o r c) (tupleOf y k (size - k)) (of-level (From (own + 1)) y ey o r c))
+      where
+        into : (t : Tuple) → Good w known both t × From (own + 1) t → Good w known both t × After t
+        into [] g = absurd (g .0 .0)
+        into (j ∷ t) g = (g .0, lower own j others t (lt→ltb own j (let b : own + 1 ≤ j = g .1 in omega arith)))
+
+        out : Given ((t : Tuple) → Good w known both t × After t → Good w known both t × From (own + 1) t)
+        out o r c [] g = absurd (g .0 .0)
+        out o r c (j ∷ t) g =
+            let b = from-own j t (g .1) in
+            let d : j ≡ own → ⊥ = (λ e. n o r c t (subst (λ i. Good w known both (i ∷ t)) e (g .0)) (subst (λ i. After (i ∷ t)) e (g .1))) in
+            (g .0, omega (arith, b, d))
+
+    module _ (small : own < x .count) where
+      pub own-untyped : {b : Bool} → b ≡ codeLeq (getD leasts own 0) (getD (block .types) k 0) → b ≡ false → NoneOwn
+      own-untyped e f o r c t g q =
+          subst T (sym (coded known k below own small) ∙ (sym e ∙ f)) (holds-test (w .schema) (w .terms) (w .typing this) own (g .0 .0))
+
+      module _ (inside : this < length known) {b : Bool} (e : b ≡ codeLeq (getD leasts own 0) (getD (block .types) k 0)) (f : b ≡ true) where
+        own-typed : Holds (w .schema) (w .terms) own (w .typing this)
+        own-typed = test-holds (w .schema) (w .terms) (w .typing this) own (subst T (sym f ∙ (e ∙ coded known k below own small)) tt)
+
+        module _ (y : Found) (ey : AfterOf w (set known this own) (k + 1) y) where
+          rest-after : Given (First (λ t. Good w (set known this own) (later block (k + 1)) t × T (isAfter (some others) t)) (tupleOf y (k + 1) (size - (k + 1))))
+          rest-after o r c = ey (o .1) (chosen-ready known k below o r c own small inside own-typed) (chosen-cleared known k below o r c own small inside own-typed)
+
+          own-out : (t : Tuple) → After (own ∷ t) → T (isAfter (some others) t)
+          own-out t q = earlier-cases own own others t (T (earlier others t)) (λ (m : own < own). absurd (omega arith)) (λ m n. n) q
+
+          pub own-none : y .found ≡ false → NoneOwn
+          own-none g o r c t a q =
+              none-after known k below o r c own small inside own-typed (λ t. T (isAfter (some others) t)) After own-out
+              (subst (λ (b : Bool). First (λ t. Good w (set known this own) (later block (k + 1)) t × T (isAfter (some others) t)) (cond b (some (numbersFrom (size - (k + 1)) (y .tuple) (k + 1))) none)) g
+              (rest-after o r c)) t a q
+
+          pub own-hit : y .found ≡ true → k < length (y .tuple) → AfterOf w known k (record { found = true; tuple = set (y .tuple) k own })
+          own-hit g h = at-after (record { found = true; tuple = set (y .tuple) k own }) (λ o r c.
+              hit (λ t. Good w known both t × After t) y own h
+              (first-after known k below o r c own small inside own-typed (λ t. T (isAfter (some others) t)) After own-out (λ t q. alike own others t q) (λ j t g q. from-own j t q)
+              (numbersFrom (size - (k + 1)) (y .tuple) (k + 1))
+              (subst (λ (b : Bool). First (λ t. Good w (set known this own) (later block (k + 1)) t × T (isAfter (some others) t)) (cond b (some (numbersFrom (size - (k + 1)) (y .tuple) (k + 1))) none)) g
+              (rest-after o r c))))

@@ -20,14 +20,10 @@ use Rattle.laws.specs.Outcomes.{Fine, fine, Any}
 use Rattle.laws.specs.Bindings.{Fits}
 use Rattle.laws.proofs.Evaluate.{query-fine}
 use Rattle.laws.proofs.Answers.{after-fit, bind-typed, bound-reached}
-use Rattle.query.specs.Seek.{passes}
+use Rattle.query.specs.Known.{passes}
 use Rattle.search.specs.Ready.{Ready}
-use Rattle.search.proofs.TupleOrder.{Pairwise, isAfter, after-sorted, after-all, after-only}
-
--- the first of the good tuples, or none of them
-abbrev pub First : (Tuple → Type 0) → Option Tuple → Type 0
-First Good none = (u : Tuple) → Good u → ⊥
-First Good (some t) = Good t × ((u : Tuple) → Good u → T (earlier u t) → ⊥)
+use Rattle.search.specs.Finding.{First, isAfter}
+use Rattle.search.proofs.TupleOrder.{Pairwise, after-sorted, after-all, after-only}
 
 pub first-map : (G H : Tuple → Type 0) → ((u : Tuple) → G u → H u) → ((u : Tuple) → H u → G u) → (o : Option Tuple) → First G o → First H o
 first-map G H f g none h = λ u k. h u (g u k)

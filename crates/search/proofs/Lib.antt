@@ -1,14 +1,10 @@
-pub mod OnlyNamed
 pub mod TupleOrder
 pub mod FirstTuple
-pub mod Filters
-pub mod Reaches
 pub mod TryLaws
-pub mod FastAnswer
-pub mod SeekLaws
 pub mod TypeLaws
 pub mod ReadyLaws
-pub mod LevelLaws
+pub mod Chosen
+pub mod TupleArrays
 pub mod FindLaws
 pub mod AnswerLaws
 pub mod AtBlock

@@ -20,10 +20,11 @@ use Rattle.laws.specs.Outcomes.{Fine, Any}
 use Rattle.laws.specs.Bindings.{Extends, Holds, Bound, WellBound}
 use Rattle.laws.proofs.Evaluate.{condition-fine, query-fine}
 use Rattle.laws.specs.Sound.{CondBounded, QueryBounded}
-use Rattle.query.specs.Seek.{SureTests, set, clear}
-use Rattle.search.specs.Seeking.{Sure}
+use Rattle.query.specs.Known.{SureTests}
+use Rattle.seeking.specs.Seeking.{Sure}
 use Rattle.search.specs.Ready.{Ready}
-use Rattle.search.proofs.Filters.{expr-bound, pair-bound}
+use Rattle.search.specs.Finding.{bindTo as set, clear}
+use Rattle.seeking.proofs.Filters.{expr-bound, pair-bound}
 
 module _ (σ : Setting) (Γ : Typing) (terms : List Term) (quads : List Quad) where
   module _ (loaded : List Term) (extends : Extends loaded terms) (γ : Bindings) (wellBound : WellBound (σ .schema) Γ terms γ) where

@@ -7,6 +7,7 @@ use mathlib.Core.Bool.{Bool, true, false, not, _&&_, true≢false}
 use mathlib.Core.Option.{none}
 use lib.Dec.{T, eqb}
 use lib.ListN.{length, getD, set, getElem?}
+use Rattle.definitions.specs.Limits.{depthLimit}
 use Rattle.definitions.specs.Lists.{every, distinct}
 use Rattle.definitions.specs.Terms.{Term}
 use Rattle.definitions.specs.Evaluate.{Bindings, Quad, query}
@@ -20,7 +21,6 @@ use Rattle.laws.proofs.Bindings.{test-holds}
 use Rattle.laws.proofs.NoFault.{fine-ok}
 use Rattle.laws.proofs.Reading.{same-read}
 use Rattle.laws.proofs.Tests.{andRight, trueIs}
-use Rattle.query.specs.Seek.{set as bindTo}
 use Rattle.query.specs.Codes.{bindingsOf}
 use Rattle.query.specs.declared.Context.{Context}
 use Rattle.query.specs.StoreLent.{settingIn, rowsOf}
@@ -28,13 +28,13 @@ use Rattle.query.specs.Eval.{HoldsOf}
 use Rattle.query.proofs.TermLaws.{few}
 use Rattle.codes.specs.TypeCodes.{codeLeq}
 use Rattle.search.specs.Ready.{Ready}
-use Rattle.search.specs.Finding.{World, later, setting, ReadyFor}
+use Rattle.search.specs.Finding.{bindTo, World, later, setting, ReadyFor}
 use Rattle.search.specs.Trying.{tupleFits, numbersAt, TriedOf}
 use Rattle.search.specs.declared.Block.{Block}
 use Rattle.search.specs.declared.Tried.{Tried}
 use Rattle.search.proofs.FindLaws.{set-bindings}
-use Rattle.search.proofs.FastAnswer.{distinct-once, set-bind-at}
-use Rattle.search.proofs.LevelLaws.{numbers-none, numbers-more}
+use Rattle.search.proofs.Chosen.{distinct-once, set-bind-at}
+use Rattle.search.proofs.TupleArrays.{numbers-none, numbers-more}
 use Rattle.search.proofs.ReadyLaws.{ready-fine, ready-set}
 use Rattle.search.proofs.TypeLaws.{has-code}
 
@@ -49,7 +49,7 @@ module _ {script ranks table quads leasts : List ℕ} {x : Context} {block : Blo
 
   -- ── past the last variable ────────────────────────────────────────────────────────────────
 
-  pub tried-all : size ≤ k → {b : Bool} {m n : ℕ} → Walked (HoldsOf ranks table known x (rowsOf quads x) b m) (readQuery script (x .loaded) (block .left) (block .«at»)) n
+  pub tried-all : size ≤ k → {b : Bool} {m n : ℕ} → Walked (HoldsOf ranks table known x (rowsOf quads x) b m) (readQuery script (x .loaded) depthLimit (block .«at»)) n
       → TriedOf w known tuple k (record { fits = true; holds = b; records = m })
   unfolding settingIn tupleFits bind
   tried-all over {b} {m} s d r =

@@ -17,6 +17,7 @@ use Rattle.laws.proofs.Lists.{here, keep-at, keep-of}
 use Rattle.laws.specs.Lists.{All}
 use Rattle.laws.proofs.All.{all-append, all-keep, all-map}
 use Rattle.laws.specs.Bindings.{Holds, Fits}
+use Rattle.search.specs.Finding.{isAfter}
 
 -- ── each passes a test with every later one ─────────────────────────────────────────────────
 
@@ -50,12 +51,12 @@ all-images P f k (x ∷ xs) = (k x, all-images P f k xs)
 -- ── the order of tuples ─────────────────────────────────────────────────────────────────────
 
 -- the first number decides
-lower : (i j : ℕ) (s t : Tuple) → T (ltb i j) → T (earlier (i ∷ s) (j ∷ t))
+pub lower : (i j : ℕ) (s t : Tuple) → T (ltb i j) → T (earlier (i ∷ s) (j ∷ t))
 unfolding before
 lower i j s t h = orLeft (ltb i j) (eqb i j && earlier s t) h
 
 -- or, where it is the same, the others
-alike : (i : ℕ) (s t : Tuple) → T (earlier s t) → T (earlier (i ∷ s) (i ∷ t))
+pub alike : (i : ℕ) (s t : Tuple) → T (earlier s t) → T (earlier (i ∷ s) (i ∷ t))
 unfolding before
 alike i s t h = orRight (ltb i i) (eqb i i && earlier s t) (andMake (eqb i i) (earlier s t) (eqb-refl i) h)
 
@@ -118,11 +119,6 @@ unfolding eachInFront
 front-all {i} t ts (List·Memᴰ·head {x = j} {xs = is} e) m =
     Memᴰ·append-left (eachInFront is ts) (subst⁻¹ (λ k. List·Memᴰ (k ∷ t) (map (λ u. j ∷ u) ts)) e (mem-map (λ u. j ∷ u) m))
 front-all t ts (List·Memᴰ·tail {x = j} {xs = is} n) m = Memᴰ·append-right (map (λ u. j ∷ u) ts) (front-all t ts n m)
-
--- a tuple comes after the last one, where there is one
-abbrev pub isAfter : Option Tuple → Tuple → Bool
-isAfter none t = true
-isAfter (some last) t = earlier last t
 
 module _ (S : Schema) (Γ : Typing) (terms : List Term) where
   tuples-sorted : (vs : List ℕ) → Pairwise earlier (tuples S Γ terms vs)

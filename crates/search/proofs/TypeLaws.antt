@@ -18,9 +18,8 @@ use Rattle.laws.proofs.Sorts.{has-least}
 use Rattle.laws.proofs.Bindings.{there-is}
 use Rattle.codes.specs.TypeCodes.{codeLeq}
 use Rattle.codes.proofs.CodeLaws.{code-leq}
-use Rattle.query.specs.Seek.{skip}
 use Rattle.search.specs.declared.Under.{Under}
-use Rattle.search.specs.Finding.{skipTypes, isUnder, typesBlock, anyUnder, skipUnder}
+use Rattle.search.specs.Finding.{skip, skipTypes, isUnder, typesBlock, anyUnder, skipUnder}
 
 -- ── the codes below a type's ────────────────────────────────────────────────────────────────
 

@@ -1,25 +1,28 @@
--- What the search over a block's variables is given, and what it promises: the model's `find`, from a level on.
+-- What the search over a block's variables is given, and what it promises: the first tuple, from a level on, with which the query holds.
 use Prim.Native.Nat.{ℕ, zero, suc, _+_, _-_, _≤_, _<_, min}
 use mathlib.Core.Path.{_≡_}
 use mathlib.Core.List.{List, [], _∷_}
-use mathlib.Core.Bool.{Bool, false, cond, _&&_, _||_}
+use mathlib.Core.Bool.{Bool, true, false, cond, _&&_, _||_}
 use mathlib.Core.Option.{Option, none, some}
 use lib.Dec.{T, eqb, leb}
 use lib.ListN.{length, getD}
-use Rattle.definitions.specs.Lists.{distinct}
-use Rattle.definitions.specs.Limits.{ranksWidth, variableLimit, pairLimit}
-use Rattle.definitions.specs.Types.{typeOfCode}
+use Rattle.definitions.specs.Lists.{isIn, distinct}
+use Rattle.definitions.specs.Limits.{depthLimit, ranksWidth, variableLimit, pairLimit}
+use Rattle.definitions.specs.Types.{Ty, typeOfCode}
 use Rattle.definitions.specs.Terms.{Term, Schema}
 use Rattle.definitions.specs.Tree.{Query}
 use Rattle.definitions.specs.Reading.{readQuery}
-use Rattle.definitions.specs.Evaluate.{Setting, Quad}
+use Rattle.definitions.specs.Evaluate.{Setting, Bindings, Quad}
 use Rattle.definitions.specs.Outcome.{ok}
-use Rattle.definitions.specs.Search.{Typing, Tuple, answer}
+use Rattle.definitions.specs.Search.{Typing, Tuple, earlier, bind, answer}
+use Rattle.definitions.specs.Sound.{numberHas}
 use Rattle.codes.specs.TypeCodes.{codeLeq}
-use Rattle.query.specs.Seek.{next, nextAfter, hopeAt, hopeful, find}
+use Rattle.laws.specs.Bindings.{Holds, Fits}
 use Rattle.query.specs.Codes.{bindingsOf}
 use Rattle.query.specs.StoreLent.{settingIn, Told, StoreLent}
 use Rattle.query.specs.declared.Context.{Context}
+use Rattle.seeking.specs.Seeking.{Keeps, holds}
+use Rattle.seeking.specs.Parts.{partsWidth, PartsOf}
 use Rattle.search.specs.Ready.{Ready}
 use Rattle.search.specs.declared.Block.{Block}
 use Rattle.search.specs.declared.Found.{Found}
@@ -61,6 +64,21 @@ unfoldable pub skipTypes : (leasts : List ℕ) → (type n i : ℕ) → ℕ
 skipTypes leasts ty zero i = i
 skipTypes leasts ty (suc n) i = cond (codeLeq (getD leasts i 0) ty) i (skipTypes leasts ty n (i + 1))
 
+-- ── bindings, and the next term of a type ───────────────────────────────────────────────────
+
+-- one more variable known
+abbrev pub bindTo : (v i : ℕ) → Bindings → Bindings
+bindTo v i γ = λ x. cond (eqb x v) (some i) (γ x)
+
+-- a block's variables are not known at first
+abbrev pub clear : List ℕ → Bindings → Bindings
+clear vs β = λ x. cond (isIn x vs) none (β x)
+
+-- the next number of a term of the type, from i on, n numbers at most
+unfoldable pub skip : Schema → Ty → List Term → (n i : ℕ) → ℕ
+skip S τ terms zero i = i
+skip S τ terms (suc n) i = cond (numberHas S terms i τ) i (skip S τ terms n (suc i))
+
 -- what is lent to the search of a block stands for schema, typing, store and query
 pub record World (script ranks table quads leasts : List ℕ) (x : Context) (block : Block) : Type 0 where
   pub schema : Schema
@@ -72,14 +90,45 @@ pub record World (script ranks table quads leasts : List ℕ) (x : Context) (blo
   pub told : Told x
   pub ranked : length ranks ≡ ranksWidth
   pub lent : StoreLent table quads leasts x schema terms rows
-  pub read : readQuery script (x .loaded) (block .left) (block .«at») ≡ some (tree, next)
+  pub read : readQuery script (x .loaded) depthLimit (block .«at») ≡ some (tree, next)
   pub types : (k : ℕ) → k < block .size → typeOfCode (getD (block .types) k 0) ≡ some (typing (getD (block .vars) k 0))
   pub size : block .size ≤ pairLimit
   pub small : (j : ℕ) → getD (block .vars) j 0 < variableLimit
 
+-- the parts of the block's query are listed
+pub record Parted (script parts : List ℕ) (x : Context) (block : Block) : Type 0 where
+  pub room : length parts ≤ partsWidth
+  pub each : (q : Query) (m : ℕ) → readQuery script (x .loaded) depthLimit (block .«at») ≡ some (q, m) → PartsOf script (x .loaded) parts q
+
 -- the block's variables from place k on
 abbrev pub later : Block → (k : ℕ) → List ℕ
 later block k = numbersFrom (block .size - k) (block .vars) k
+
+-- ── tuples in order ─────────────────────────────────────────────────────────────────────────
+
+-- the first of the good tuples, or none of them
+abbrev pub First : (Tuple → Type 0) → Option Tuple → Type 0
+First Good none = (u : Tuple) → Good u → ⊥
+First Good (some t) = Good t × ((u : Tuple) → Good u → T (earlier u t) → ⊥)
+
+-- a tuple comes after the last one, where there is one
+abbrev pub isAfter : Option Tuple → Tuple → Bool
+isAfter none t = true
+isAfter (some last) t = earlier last t
+
+-- the first number is lo or more
+abbrev pub From : (lo : ℕ) → Tuple → Type 0
+From lo [] = Unit {0}
+From lo (i ∷ t) = lo ≤ i
+
+-- no variable stands twice
+abbrev pub Once : List ℕ → Type 0
+Once [] = Unit {0}
+Once (v ∷ vs) = (T (isIn v vs) → ⊥) × Once vs
+
+-- the variables still to choose are not known
+abbrev pub Cleared : List ℕ → Bindings → Type 0
+Cleared vs γ = (x : ℕ) → T (isIn x vs) → γ x ≡ none
 
 -- ── promises, where soundness holds of what is known ────────────────────────────────────────
 
@@ -87,40 +136,56 @@ module _ {script ranks table quads leasts : List ℕ} {x : Context} {block : Blo
   abbrev pub setting : Setting
   setting = settingIn (w .schema) ranks x
 
+  -- bindings give the variable at place k a number of its type
+  pub record Has (δ : Bindings) (k : ℕ) : Type 0 where
+    pub number : ℕ
+    pub is : δ (getD (block .vars) k 0) ≡ some number
+    pub typed : Holds (w .schema) (w .terms) number (w .typing (getD (block .vars) k 0))
+
   module _ (known : List ℕ) where
     -- ready for the variables that are still to choose
     abbrev pub ReadyFor : List ℕ → Type 0
     ReadyFor vs = Ready (w .schema) (w .typing) (w .terms) (bindingsOf known) vs (w .tree)
 
-    -- it never goes back; which variables are still to choose does not matter here
+    -- by bindings that keep what is known the query holds
+    abbrev pub Passes : Bindings → Type 0
+    Passes δ = Keeps (bindingsOf known) δ × T (holds setting (w .terms) (w .rows) δ (w .tree))
+
+    -- every number of place k from lo on with which the query holds is r or more
+    abbrev pub PassedTo : (k lo r : ℕ) → Type 0
+    PassedTo k lo r = (vs : List ℕ) → ReadyFor vs → (δ : Bindings) → Passes δ → (h : Has δ k) → lo ≤ h .number → r ≤ h .number
+
+    -- and r is of its type; it never goes back
     abbrev pub NextOf : (k lo r : ℕ) → Type 0
-    NextOf k lo r =
-        (min lo (x .count) ≤ r)
-        × ((vs : List ℕ) → ReadyFor vs → r ≡ next setting (w .typing) (w .terms) (w .rows) (w .tree) (bindingsOf known) (getD (block .vars) k 0) lo)
+    NextOf k lo r = (min lo (x .count) ≤ r) × (r < x .count → Holds (w .schema) (w .terms) r (w .typing (getD (block .vars) k 0))) × PassedTo k lo r
 
-    -- the same after the last tuple
-    abbrev pub NextAfter : (k : ℕ) (tight : Bool) (lo r : ℕ) → Type 0
-    NextAfter k tight lo r =
-        (min lo (x .count) ≤ r)
-        × ((vs : List ℕ) → ReadyFor vs
-        → r ≡ nextAfter setting (w .typing) (w .terms) (w .rows) (w .tree) (bindingsOf known) (getD (block .vars) k 0) (lastOf tight (block .last) k (block .size - k)) lo)
-
+    -- without hope the query holds with no number of place j
     abbrev pub HopeAt : (j : ℕ) → Bool → Type 0
-    HopeAt j r = (vs : List ℕ) → ReadyFor vs → r ≡ hopeAt setting (w .typing) (w .terms) (w .rows) (w .tree) (bindingsOf known) (getD (block .vars) j 0)
+    HopeAt j r = r ≡ false → (vs : List ℕ) → ReadyFor vs → (δ : Bindings) → Passes δ → Has δ j → ⊥
 
-    abbrev pub hopeFrom : (from : ℕ) → Bool
-    hopeFrom from = hopeful setting (w .typing) (w .terms) (w .rows) (w .tree) (bindingsOf known) (later block from)
-
+    -- nor with numbers of all places from one on
     abbrev pub HopeOf : (from : ℕ) → Bool → Type 0
-    HopeOf from r = (vs : List ℕ) → ReadyFor vs → r ≡ hopeFrom from
+    HopeOf from r = r ≡ false → (vs : List ℕ) → ReadyFor vs → (δ : Bindings) → Passes δ → ((j : ℕ) → from ≤ j → j < block .size → Has δ j) → ⊥
 
-    -- the first tuple from place k on
-    abbrev pub findFrom : (k : ℕ) (tight : Bool) → Option Tuple
-    findFrom k tight =
-        find setting (w .typing) (w .terms) (w .rows) (w .tree) (later block k) (bindingsOf known) (lastOf tight (block .last) k (block .size - k))
+    -- the same after a number of place k, which is known
+    abbrev pub WorthOf : (k number : ℕ) → Bool → Type 0
+    WorthOf k number r = bindingsOf known (getD (block .vars) k 0) ≡ some number → HopeOf (k + 1) r
 
-    abbrev pub FindOf : (k : ℕ) (tight : Bool) → Found → Type 0
-    FindOf k tight r = ReadyFor (later block k) → tupleOf r k (block .size - k) ≡ findFrom k tight
+    -- a tuple of the types with which the query holds
+    abbrev pub Good : (vs : List ℕ) → Tuple → Type 0
+    Good vs t = Fits (w .schema) (w .typing) (w .terms) vs t × T (holds setting (w .terms) (w .rows) (bind vs t (bindingsOf known)) (w .tree))
+
+    -- the first tuple from place k on that passes a test
+    abbrev pub FirstOf : (k : ℕ) (P : Tuple → Type 0) → Found → Type 0
+    FirstOf k P r =
+        Once (later block k) → ReadyFor (later block k) → Cleared (later block k) (bindingsOf known)
+        → First (λ t. Good (later block k) t × P t) (tupleOf r k (block .size - k))
+
+    abbrev pub FindOf : (k lo : ℕ) → Found → Type 0
+    FindOf k lo r = FirstOf k (From lo) r
+
+    abbrev pub AfterOf : (k : ℕ) → Found → Type 0
+    AfterOf k r = FirstOf k (λ t. T (isAfter (lastOf true (block .last) k (block .size - k)) t)) r
 
     -- the machine's answer, for distinct variables
     abbrev pub AnswerOf : (started : Bool) → Found → Type 0

@@ -1,4 +1,3 @@
-pub mod Seeking
 pub mod Ready
 pub mod Finding
 pub mod Trying

@@ -3,16 +3,17 @@ ghost use mathlib.Core.Path.{_≡_};
 ghost use Rattle.laws.specs.Ends.{EndsLent};
 ghost use lib.ListN.{length, getD};
 ghost use Prim.Native.Nat.{ℕ, _≤_, _<_};
-ghost use Rattle.query.specs.Seek.{clear};
 ghost use Rattle.query.specs.Codes.{bindingsOf};
-ghost use Rattle.search.specs.Finding.{numbersFrom, World, AnswerOf};
+ghost use Rattle.search.specs.Finding.{clear, numbersFrom, World, AnswerOf};
 ghost use Rattle.definitions.specs.Limits.{pairLimit, variableLimit};
 use crate::Block;
 use crate::Found;
 use crate::find::find;
+use crate::find::find_after;
 use definitions::VARIABLE_LIMIT;
 use query::Context;
 use scan::FREE;
+use seeking::listing::parts_of;
 
 // What is known as a block's search begins: nothing of the block's own variables.
 fn cleared(known: [usize; VARIABLE_LIMIT], block: Block) -> [usize; VARIABLE_LIMIT]
@@ -53,17 +54,36 @@ pub fn answer(
     ensures { λ r. ⌜ ((w : World (now (script .entry)) (now (ranks .entry)) (now (table .entry)) (now (quads .entry)) (now (leasts .entry)) context block) → AnswerOf w known started r) ⌝ }
 {
     let opened = cleared(known, block);
+    let listed = parts_of(script, ends, context.loaded, block.at);
+    let list = listed.list;
+    let size = listed.size;
+    if started {
+        return find_after(
+            script,
+            ends,
+            context,
+            block,
+            &list[0..size],
+            ranks,
+            table,
+            quads,
+            leasts,
+            opened,
+            0,
+        );
+    }
     find(
         script,
         ends,
         context,
         block,
+        &list[0..size],
         ranks,
         table,
         quads,
         leasts,
         opened,
         0,
-        started,
+        0,
     )
 }

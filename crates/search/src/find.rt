@@ -1,27 +1,39 @@
-// The first answer of a block after a tuple, variable by variable.
+// The first answer of a block, variable by variable.
 ghost use mathlib.Core.Path.{_≡_};
+ghost use mathlib.Core.Bool.{false};
 ghost use Rattle.laws.specs.Ends.{EndsLent};
 ghost use lib.ListN.{length};
-ghost use Prim.Native.Nat.{_<_};
-ghost use Rattle.search.specs.Finding.{World, NextOf, NextAfter, HopeAt, HopeOf, FindOf};
+ghost use Prim.Native.Nat.{_+_, _<_};
+ghost use Rattle.search.specs.Finding.{World, Parted, NextOf, HopeAt, HopeOf, WorthOf, FindOf, AfterOf};
+ghost use Rattle.definitions.specs.Limits.{pairLimit, variableLimit};
 use crate::Block;
 use crate::Found;
-use crate::seek::seek;
 use crate::types::skip;
 use codes::has_type;
-ghost use Rattle.definitions.specs.Limits.{pairLimit, variableLimit};
+use definitions::DEPTH_LIMIT;
 use definitions::PAIR_LIMIT;
 use definitions::VARIABLE_LIMIT;
-use keys::either;
 use query::Context;
 use query::eval::eval_query;
+use seeking::by_parts::agree;
+use seeking::by_parts::seek_parts;
 
-// The next number for the variable at place k, from lo on.
+fn nothing() -> Found
+    ensures { λ r. ⌜ (r .found ≡ false) × (length (r .tuple) ≡ pairLimit) ⌝ }
+{
+    Found {
+        found: false,
+        tuple: [0; PAIR_LIMIT],
+    }
+}
+
+// The next number for the variable at place k, from lo on: of its type, and with which no part that names it is out. The first variable is asked for all parts.
 fn next(
     script: &[u8],
     ends: &[u16],
     context: Context,
     block: Block,
+    parts: &[usize],
     ranks: &[u8],
     table: &[u8],
     quads: &[u64],
@@ -32,72 +44,37 @@ fn next(
 ) -> usize
     requires { ⌜ World (now script) (now ranks) (now table) (now quads) (now leasts) context block ⌝ }
     requires { ⌜ EndsLent (now script) (now ends) ⌝ }
+    requires { ⌜ Parted (now script) (now parts) context block ⌝ }
     requires { ⌜ length (now known) ≡ variableLimit ⌝ }
     requires { ⌜ k < block .size ⌝ }
     ensures { λ r. ⌜ ((w : World (now (script .entry)) (now (ranks .entry)) (now (table .entry)) (now (quads .entry)) (now (leasts .entry)) context block) → NextOf w (now (known .entry)) k lo r) ⌝ }
 {
-    let at = block.at;
-    let left = block.left;
+    let count = context.count;
     let vars = block.vars;
-    let types = block.types;
-    let s = seek(
-        script,
-        ends,
-        context,
-        at,
-        left,
-        ranks,
-        table,
-        known,
-        quads,
-        vars[k],
-        lo,
-    );
-    skip(leasts, types[k], s.least, context.count)
-}
-
-// The next number to try, with tight after the last tuple: its own number is not sought again.
-fn next_after(
-    script: &[u8],
-    ends: &[u16],
-    context: Context,
-    block: Block,
-    ranks: &[u8],
-    table: &[u8],
-    quads: &[u64],
-    leasts: &[u8],
-    known: &[usize],
-    k: usize,
-    tight: bool,
-    lo: usize,
-) -> usize
-    requires { ⌜ World (now script) (now ranks) (now table) (now quads) (now leasts) context block ⌝ }
-    requires { ⌜ EndsLent (now script) (now ends) ⌝ }
-    requires { ⌜ length (now known) ≡ variableLimit ⌝ }
-    requires { ⌜ k < block .size ⌝ }
-    requires { ⌜ lo < context .count ⌝ }
-    ensures { λ r. ⌜ ((w : World (now (script .entry)) (now (ranks .entry)) (now (table .entry)) (now (quads .entry)) (now (leasts .entry)) context block) →
-        NextAfter w (now (known .entry)) k tight lo r) ⌝ }
-{
-    let last = block.last;
-    let types = block.types;
-    let typed = has_type(leasts[lo], types[k]);
-    if tight & (lo == last[k]) & typed {
-        return lo;
+    let v = vars[k];
+    let mut from = lo;
+    while from < count {
+        let s = seek_parts(
+            script,
+            ends,
+            context,
+            parts,
+            ranks,
+            table,
+            known,
+            quads,
+            v,
+            from,
+            k == 0,
+        );
+        let types = block.types;
+        let typed = skip(leasts, types[k], s, count);
+        if typed == s {
+            return s;
+        }
+        from = typed;
     }
-    next(
-        script,
-        ends,
-        context,
-        block,
-        ranks,
-        table,
-        quads,
-        leasts,
-        known,
-        k,
-        lo,
-    )
+    count
 }
 
 // Whether the variable at place j still has a number with which the query may hold. What a filter says of that variable alone is so found out before
@@ -107,6 +84,7 @@ fn hope(
     ends: &[u16],
     context: Context,
     block: Block,
+    parts: &[usize],
     ranks: &[u8],
     table: &[u8],
     quads: &[u64],
@@ -116,11 +94,10 @@ fn hope(
 ) -> bool
     requires { ⌜ World (now script) (now ranks) (now table) (now quads) (now leasts) context block ⌝ }
     requires { ⌜ EndsLent (now script) (now ends) ⌝ }
+    requires { ⌜ Parted (now script) (now parts) context block ⌝ }
     requires { ⌜ j < block .size ⌝ }
     ensures { λ r. ⌜ ((w : World (now (script .entry)) (now (ranks .entry)) (now (table .entry)) (now (quads .entry)) (now (leasts .entry)) context block) → HopeAt w known j r) ⌝ }
 {
-    let at = block.at;
-    let left = block.left;
     let count = context.count;
     let vars = block.vars;
     let v = vars[j];
@@ -131,6 +108,7 @@ fn hope(
             ends,
             context,
             block,
+            parts,
             ranks,
             table,
             quads,
@@ -144,20 +122,19 @@ fn hope(
         }
         let mut with = known;
         with[v] = number;
-        let s = seek(
+        if agree(
             script,
             ends,
             context,
-            at,
-            left,
+            parts,
             ranks,
             table,
             &with,
             quads,
             v,
+            VARIABLE_LIMIT,
             number,
-        );
-        if s.least == number {
+        ) {
             return true;
         }
         lo = number + 1;
@@ -171,6 +148,7 @@ fn hopeful(
     ends: &[u16],
     context: Context,
     block: Block,
+    parts: &[usize],
     ranks: &[u8],
     table: &[u8],
     quads: &[u64],
@@ -180,6 +158,7 @@ fn hopeful(
 ) -> bool
     requires { ⌜ World (now script) (now ranks) (now table) (now quads) (now leasts) context block ⌝ }
     requires { ⌜ EndsLent (now script) (now ends) ⌝ }
+    requires { ⌜ Parted (now script) (now parts) context block ⌝ }
     ensures { λ r. ⌜ ((w : World (now (script .entry)) (now (ranks .entry)) (now (table .entry)) (now (quads .entry)) (now (leasts .entry)) context block) → HopeOf w known from r) ⌝ }
 {
     let size = block.size;
@@ -190,6 +169,7 @@ fn hopeful(
             ends,
             context,
             block,
+            parts,
             ranks,
             table,
             quads,
@@ -204,38 +184,102 @@ fn hopeful(
     true
 }
 
-// The first tuple from level k on; with tight, after the last one. Where the numbers so far are those of the last tuple, which was an answer once, the later
-// variables are not asked. Ruled out: a term skipped after each one tried; a number tried whatever its term's type is.
-pub fn find(
+// Whether a number chosen for the variable at place k is worth the search of the variables after it: not asked of the last one, which is tried at once.
+fn worth(
     script: &[u8],
     ends: &[u16],
     context: Context,
     block: Block,
+    parts: &[usize],
     ranks: &[u8],
     table: &[u8],
     quads: &[u64],
     leasts: &[u8],
     known: [usize; VARIABLE_LIMIT],
     k: usize,
-    tight: bool,
+    number: usize,
+) -> bool
+    requires { ⌜ World (now script) (now ranks) (now table) (now quads) (now leasts) context block ⌝ }
+    requires { ⌜ EndsLent (now script) (now ends) ⌝ }
+    requires { ⌜ Parted (now script) (now parts) context block ⌝ }
+    requires { ⌜ k < block .size ⌝ }
+    requires { ⌜ number < context .count ⌝ }
+    ensures { λ r. ⌜ ((w : World (now (script .entry)) (now (ranks .entry)) (now (table .entry)) (now (quads .entry)) (now (leasts .entry)) context block) → WorthOf w known k number r) ⌝ }
+{
+    let size = block.size;
+    let after = k + 1;
+    if size <= after {
+        return true;
+    }
+    let vars = block.vars;
+    let v = vars[k];
+    if !agree(
+        script,
+        ends,
+        context,
+        parts,
+        ranks,
+        table,
+        &known,
+        quads,
+        v,
+        vars[after],
+        number,
+    ) {
+        return false;
+    }
+    hopeful(
+        script,
+        ends,
+        context,
+        block,
+        parts,
+        ranks,
+        table,
+        quads,
+        leasts,
+        known,
+        after + 1,
+    )
+}
+
+// The first tuple from level k on whose first number is lo or more.
+// Ruled out: a term skipped after each one tried; a number tried whatever its term's type is.
+pub fn find(
+    script: &[u8],
+    ends: &[u16],
+    context: Context,
+    block: Block,
+    parts: &[usize],
+    ranks: &[u8],
+    table: &[u8],
+    quads: &[u64],
+    leasts: &[u8],
+    known: [usize; VARIABLE_LIMIT],
+    k: usize,
+    lo: usize,
 ) -> Found
     requires { ⌜ World (now script) (now ranks) (now table) (now quads) (now leasts) context block ⌝ }
     requires { ⌜ EndsLent (now script) (now ends) ⌝ }
-    ensures { λ r. ⌜ ((w : World (now (script .entry)) (now (ranks .entry)) (now (table .entry)) (now (quads .entry)) (now (leasts .entry)) context block) → FindOf w known k tight r) ⌝ }
+    requires { ⌜ Parted (now script) (now parts) context block ⌝ }
+    ensures { λ r. ⌜ ((w : World (now (script .entry)) (now (ranks .entry)) (now (table .entry)) (now (quads .entry)) (now (leasts .entry)) context block) → FindOf w known k lo r) ⌝ }
     ensures { λ r. ⌜ length (r .tuple) ≡ pairLimit ⌝ }
 {
     let at = block.at;
-    let left = block.left;
     let size = block.size;
     let count = context.count;
     if size <= k {
-        if tight {
-            return Found {
-                found: false,
-                tuple: [0; PAIR_LIMIT],
-            };
-        }
-        let t = eval_query(script, ends, context, at, left, ranks, table, &known, quads);
+        let t = eval_query(
+            script,
+            ends,
+            context,
+            at,
+            DEPTH_LIMIT,
+            ranks,
+            table,
+            &known,
+            quads,
+        );
         return Found {
             found: t.holds,
             tuple: [0; PAIR_LIMIT],
@@ -243,58 +287,54 @@ pub fn find(
     }
     let vars = block.vars;
     let v = vars[k];
-    let last = block.last;
-    let l = last[k];
-    let mut lo = either(tight, l, 0);
-    while lo < count {
-        let i = next_after(
+    let mut from = lo;
+    while from < count {
+        let i = next(
             script,
             ends,
             context,
             block,
+            parts,
             ranks,
             table,
             quads,
             leasts,
             &known,
             k,
-            tight,
-            lo,
+            from,
         );
         if count <= i {
-            return Found {
-                found: false,
-                tuple: [0; PAIR_LIMIT],
-            };
+            return nothing();
         }
         let mut with = known;
         with[v] = i;
-        let still = tight & (i == l);
-        let ahead = either(still, size, k + 2);
-        if hopeful(
+        if worth(
             script,
             ends,
             context,
             block,
+            parts,
             ranks,
             table,
             quads,
             leasts,
             with,
-            ahead,
+            k,
+            i,
         ) {
             let r = find(
                 script,
                 ends,
                 context,
                 block,
+                parts,
                 ranks,
                 table,
                 quads,
                 leasts,
                 with,
                 k + 1,
-                still,
+                0,
             );
             if r.found {
                 let mut tuple = r.tuple;
@@ -302,10 +342,79 @@ pub fn find(
                 return Found { found: true, tuple };
             }
         }
-        lo = i + 1;
+        from = i + 1;
     }
-    Found {
-        found: false,
-        tuple: [0; PAIR_LIMIT],
+    nothing()
+}
+
+// The first tuple from level k on that comes after the last one: with its number here and a later one after it, or with a greater number here.
+// Ruled out: the last tuple found again; a tuple after it passed over that shares its first number.
+pub fn find_after(
+    script: &[u8],
+    ends: &[u16],
+    context: Context,
+    block: Block,
+    parts: &[usize],
+    ranks: &[u8],
+    table: &[u8],
+    quads: &[u64],
+    leasts: &[u8],
+    known: [usize; VARIABLE_LIMIT],
+    k: usize,
+) -> Found
+    requires { ⌜ World (now script) (now ranks) (now table) (now quads) (now leasts) context block ⌝ }
+    requires { ⌜ EndsLent (now script) (now ends) ⌝ }
+    requires { ⌜ Parted (now script) (now parts) context block ⌝ }
+    ensures { λ r. ⌜ ((w : World (now (script .entry)) (now (ranks .entry)) (now (table .entry)) (now (quads .entry)) (now (leasts .entry)) context block) → AfterOf w known k r) ⌝ }
+    ensures { λ r. ⌜ length (r .tuple) ≡ pairLimit ⌝ }
+{
+    let size = block.size;
+    let count = context.count;
+    if size <= k {
+        return nothing();
     }
+    let last = block.last;
+    let l = last[k];
+    if count <= l {
+        return nothing();
+    }
+    let types = block.types;
+    let vars = block.vars;
+    let v = vars[k];
+    if has_type(leasts[l], types[k]) {
+        let mut with = known;
+        with[v] = l;
+        let r = find_after(
+            script,
+            ends,
+            context,
+            block,
+            parts,
+            ranks,
+            table,
+            quads,
+            leasts,
+            with,
+            k + 1,
+        );
+        if r.found {
+            let mut tuple = r.tuple;
+            tuple[k] = l;
+            return Found { found: true, tuple };
+        }
+    }
+    find(
+        script,
+        ends,
+        context,
+        block,
+        parts,
+        ranks,
+        table,
+        quads,
+        leasts,
+        known,
+        k,
+        l + 1,
+    )
 }

@@ -1,23 +1,15 @@
-// The search for answers: the least term number for which a query could still hold, variable by variable.
+// The search for answers, variable by variable.
 use definitions::PAIR_LIMIT;
 
 pub mod answer;
 mod find;
-mod seek;
 pub mod trying; // trying.rt: one tuple
 mod types;
 
-// What the seek finds at a query's record: the offset after it, and the least number.
-pub struct Sought {
-    pub next: usize,
-    pub least: usize,
-}
-
-// A block as the search sees it: its query's offset and levels left, its variables with their types' codes, and the last
+// A block as the search sees it: its query's offset, its variables with their types' codes, and the last
 // tuple, which counts where the search is told so.
 pub struct Block {
     pub at: usize,
-    pub left: u8,
     pub size: usize,
     pub vars: [usize; PAIR_LIMIT],
     pub types: [u8; PAIR_LIMIT],

@@ -7,6 +7,7 @@ ghost use Rattle.search.specs.Trying.{TriedOf};
 use crate::Block;
 use crate::Tried;
 use codes::has_type;
+use definitions::DEPTH_LIMIT;
 use definitions::PAIR_LIMIT;
 use definitions::VARIABLE_LIMIT;
 use query::Context;
@@ -41,10 +42,19 @@ pub fn try_tuple(
     ensures { λ r. ⌜ ((w : World (now (script .entry)) (now (ranks .entry)) (now (table .entry)) (now (quads .entry)) (now (leasts .entry)) context block) → TriedOf w known tuple k r) ⌝ }
 {
     let at = block.at;
-    let left = block.left;
     let size = block.size;
     if size <= k {
-        let t = eval_query(script, ends, context, at, left, ranks, table, &known, quads);
+        let t = eval_query(
+            script,
+            ends,
+            context,
+            at,
+            DEPTH_LIMIT,
+            ranks,
+            table,
+            &known,
+            quads,
+        );
         return Tried {
             fits: true,
             holds: t.holds,

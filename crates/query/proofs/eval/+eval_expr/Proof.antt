@@ -5,7 +5,7 @@ use mathlib.Core.Path.{refl, sym, ap, ap₂, _∙_}
 use mathlib.Core.Bool.{_&&_}
 use lib.Dec.{ltb}
 use borrow.Author.Tests.{not-true, not-false}
-use Rattle.query.specs.Seek.{exprKnown}
+use Rattle.query.specs.Known.{exprKnown}
 use Rattle.query.proofs.CodeLaws.{code-bound}
 use Rattle.laws.proofs.Walked.{leaf-walked}
 use Rattle.laws.proofs.Productions.{ExprAt, expr-at}

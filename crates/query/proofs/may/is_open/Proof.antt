@@ -3,7 +3,7 @@ use mathlib.Core.Path.{_≡_, refl, sym, _∙_, ap}
 use mathlib.Core.Bool.{true≢false}
 use lib.Dec.{ltb}
 use Rattle.laws.proofs.Productions.{expr-at}
-use Rattle.query.specs.Seek.{exprKnown}
+use Rattle.query.specs.Known.{exprKnown}
 use Rattle.scan.specs.Codes.{soughtCode}
 use Rattle.query.proofs.CodeLaws.{code-bound}
 use Rattle.query.proofs.MayLaws.{code-waits}

@@ -4,9 +4,8 @@ use Prim.Native.Nat.{_-_}
 use native.Mathlib.Omega.{arith}
 use borrow.Author.Needs.{needs}
 use lib.ListN.{length}
-use Rattle.query.specs.Seek.{clear}
 use Rattle.query.specs.Codes.{bindingsOf}
-use Rattle.search.specs.Finding.{numbersFrom}
+use Rattle.search.specs.Finding.{clear, numbersFrom}
 use Rattle.search.proofs.AnswerLaws.{clear-start, clear-turn, clear-ends}
 use Rattle.search.proofs.answer.cleared.Statement.{statement}
 use Rattle.search.proofs.answer.cleared.Tie as tie

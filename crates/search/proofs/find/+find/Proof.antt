@@ -1,157 +1,151 @@
--- `search::find::find` meets its contract: one law for each way through; the levels left fall. The loop's invariant: the level from lo on gives the result.
+-- `search::find::find` meets its contract: one law for each way through; the levels left fall. The loop's invariant: no number before has a tuple.
 -- Assumes nothing.
 use borrow.Author.Needs.{needs}
 use native.Mathlib.Omega.{arith}
 use mathlib.Core.Path.{_≡_, refl, _∙_}
 use mathlib.Core.Logic.{⊎-elim}
-use Prim.Native.Nat.{_-_}
+use Prim.Native.Nat.{ℕ, _-_, _≤_, _<_}
 use lib.ListN.{length, length-set}
 use Rattle.search.specs.Finding.{World}
-use Rattle.query.proofs.TermLaws.{few}
-use Rattle.search.proofs.FindLaws.{loads-here, lent-here, SoFar, level-enter, find-tight, find-test, find-past, find-none, find-skip, find-on, find-hit}
-use mathlib.Core.List.{[]}
-use Prim.Native.Nat.{ℕ, _<_}
+use Rattle.search.proofs.FindLaws.{loads-here, lent-here, few-terms, LevelFrom, level-starts, find-test, find-past, find-none, find-skip, find-on, find-hit}
 use borrow.Fn.Kinds.{In}
 use borrow.Fn.PlainCycle.{Measures, is, falls, and}
 use Rattle.search.proofs.find.find.Reads as find
 use Rattle.search.proofs.find.find.Kinds as find-kinds
 use Rattle.search.proofs.find.+find.Lts-find as lts
-use Rattle.keys.proofs.either.Reads as either
 use Rattle.query.proofs.eval.eval_query.Reads as eval-query
-use Rattle.search.proofs.find.hopeful.Reads as hopeful
-use Rattle.search.proofs.find.next_after.Reads as next-after
+use Rattle.search.proofs.find.next.Reads as next
+use Rattle.search.proofs.find.nothing.Reads as nothing
+use Rattle.search.proofs.find.worth.Reads as worth
 use Rattle.search.proofs.find.+find.{statement}
 use Rattle.search.proofs.find.+find.Tie.{close}
 
-abbrev μ-find : Measures 6 find-kinds.ps ℕ
-μ-find κs a = a .1 .1 .1 .0 .size - a .1 .1 .1 .1 .1 .1 .1 .1 .1 .0
+abbrev μ-find : Measures 7 find-kinds.ps ℕ
+μ-find κs a = a .1 .1 .1 .0 .size - a .1 .1 .1 .1 .1 .1 .1 .1 .1 .1 .0
 
-abbrev find-at : ℕ → In 6 find-kinds.ps
-find-at t = and 6 find-kinds.ps (is 6 find-kinds.ps μ-find t) find.Pre
+abbrev find-at : ℕ → In 7 find-kinds.ps
+find-at t = and 7 find-kinds.ps (is 7 find-kinds.ps μ-find t) find.Pre
 
-abbrev find-below : ℕ → In 6 find-kinds.ps
-find-below t = and 6 find-kinds.ps (falls 6 find-kinds.ps _<_ μ-find t) find.Pre
+abbrev find-below : ℕ → In 7 find-kinds.ps
+find-below t = and 7 find-kinds.ps (falls 7 find-kinds.ps _<_ μ-find t) find.Pre
 
 abbrev find-Inv-loop : lts.InvT-loop
-find-Inv-loop script ends context block ranks table quads leasts k tight known at left size count v l lo₀ lo =
-    (w : World script ranks table quads leasts context block) → SoFar w known k tight lo
+find-Inv-loop script ends context block parts ranks table quads leasts k lo known at size count v from₀ from =
+    (lo ≤ from) × ((w : World script ranks table quads leasts context block) (below : k < block .size) → LevelFrom w known k below lo from)
 
 abbrev find-μ-loop : lts.MeasureT-loop
-find-μ-loop script ends context block ranks table quads leasts k tight known at left size count v l lo₀ lo = count - lo
+find-μ-loop script ends context block parts ranks table quads leasts k lo known at size count v from₀ from = count - from
 
 abbrev calls : ℕ → lts.Claims
-calls t = (eval-query.Asked, eval-query.Learnt, either.Asked, either.Learnt, next-after.Asked, next-after.Learnt, hopeful.Asked, hopeful.Learnt, find-below t, find.Post)
+calls t = (eval-query.Asked, eval-query.Learnt, next.Asked, next.Learnt, nothing.Asked, nothing.Learnt, worth.Asked, worth.Learnt, find-below t, find.Post)
 
 module _ (t : ℕ) where
-  -- where the search begins, of a level, and that level, of a choice in it
-  abbrev start : lts.Else1 (calls t) (find-at t) find.Post find-Inv-loop find-μ-loop → lts.Start (calls t) (find-at t) find.Post find-Inv-loop find-μ-loop
-  start c = c .before .before .before .before .before .before .before
-
-  abbrev level : lts.Else3 (calls t) (find-at t) find.Post find-Inv-loop find-μ-loop → lts.Else1 (calls t) (find-at t) find.Post find-Inv-loop find-μ-loop
-  level c = c .before .before .before .before .before .before .before .before
-
-  sixteen : (c : lts.Start (calls t) (find-at t) find.Post find-Inv-loop find-μ-loop) → length (c .args .t9) ≡ 16
+  sixteen : (c : lts.Start (calls t) (find-at t) find.Post find-Inv-loop find-μ-loop) → length (c .args .t10) ≡ 16
   sixteen c = search needs
 
-  returns : lts.Need-returns (calls t) (find-at t) find.Post find-Inv-loop find-μ-loop
-  returns c =
-      let s = c .before .before .before .before .before .before .before .before in
-      (λ w. find-tight w _ (s .args .k) (s .args .tight) (c .before .if1 .taken) [] (c .if2 .taken), refl)
+  slice-aggregate-eval-query : lts.Need-slice-aggregate-eval-query (calls t) (find-at t) find.Post find-Inv-loop find-μ-loop
+  slice-aggregate-eval-query c = search needs
 
   eval-query-requires : lts.Need-eval-query-requires (calls t) (find-at t) find.Post find-Inv-loop find-μ-loop
   eval-query-requires c κs =
       let s = c .before .before .before .before .before .before .before .before .before in
-      (loads-here (s .pre .1 .0), (lent-here (s .pre .1 .0) _ (sixteen s), (s .pre .1 .1, s .pre .1 .0 .lent .stored)))
+      let w = s .pre .1 .0 in
+      (loads-here w, (lent-here w _ (sixteen s), (s .pre .1 .1 .0, w .lent .stored)))
+
+  returns : lts.Need-returns (calls t) (find-at t) find.Post find-Inv-loop find-μ-loop
+  returns c = (λ w. find-test w _ _ (c .before .before .if1 .taken) _ _ (c .eval-query .ensures .0), refl)
+
+  mul-v : lts.Need-mul-v (calls t) (find-at t) find.Post find-Inv-loop find-μ-loop
+  mul-v c = omega (arith, c .before .before .before .before .before .before .before .before .before .pre .1 .0 .size, c .before .if1 .left)
+
+  array-read-v : lts.Need-array-read-v (calls t) (find-at t) find.Post find-Inv-loop find-μ-loop
+  array-read-v c = omega (arith, c .before .before .before .before .before .before .before .before .before .pre .1 .0 .size, c .before .if1 .left)
+
+  loop-holds : lts.Need-loop-holds (calls t) (find-at t) find.Post find-Inv-loop find-μ-loop
+  loop-holds c = (omega arith, λ w below. level-starts w _ _ below _)
+
+  slice-aggregate-next : lts.Need-slice-aggregate-next (calls t) (find-at t) find.Post find-Inv-loop find-μ-loop
+  slice-aggregate-next c = search needs
+
+  next-requires : lts.Need-next-requires (calls t) (find-at t) find.Post find-Inv-loop find-μ-loop
+  next-requires c κs =
+      let s = c .before .before .before .before .before .before .before .before .before .before .before .before in
+      let p = s .pre .1 in
+      (p .0, (p .1 .0, (p .1 .1, (sixteen s, c .before .before .before .before .if1 .left))))
+
+  nothing-requires : lts.Need-nothing-requires (calls t) (find-at t) find.Post find-Inv-loop find-μ-loop
+  nothing-requires c κs = tt
 
   returns-2 : lts.Need-returns-2 (calls t) (find-at t) find.Post find-Inv-loop find-μ-loop
   returns-2 c =
-      let s = c .before .before .before .before .before .before .before .before .before .before in
-      (λ w. find-test w _ (s .args .k) (s .args .tight) (c .before .before .before .if1 .taken) _ (c .before .before .if2 .left) (c .eval-query .ensures .0), refl)
+      let below = c .before .before .before .before .before .before .before .if1 .left in
+      (λ w. find-none w _ _ below _ _ (c .before .before .before .before .before .loop .inv .1 w below) _ (c .before .before .next .ensures w) (c .before .if2 .taken) _ (c .nothing .ensures .0), c .nothing .ensures .1)
 
-  loop-holds : lts.Need-loop-holds (calls t) (find-at t) find.Post find-Inv-loop find-μ-loop
-  loop-holds c =
-      let e = c .before .before .before in
-      let s = start e in
-      λ w. level-enter w _ (s .args .k) (s .args .tight) (e .if1 .left) _ (c .either .ensures)
+  mul-with : lts.Need-mul-with (calls t) (find-at t) find.Post find-Inv-loop find-μ-loop
+  mul-with c = omega (arith, c .before .before .before .before .before .before .before .before .before .before .before .before .before .before .pre .1 .0 .small (c .before .before .before .before .before .before .before .before .before .before .before .before .before .before .args .k))
 
-  next-after-requires : lts.Need-next-after-requires (calls t) (find-at t) find.Post find-Inv-loop find-μ-loop
-  next-after-requires c κs =
-      let e = c .before .before .before .before .before .before in
-      (start e .pre .1 .0, (start e .pre .1 .1, (sixteen (start e), (e .if1 .left, c .before .loop-test .taken))))
+  array-write-with : lts.Need-array-write-with (calls t) (find-at t) find.Post find-Inv-loop find-μ-loop
+  array-write-with c = c .before .before .before .before .before .before .before .before .before .before .before .before .before .before .pre .1 .0 .small _
+
+  worth-requires : lts.Need-worth-requires (calls t) (find-at t) find.Post find-Inv-loop find-μ-loop
+  worth-requires c κs =
+      let p = c .before .before .before .before .before .before .before .before .before .before .before .before .before .before .pre .1 in
+      (p .0, (p .1 .0, (p .1 .1, (c .before .before .before .before .before .before .if1 .left, c .if2 .left))))
+
+  add-find : lts.Need-add-find (calls t) (find-at t) find.Post find-Inv-loop find-μ-loop
+  add-find c = omega (arith, c .before .before .before .before .before .before .before .before .before .before .before .before .before .before .before .before .pre .1 .0 .size, c .before .before .before .before .before .before .before .before .if1 .left)
+
+  find-requires : lts.Need-find-requires (calls t) (find-at t) find.Post find-Inv-loop find-μ-loop
+  find-requires c κs = (omega (arith, c .before .before .before .before .before .before .before .before .before .before .before .before .before .before .before .before .pre .0, c .before .before .before .before .before .before .before .before .if1 .left), c .before .before .before .before .before .before .before .before .before .before .before .before .before .before .before .before .pre .1)
+
+  mul-tuple : lts.Need-mul-tuple (calls t) (find-at t) find.Post find-Inv-loop find-μ-loop
+  mul-tuple c = omega (arith, c .before .before .before .before .before .before .before .before .before .before .before .before .before .before .before .before .before .before .before .pre .1 .0 .size, c .before .before .before .before .before .before .before .before .before .before .before .if1 .left)
+
+  array-write-tuple : lts.Need-array-write-tuple (calls t) (find-at t) find.Post find-Inv-loop find-μ-loop
+  array-write-tuple c = omega (arith, c .before .before .before .before .before .before .before .before .before .before .before .before .before .before .before .before .before .before .before .pre .1 .0 .size, c .before .before .before .before .before .before .before .before .before .before .before .if1 .left)
 
   returns-3 : lts.Need-returns-3 (calls t) (find-at t) find.Post find-Inv-loop find-μ-loop
   returns-3 c =
-      let d = c .before .before .before .before in
-      let e = d .before .before .before .before in
-      let s = start e in
-      (λ w. find-none w _ (s .args .k) (s .args .tight) (e .if1 .left) _ (d .loop .inv w) [] _ (c .before .next-after .ensures w) (c .if3 .taken), refl)
-
-  mul-with : lts.Need-mul-with (calls t) (find-at t) find.Post find-Inv-loop find-μ-loop
-  mul-with c = let s = start (level c) in omega (arith, s .pre .1 .0 .small (s .args .k))
-
-  array-write-with : lts.Need-array-write-with (calls t) (find-at t) find.Post find-Inv-loop find-μ-loop
-  array-write-with c = let s = start (level c) in omega (arith, s .pre .1 .0 .small (s .args .k))
-
-  add-either : lts.Need-add-either (calls t) (find-at t) find.Post find-Inv-loop find-μ-loop
-  add-either c = omega (arith, start (level c) .pre .1 .0 .size, level c .if1 .left)
-
-  hopeful-requires : lts.Need-hopeful-requires (calls t) (find-at t) find.Post find-Inv-loop find-μ-loop
-  hopeful-requires c κs = start (level (c .before)) .pre .1
-
-  find-requires : lts.Need-find-requires (calls t) (find-at t) find.Post find-Inv-loop find-μ-loop
-  find-requires c κs = let e = level (c .before .before .before) in (omega arith, start e .pre .1)
-
-  mul-tuple : lts.Need-mul-tuple (calls t) (find-at t) find.Post find-Inv-loop find-μ-loop
-  mul-tuple c = let e = level (c .before .before .before .before .before .before) in omega (arith, start e .pre .1 .0 .size, e .if1 .left)
-
-  array-write-tuple : lts.Need-array-write-tuple (calls t) (find-at t) find.Post find-Inv-loop find-μ-loop
-  array-write-tuple c = let e = level (c .before .before .before .before .before .before) in omega (arith, start e .pre .1 .0 .size, e .if1 .left)
-
-  returns-4 : lts.Need-returns-4 (calls t) (find-at t) find.Post find-Inv-loop find-μ-loop
-  returns-4 c =
-      let d = c .before .before .before .before .before .before in
-      let e = level d in
-      let s = start e in
+      let s = c .before .before .before .before .before .before .before .before .before .before .before .before .before .before .before .before .before .before .before in
+      let below = c .before .before .before .before .before .before .before .before .before .before .before .if1 .left in
+      let i = c .before .before .before .before .before .before .before .before .before .loop .inv in
       let g = s .pre .1 .0 in
-      let r = c .before .before .find in (
-        λ w. find-hit w _ (s .args .k) (s .args .tight) (e .if1 .left) _ (d .before .before .before .before .loop .inv w) [] _ (d .before .next-after .ensures w) (d .if3 .left)
-            (omega (arith, g .small (s .args .k), sixteen s)) _ refl _ (c .before .before .before .before .before .either2 .ensures) _
-            (c .before .before .before .before .hopeful .ensures w) (c .before .before .before .if4 .taken) _ (r .ensures .0 w) (c .before .if5 .taken)
-            (omega (arith, r .ensures .1, g .size, e .if1 .left)),
-        length-set (r .result .tuple) (s .args .k) (d .before .next-after .result) ∙ r .ensures .1,
+      let y = c .before .before .find in (
+        λ w. find-hit w _ _ below _ _ (i .1 w below) _ (c .before .before .before .before .before .before .next .ensures w) (c .before .before .before .before .before .if2 .left) (omega (arith, g .small (s .args .k), sixteen s)) _ (y .ensures .0 w) (c .before .if4 .taken)
+            (omega (arith, i .0, c .before .before .before .before .before .before .next .ensures w .0, c .before .before .before .before .before .before .before .before .loop-test .taken)) (omega (arith, y .ensures .1, g .size, below)),
+        length-set (y .result .tuple) (s .args .k) (c .before .before .before .before .before .before .next .result) ∙ y .ensures .1,
       )
 
+  add-from : lts.Need-add-from (calls t) (find-at t) find.Post find-Inv-loop find-μ-loop
+  add-from c = omega (arith, few-terms (c .before .before .before .before .before .before .before .before .before .before .before .before .before .before .before .before .pre .1 .0), c .before .before .if2 .left)
+
   loop-less : lts.Need-loop-less (calls t) (find-at t) find.Post find-Inv-loop find-μ-loop
-  loop-less c = let d = c .before .before .before in omega (arith, d .before .next-after .ensures (start (level d) .pre .1 .0) .0, d .if3 .left, d .before .before .before .loop-test .taken)
+  loop-less c = omega (arith, c .before .before .before .next .ensures (c .before .before .before .before .before .before .before .before .before .before .before .before .before .before .before .before .pre .1 .0) .0, c .before .before .if2 .left, c .before .before .before .before .before .loop-test .taken)
 
   loop-again : lts.Need-loop-again (calls t) (find-at t) find.Post find-Inv-loop find-μ-loop
   loop-again c =
-      let d = c .before .before .before in
-      let e = level d in
-      let s = start e in
-      let g = s .pre .1 .0 in
-      ⊎-elim
-      (λ h w. find-on w _ (s .args .k) (s .args .tight) (e .if1 .left) _ (d .before .before .before .before .loop .inv w) [] _ (d .before .next-after .ensures w) (d .if3 .left)
-      (omega (arith, g .small (s .args .k), sixteen s)) _ refl _ (c .before .before .either2 .ensures) _ (c .before .hopeful .ensures w)
-      (h .0 .taken) _ (h .1 .ensures .0 w) (h .2 .left))
-      (λ h w. find-skip w _ (s .args .k) (s .args .tight) (e .if1 .left) _ (d .before .before .before .before .loop .inv w) [] _ (d .before .next-after .ensures w) (d .if3 .left)
-      (omega (arith, g .small (s .args .k), sixteen s)) _ refl _ (c .before .before .either2 .ensures) _ (c .before .hopeful .ensures w) (h .left))
-      (c .if4 .came)
+      let s = c .before .before .before .before .before .before .before .before .before .before .before .before .before .before .before .before in
+      let i = c .before .before .before .before .before .before .loop .inv in
+      let small = c .before .before .if2 .left in (
+        omega (arith, i .0, c .before .before .before .next .ensures (s .pre .1 .0) .0, c .before .before .before .before .before .loop-test .taken),
+        ⊎-elim
+            (λ h w below. find-on w _ _ below _ _ (i .1 w below) _ (c .before .before .before .next .ensures w) small (omega (arith, s .pre .1 .0 .small (s .args .k), sixteen s)) _ (h .1 .ensures .0 w) (h .2 .left))
+            (λ h w below. find-skip w _ _ below _ _ (i .1 w below) _ (c .before .before .before .next .ensures w) small (omega (arith, s .pre .1 .0 .small (s .args .k), sixteen s)) (c .before .worth .ensures w) (h .left))
+            (c .if3 .came),
+      )
 
-  returns-5 : lts.Need-returns-5 (calls t) (find-at t) find.Post find-Inv-loop find-μ-loop
-  returns-5 c =
-      let e = c .before .before .before .before .before in
-      let s = start e in
-      (λ w. find-past w _ (s .args .k) (s .args .tight) (e .if1 .left) _ (c .before .loop .inv w) [] (c .loop-test .left), refl)
+  nothing-requires-2 : lts.Need-nothing-requires-2 (calls t) (find-at t) find.Post find-Inv-loop find-μ-loop
+  nothing-requires-2 c κs = tt
+
+  returns-4 : lts.Need-returns-4 (calls t) (find-at t) find.Post find-Inv-loop find-μ-loop
+  returns-4 c =
+      let below = c .before .before .before .before .if1 .left in
+      (λ w. find-past w _ _ below _ _ (c .before .before .loop .inv .1 w below) (c .before .loop-test .left) _ (c .nothing2 .ensures .0), c .nothing2 .ensures .1)
 
   closed : {M : Type 1} → lts.Closed (calls t) (find-at t) find.Post M
-  closed = lts.spec (calls t) (find-at t) find.Post find-Inv-loop find-μ-loop returns (λ c. omega arith) eval-query-requires returns-2
-      (λ c. omega (arith, start (c .before) .pre .1 .0 .size)) (λ c. omega (arith, start (c .before) .pre .1 .0 .size)) (λ c. omega (arith, start (c .before .before) .pre .1 .0 .size))
-      (λ c. omega (arith, start (c .before .before) .pre .1 .0 .size)) (λ c κs. tt) loop-holds
-      (λ c. omega (arith, start (c .before .before .before .before .before .before) .pre .1 .0 .size)) next-after-requires returns-3 mul-with array-write-with add-either (λ c κs. tt)
-      hopeful-requires (λ c. omega (arith, start (level (c .before .before .before)) .pre .1 .0 .size))
-      find-requires mul-tuple array-write-tuple returns-4
-      (λ c. let d = c .before .before .before in omega (arith, few _ _ _ (start (level d) .pre .1 .0 .lent .tabled), d .if3 .left)) loop-less loop-again returns-5
+  closed = lts.spec (calls t) (find-at t) find.Post find-Inv-loop find-μ-loop slice-aggregate-eval-query eval-query-requires returns mul-v array-read-v loop-holds slice-aggregate-next
+      next-requires nothing-requires returns-2 mul-with array-write-with worth-requires add-find find-requires mul-tuple array-write-tuple returns-3 add-from loop-less loop-again
+      nothing-requires-2 returns-4
 
 pub +find-spec : {M : Type 1} → statement M
 +find-spec = close μ-find λ t. closed t

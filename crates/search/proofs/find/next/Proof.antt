@@ -1,28 +1,60 @@
--- `search::find::next` meets its contract. Assumes nothing.
+-- `search::find::next` meets its contract. The loop's invariant: the numbers before are passed over. Assumes nothing.
 use native.Mathlib.Omega.{arith}
-use Rattle.search.proofs.FindLaws.{loads-here, lent-here, next-is}
+use Prim.Native.Nat.{_-_, _<_}
+use Rattle.search.specs.Finding.{World}
+use Rattle.search.proofs.FindLaws.{lent-here, parts-here, SoFar, next-starts, next-past, next-here, next-higher, next-on}
 use Rattle.search.proofs.find.next.Statement.{statement}
 use Rattle.search.proofs.find.next.Tie as tie
 
-mul-seek : tie.Need-mul-seek
-mul-seek c = omega (arith, (c .before .before .before .before .before .before .before .before .before .pre .0) .size)
+abbrev Inv-loop : tie.InvT-loop
+Inv-loop script ends context block parts ranks table quads leasts known k lo count v from₀ from =
+    (w : World script ranks table quads leasts context block) (below : k < block .size) → SoFar w known k below lo from
 
-array-read-seek : tie.Need-array-read-seek
-array-read-seek c = omega (arith, (c .before .before .before .before .before .before .before .before .before .pre .0) .size)
+abbrev μ-loop : tie.MeasureT-loop
+μ-loop script ends context block parts ranks table quads leasts known k lo count v from₀ from = count - from
 
-seek-requires : tie.Need-seek-requires
-seek-requires c κs = let p = c .before .before .before .before .before .before .before .before .before .pre in (loads-here (p .0), (lent-here (p .0) _ (p .1 .1 .0), (p .1 .0, p .0 .lent .stored)))
+mul-v : tie.Need-mul-v Inv-loop μ-loop
+mul-v c = let p = c .before .before .before .before .before .before .before .before .before .pre in omega (arith, p .0 .size, p .1 .1 .1 .1)
 
-array-read-skip : tie.Need-array-read-skip
-array-read-skip c = omega (arith, (c .before .before .before .before .before .before .before .before .before .before .pre .0) .size)
+array-read-v : tie.Need-array-read-v Inv-loop μ-loop
+array-read-v c = let p = c .before .before .before .before .before .before .before .before .before .pre in omega (arith, p .0 .size, p .1 .1 .1 .1)
 
-skip-requires : tie.Need-skip-requires
-skip-requires c κs = (c .before .before .before .before .before .before .before .before .before .before .pre .0) .lent .room
+loop-holds : tie.Need-loop-holds Inv-loop μ-loop
+loop-holds c = λ w below. next-starts w _ _ below _
 
-returns : tie.Need-returns
-returns c = λ w. next-is w _ _ (c .before .before .before .before .before .before .before .before .before .before .before .pre .1 .1 .1) _ (c .before .seek .ensures) (c .skip .ensures)
+seek-parts-requires : tie.Need-seek-parts-requires Inv-loop μ-loop
+seek-parts-requires c κs =
+    let p = c .before .before .before .before .before .before .before .before .before .before .before .pre in
+    let w = p .0 in
+    let q = p .1 .1 .0 in
+    (q .room, ((w .tree, parts-here w q), (lent-here w _ (p .1 .1 .1 .0), (p .1 .0, (w .lent .stored, w .small _)))))
+
+array-read-skip : tie.Need-array-read-skip Inv-loop μ-loop
+array-read-skip c = let p = c .before .before .before .before .before .before .before .before .before .before .before .before .before .pre in omega (arith, p .0 .size, p .1 .1 .1 .1)
+
+skip-requires : tie.Need-skip-requires Inv-loop μ-loop
+skip-requires c κs = c .before .before .before .before .before .before .before .before .before .before .before .before .before .pre .0 .lent .room
+
+returns : tie.Need-returns Inv-loop μ-loop
+returns c = λ w.
+    let p = c .before .before .before .before .before .before .before .before .before .before .before .before .before .before .before .pre in
+    let below = p .1 .1 .1 .1 in
+    next-here w _ _ below _ _ (c .before .before .before .before .before .loop .inv w below) _ (c .before .before .before .seek-parts .ensures (w .tree) (parts-here w (p .1 .1 .0))) _ (c .before .skip .ensures) (c .if1 .taken)
+
+loop-less : tie.Need-loop-less Inv-loop μ-loop
+loop-less c =
+    let p = c .before .before .before .before .before .before .before .before .before .before .before .before .before .before .before .pre in
+    let w = p .0 in
+    let below = p .1 .1 .1 .1 in
+    let es = c .before .before .before .seek-parts .ensures (w .tree) (parts-here w (p .1 .1 .0)) in
+    omega (arith, es .0, next-higher w _ _ below _ _ (c .before .before .before .before .before .loop .inv w below) _ es _ (c .before .skip .ensures), c .if1 .left, c .before .before .before .before .loop-test .taken)
+
+loop-again : tie.Need-loop-again Inv-loop μ-loop
+loop-again c = λ w below.
+    next-on w _ _ below _ _ (c .before .before .before .before .before .loop .inv w below) _ (c .before .before .before .seek-parts .ensures (w .tree) (parts-here w (c .before .before .before .before .before .before .before .before .before .before .before .before .before .before .before .pre .1 .1 .0))) _ (c .before .skip .ensures)
+
+returns-2 : tie.Need-returns-2 Inv-loop μ-loop
+returns-2 c = λ w. let below = c .before .before .before .before .before .before .before .before .before .before .before .pre .1 .1 .1 .1 in next-past w _ _ below _ _ (c .before .loop .inv w below) (c .loop-test .left)
 
 pub next-spec : {M : Type 1} → statement M
-next-spec =
-    tie.close
-    (tie.spec mul-seek array-read-seek seek-requires array-read-skip skip-requires returns)
+next-spec = tie.close (tie.spec Inv-loop μ-loop mul-v array-read-v loop-holds seek-parts-requires array-read-skip skip-requires returns loop-less loop-again returns-2)

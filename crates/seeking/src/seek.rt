@@ -7,7 +7,7 @@ ghost use Rattle.laws.specs.Walks.{Loads};
 ghost use Rattle.laws.specs.Walks.{Walked};
 ghost use Rattle.query.specs.StoreLent.{Stored, rowsOf};
 ghost use Rattle.query.specs.Eval.{RanksLent};
-ghost use Rattle.search.specs.Seeking.{FilterOf, SeekOf};
+ghost use Rattle.seeking.specs.Seeking.{FilterOf, SeekOf};
 use crate::Sought;
 use ends::after;
 use query::Context;
@@ -139,7 +139,7 @@ pub fn seek(
                 v,
                 lo,
             );
-            if (a.least == lo) & (lo <= context.count) {
+            if a.least == lo {
                 let next = after(ends, script.len(), at);
                 return Sought { next, least: lo };
             }

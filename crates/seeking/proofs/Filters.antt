@@ -19,8 +19,9 @@ use Rattle.laws.proofs.Truths.{true-and, false-and, true-or, false-or}
 use Rattle.laws.proofs.Tests.{andLeft, andRight, andMake, orLeft, orRight, orCases}
 use Rattle.laws.specs.Bindings.{Bound, BoundIn}
 use Rattle.laws.proofs.Bindings.{test-bound}
-use Rattle.query.specs.Seek.{nameKnown, exprKnown, comesTo, joined, mayTest, may}
-use Rattle.search.proofs.OnlyNamed.{Agree, condition-agrees}
+use Rattle.query.specs.Known.{nameKnown, exprKnown, comesTo, joined, mayTest, may}
+use Rattle.seeking.specs.Seeking.{Keeps}
+use Rattle.seeking.proofs.OnlyNamed.{Agree, condition-agrees}
 
 -- ── each variable of a known filter is bound ────────────────────────────────────────────────
 
@@ -51,11 +52,7 @@ module _ (γ : Bindings) where
 
 -- ── with more known ─────────────────────────────────────────────────────────────────────────
 
--- what γ knows, δ has too
-abbrev pub Under : Bindings → Bindings → Type 0
-Under γ δ = (x i : ℕ) → γ x ≡ some i → δ x ≡ some i
-
-pub bound-agrees : (γ δ : Bindings) → Under γ δ → (names : ℕ → Bool) → BoundIn γ names → Agree γ δ names
+pub bound-agrees : (γ δ : Bindings) → Keeps γ δ → (names : ℕ → Bool) → BoundIn γ names → Agree γ δ names
 bound-agrees γ δ u names b v m = let h = b v m in let e = u v (h .number) (h .is) in cc
 
 -- ── what a boolean comes to it may come to, with less known ─────────────────────────────────
@@ -110,7 +107,7 @@ unfolding _>>=_
 not-comes want (fault x) h = absurd h
 not-comes want (ok a) h = subst T (comes-not want a) h
 
-module _ (σ : Setting) (terms : List Term) (quads : List Quad) (γ δ : Bindings) (u : Under γ δ) where
+module _ (σ : Setting) (terms : List Term) (quads : List Quad) (γ δ : Bindings) (u : Keeps γ δ) where
   -- a test
   test-may : (known want : Bool) (c : Cond) → (T known → BoundIn γ (λ v. inCond v c)) → T (gives (comesTo want) (condition σ terms quads δ c)) → T (mayTest σ terms quads γ known want c)
   test-may true want c bound h =

@@ -1,0 +1,4 @@
+pub mod OnlyNamed
+pub mod Filters
+pub mod SeekLaws
+pub mod PartLaws

@@ -1,0 +1,68 @@
+-- `seeking::by_parts::agree` meets its contract: of each part that is asked, one law. Assumes nothing.
+use native.Mathlib.Omega.{arith}
+use mathlib.Core.Bool.{true≢false}
+use Prim.Native.Nat.{_-_}
+use Rattle.seeking.proofs.PartLaws.{part-loads, part-inside, part-denies, walked-at}
+use Rattle.seeking.proofs.by_parts.agree.Statement.{statement}
+use Rattle.seeking.proofs.by_parts.agree.Tie as tie
+
+abbrev Inv-loop : tie.InvT-loop
+Inv-loop script ends context parts ranks table known quads v after number n i₀ i = Unit {0}
+
+abbrev μ-loop : tie.MeasureT-loop
+μ-loop script ends context parts ranks table known quads v after number n i₀ i = n - i
+
+loop-holds : tie.Need-loop-holds Inv-loop μ-loop
+loop-holds c = tt
+
+mul-place : tie.Need-mul-place Inv-loop μ-loop
+mul-place c = omega (arith, c .loop-test .taken, c .before .before .before .before .before .before .before .before .before .pre .0)
+
+add-second : tie.Need-add-second Inv-loop μ-loop
+add-second c = omega (arith, c .loop-test .taken, c .before .before .before .before .before .before .before .before .before .pre .0)
+
+mul-at : tie.Need-mul-at Inv-loop μ-loop
+mul-at c = omega (arith, c .loop-test .taken, c .before .before .before .before .before .before .before .before .before .pre .0)
+
+shared-slice-read-at : tie.Need-shared-slice-read-at Inv-loop μ-loop
+shared-slice-read-at c = omega (arith, c .before .loop-test .taken)
+
+mul-names-but : tie.Need-mul-names-but Inv-loop μ-loop
+mul-names-but c = omega (arith, c .before .loop-test .taken, c .before .before .before .before .before .before .before .before .before .before .pre .0)
+
+shared-slice-read-names-but : tie.Need-shared-slice-read-names-but Inv-loop μ-loop
+shared-slice-read-names-but c = omega (arith, c .before .before .loop-test .taken)
+
+names-but-requires : tie.Need-names-but-requires Inv-loop μ-loop
+names-but-requires c κs = let p = c .before .before .before .before .before .before .before .before .before .before .before .pre .1 .1 .1 .1 .1 in (omega (arith, p .0), p .1 .0)
+
+shared-slice-read-if1 : tie.Need-shared-slice-read-if1 Inv-loop μ-loop
+shared-slice-read-if1 c = part-inside _ _ (c .before .before .before .before .before .before .before .before .before .before .before .before .before .pre .1 .0 .1 _ (omega (arith, c .before .before .before .before .loop-test .taken)))
+
+seek-requires : tie.Need-seek-requires Inv-loop μ-loop
+seek-requires c κs =
+    let p = c .before .before .before .before .before .before .before .before .before .before .before .before .before .before .pre .1 in
+    (part-loads _ _ (p .0 .1 _ (omega (arith, c .before .before .before .before .before .loop-test .taken))), (p .1 .0, (p .1 .1 .0, p .1 .1 .1 .0)))
+
+returns : tie.Need-returns Inv-loop μ-loop
+returns c = λ f q p.
+    let x = p (c .before .before .before .before .before .before .before .before .before .loop .i) (omega (arith, c .before .before .before .before .before .before .before .before .loop-test .taken)) in
+    part-denies _ _ _ _ _ _ _ q x _ _ (c .before .before .before .before .before .before .before .before .before .before .before .before .before .before .before .before .before .pre .1 .1 .1 .1 .1 .1 .1) (c .if2 .taken) (walked-at (c .before .before .seek .ensures) (x .read))
+
+add-i : tie.Need-add-i Inv-loop μ-loop
+add-i c = omega (arith, c .before .before .before .before .before .loop-test .taken, c .before .before .before .before .before .before .before .before .before .before .before .before .before .before .pre .0)
+
+loop-less : tie.Need-loop-less Inv-loop μ-loop
+loop-less c = omega (arith, c .before .before .before .before .before .loop-test .taken)
+
+loop-again : tie.Need-loop-again Inv-loop μ-loop
+loop-again c = tt
+
+returns-2 : tie.Need-returns-2 Inv-loop μ-loop
+returns-2 c = λ f. absurd (true≢false f)
+
+pub agree-spec : {M : Type 1} → statement M
+agree-spec =
+    tie.close
+    (tie.spec Inv-loop μ-loop loop-holds mul-place add-second mul-at shared-slice-read-at mul-names-but shared-slice-read-names-but names-but-requires shared-slice-read-if1 seek-requires
+    returns add-i loop-less loop-again returns-2)

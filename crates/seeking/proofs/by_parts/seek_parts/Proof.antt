@@ -1,0 +1,105 @@
+-- `seeking::by_parts::seek_parts` meets its contract. The loop's invariant: what is found passes over no number of the whole query. Assumes nothing.
+use native.Mathlib.Omega.{arith}
+use Prim.Native.Nat.{ℕ, _+_, _*_, _-_, _/_, _≤_, _<_}
+use lib.ListN.{length}
+use Rattle.definitions.specs.Tree.{Query}
+use Rattle.query.specs.StoreLent.{rowsOf}
+use Rattle.seeking.specs.Seeking.{SeekOf}
+use Rattle.seeking.specs.Parts.{PartsOf}
+use Rattle.seeking.proofs.SeekLaws.{stays, ended}
+use Rattle.seeking.proofs.PartLaws.{part-loads, part-seeks, turn-falls, turn-within}
+use Rattle.seeking.proofs.by_parts.seek_parts.Statement.{statement}
+use Rattle.seeking.proofs.by_parts.seek_parts.Tie as tie
+use Rattle.seeking.proofs.by_parts.seek_parts.Lts as lts
+use Rattle.seeking.proofs.by_parts.seek_parts.Reads as seek-parts
+use Rattle.keys.proofs.either.Reads as either
+use Rattle.seeking.proofs.by_parts.seek_part.Reads as seek-part
+use Rattle.seeking.proofs.listing.may_name.Reads as may-name
+
+abbrev Inv-loop : tie.InvT-loop
+Inv-loop script ends context parts ranks table known quads v lo all count n found₀ agreed₀ i₀ found agreed i =
+    (0 < n → i < n) × ((q : Query) → PartsOf script (context .loaded) parts q → SeekOf ranks table known context (rowsOf quads context) v lo found q)
+
+abbrev μ-loop : tie.MeasureT-loop
+μ-loop script ends context parts ranks table known quads v lo all count n found₀ agreed₀ i₀ found agreed i = 17 * (count - found) + (n - agreed)
+
+abbrev calls : lts.Claims
+calls = (may-name.Asked, may-name.Learnt, seek-part.Asked, seek-part.Learnt, either.Asked, either.Learnt)
+
+loop-holds : tie.Need-loop-holds Inv-loop μ-loop
+loop-holds c = (λ h. h, λ q p. stays _ _ _ _ _ _ _ _)
+
+mul-place : tie.Need-mul-place Inv-loop μ-loop
+mul-place c = omega (arith, c .before .loop .inv .0 (omega (arith, c .loop-test .taken)), c .before .before .before .before .before .before .before .before .before .pre .0)
+
+add-second : tie.Need-add-second Inv-loop μ-loop
+add-second c = omega (arith, c .before .loop .inv .0 (omega (arith, c .loop-test .taken)), c .before .before .before .before .before .before .before .before .before .pre .0)
+
+mul-may-name : tie.Need-mul-may-name Inv-loop μ-loop
+mul-may-name c = omega (arith, c .before .loop .inv .0 (omega (arith, c .loop-test .taken)), c .before .before .before .before .before .before .before .before .before .pre .0)
+
+shared-slice-read-may-name : tie.Need-shared-slice-read-may-name Inv-loop μ-loop
+shared-slice-read-may-name c = omega (arith, c .before .before .loop .inv .0 (omega (arith, c .before .loop-test .taken)))
+
+may-name-requires : tie.Need-may-name-requires Inv-loop μ-loop
+may-name-requires c κs = omega (arith, c .before .before .before .before .before .before .before .before .before .before .pre .1 .1 .1 .1 .1)
+
+mul-seek-part : tie.Need-mul-seek-part Inv-loop μ-loop
+mul-seek-part c = omega (arith, c .before .before .before .loop .inv .0 (omega (arith, c .before .before .loop-test .taken)), c .before .before .before .before .before .before .before .before .before .before .before .pre .0)
+
+shared-slice-read-seek-part : tie.Need-shared-slice-read-seek-part Inv-loop μ-loop
+shared-slice-read-seek-part c = omega (arith, c .before .before .before .before .loop .inv .0 (omega (arith, c .before .before .before .loop-test .taken)))
+
+seek-part-requires : tie.Need-seek-part-requires Inv-loop μ-loop
+seek-part-requires c κs =
+    let p = c .before .before .before .before .before .before .before .before .before .before .before .before .pre .1 in
+    let i = c .before .before .before .before .loop .inv .0 (omega (arith, c .before .before .before .loop-test .taken)) in
+    (part-loads _ _ (p .0 .1 _ (omega (arith, i))), (p .1 .0, (p .1 .1 .0, p .1 .1 .1 .0)))
+
+returns : tie.Need-returns Inv-loop μ-loop
+returns c = λ q p.
+    let b = c .before .before .before .before .before .before .loop .inv in
+    let x = p (c .before .before .before .before .before .before .loop .i) (omega (arith, b .0 (omega (arith, c .before .before .before .before .before .loop-test .taken)))) in
+    ended _ _ _ _ _ _ _ _ q (c .if1 .taken) (part-seeks _ _ _ _ _ _ _ q x _ _ _ (b .1 q p) (c .before .seek-part .ensures (x .part) (x .end) (x .read)))
+
+either-requires : tie.Need-either-requires Inv-loop μ-loop
+either-requires c κs = tt
+
+-- the turn that is taken brings the end nearer
+falls : (c : lts.After-either calls seek-parts.Pre seek-parts.Post Inv-loop μ-loop)
+    → let n = length (c .before .before .before .before .before .before .before .before .before .before .before .before .before .before .before .args .parts .now) / 2 in
+    let count = c .before .before .before .before .before .before .before .before .before .before .before .before .before .before .before .args .context .count in
+    (c .either .result < n) × (17 * (count - c .before .before .seek-part .result) + (n - (c .either .result + 1)) < 17 * (count - c .before .before .before .before .before .before .before .loop .found) + (n - c .before .before .before .before .before .before .before .loop .agreed))
+falls c =
+    let x = c .before .before .before .before .before .before .before .before .before .before .before .before .before .before .before .pre .1 .0 .1 (c .before .before .before .before .before .before .before .loop .i) (omega (arith, c .before .before .before .before .before .before .before .loop .inv .0 (omega (arith, c .before .before .before .before .before .before .loop-test .taken)))) in
+    turn-falls _ _ _ _ _ _ (omega (arith, c .before .before .before .before .before .before .before .before .before .before .before .before .before .before .before .pre .0)) (c .before .before .before .before .before .before .loop-test .taken) (c .before .if1 .left) (c .before .before .seek-part .ensures (x .part) (x .end) (x .read) .0) (c .either .ensures)
+
+add-agreed : tie.Need-add-agreed Inv-loop μ-loop
+add-agreed c = omega (arith, falls c .0, c .before .before .before .before .before .before .before .before .before .before .before .before .before .before .before .pre .0)
+
+add-next : tie.Need-add-next Inv-loop μ-loop
+add-next c = omega (arith, c .before .before .before .before .before .before .before .loop .inv .0 (omega (arith, c .before .before .before .before .before .before .loop-test .taken)), c .before .before .before .before .before .before .before .before .before .before .before .before .before .before .before .pre .0)
+
+either-requires-2 : tie.Need-either-requires-2 Inv-loop μ-loop
+either-requires-2 c κs = tt
+
+loop-less : tie.Need-loop-less Inv-loop μ-loop
+loop-less c = falls (c .before) .1
+
+loop-again : tie.Need-loop-again Inv-loop μ-loop
+loop-again c = (
+  λ h. turn-within _ _ _ h (c .either2 .ensures),
+  λ q p.
+      let b = c .before .before .before .before .before .before .before .before .loop .inv in
+      let x = p (c .before .before .before .before .before .before .before .before .loop .i) (omega (arith, b .0 (omega (arith, c .before .before .before .before .before .before .before .loop-test .taken)))) in
+      part-seeks _ _ _ _ _ _ _ q x _ _ _ (b .1 q p) (c .before .before .before .seek-part .ensures (x .part) (x .end) (x .read)),
+)
+
+returns-2 : tie.Need-returns-2 Inv-loop μ-loop
+returns-2 c = c .before .loop .inv .1
+
+pub seek-parts-spec : {M : Type 1} → statement M
+seek-parts-spec =
+    tie.close
+    (tie.spec Inv-loop μ-loop loop-holds mul-place add-second mul-may-name shared-slice-read-may-name may-name-requires mul-seek-part shared-slice-read-seek-part seek-part-requires
+    returns either-requires add-agreed add-next either-requires-2 loop-less loop-again returns-2)

@@ -1,0 +1,91 @@
+// A query taken apart below `both`: each part holds wherever the query holds.
+ghost use mathlib.Core.Path.{_≡_};
+ghost use mathlib.Core.Bool.{true};
+ghost use Prim.Native.Nat.{ℕ, _≤_, _<_};
+ghost use mathlib.Core.Option.{some};
+ghost use lib.ListN.{length, take};
+ghost use Rattle.definitions.specs.Limits.{depthLimit, variableLimit};
+ghost use Rattle.definitions.specs.Tree.{Query};
+ghost use Rattle.definitions.specs.Reading.{readQuery};
+ghost use Rattle.laws.specs.Ends.{EndsLent};
+ghost use Rattle.laws.specs.Walks.{Loads};
+ghost use Rattle.seeking.specs.Parts.{partLimit, partsWidth, PartsOf};
+use crate::PART_LIMIT;
+use crate::PARTS_WIDTH;
+use crate::Parts;
+use ends::after;
+
+// The variables that the bytes before an offset may name, a bit for each. A byte of a text may look like a name: then there is one too many, which costs
+// time alone.
+fn variables_in(script: &[u8], from: usize, to: usize) -> usize
+    requires { ⌜ from < to ⌝ }
+    requires { ⌜ to ≤ length (now script) ⌝ }
+{
+    let mut named = 0usize;
+    let mut i = from + 1;
+    while i < to {
+        if script[i - 1] == 0x31 {
+            let v = script[i] % 16;
+            named = named | (1usize << (v as usize));
+        }
+        i += 1;
+    }
+    named
+}
+
+// Whether a part may name a variable, by the number beside it.
+pub fn may_name(named: usize, v: usize) -> bool
+    requires { ⌜ v ≤ variableLimit ⌝ }
+{
+    (named >> v) % 2 == 1
+}
+
+// Whether it may name a variable, and does not name another one.
+pub fn names_but(named: usize, v: usize, other: usize) -> bool
+    requires { ⌜ v ≤ variableLimit ⌝ }
+    requires { ⌜ other ≤ variableLimit ⌝ }
+{
+    may_name(named, v) & !may_name(named, other)
+}
+
+// Whether a record is taken apart, where so many are listed or pending: it is `both`, and there is room for its halves.
+fn splits(kind: u8, records: usize) -> bool
+    ensures { λ r. ⌜ (r ≡ true → (kind ≡ 0x62) × (records < partLimit)) ⌝ }
+{
+    if kind == 0x62 {
+        return records < PART_LIMIT;
+    }
+    false
+}
+
+// The parts of the query at an offset.
+// Ruled out: the parts of a union; a part at the offset of the query's second half alone.
+pub fn parts_of(script: &[u8], ends: &[u16], loaded: usize, at: usize) -> Parts
+    requires { ⌜ Loads (readQuery (now script) loaded depthLimit at) ⌝ }
+    requires { ⌜ EndsLent (now script) (now ends) ⌝ }
+    ensures { λ r. ⌜ (r .size ≤ partsWidth) × (length (r .list) ≡ partsWidth) ⌝ }
+    ensures { λ r. ⌜ ((q : Query) (m : ℕ) → readQuery (now (script .entry)) loaded depthLimit at ≡ some (q, m) →
+        PartsOf (now (script .entry)) loaded (take (r .size) (r .list)) q) ⌝ }
+{
+    let mut list = [0usize; PARTS_WIDTH];
+    let mut count = 0;
+    let mut pending = 1;
+    let mut here = at;
+    while 0 < pending {
+        if splits(script[here], count + pending) {
+            here += 1;
+            pending += 1;
+        } else {
+            let next = after(ends, script.len(), here);
+            let place = 2 * count;
+            let second = place + 1;
+            list[place] = here;
+            list[second] = variables_in(script, here, next);
+            count += 1;
+            pending -= 1;
+            here = next;
+        }
+    }
+    let size = 2 * count;
+    Parts { size, list }
+}
