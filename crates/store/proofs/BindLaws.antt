@@ -2,6 +2,7 @@
 use Prim.Native.Nat.{ℕ, suc, _+_, _-_, _*_, _≤_, _<_}
 use native.Mathlib.Omega.{arith}
 use mathlib.Core.Path.{_≡_, refl, ap, sym, _∙_}
+use mathlib.Core.Bool.{Bool}
 use mathlib.Core.List.{List, [], _∷_}
 use mathlib.Core.Option.{some}
 use lib.ListN.{length, getD, take, drop}
@@ -15,6 +16,10 @@ use Rattle.laws.specs.Lists.{All}
 use Rattle.laws.specs.Pairs.{pairVariables}
 use Rattle.store.specs.Stack.{boundAll, boundTo}
 use Rattle.store.proofs.ControlStates.{withBindings, saved-bind}
+
+-- a control with other bindings, while they are collected
+abbrev pub withBound : SavedControl → List Bool → List ℕ → SavedControl
+withBound c bound bindings = record { height = c .height; types = c .types; bound = bound; bindings = bindings; items = c .items }
 
 -- one variable more, in front of those that are bound
 module _ (r next : SavedControl) (s tuple : List ℕ) (at count k m v i : ℕ) (one : suc m ≡ k) (some : k ≤ count) (four : count ≤ length tuple) where

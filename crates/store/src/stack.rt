@@ -3,7 +3,7 @@ ghost use mathlib.Core.Path.{_≡_};
 ghost use Prim.Native.Nat.{ℕ, _+_, _*_, _<_, _-_, _≤_};
 ghost use lib.ListN.{length, take};
 ghost use Rattle.definitions.specs.Bytes.{byte};
-ghost use Rattle.store.specs.Stack.{pushed, popped, replaced, boundTo, freshItem, topOf, boundAll};
+ghost use Rattle.store.specs.Stack.{pushed, popped, replaced, freshItem, topOf, boundAll};
 ghost use Rattle.laws.specs.Pairs.{pairVariables};
 ghost use Rattle.definitions.specs.Limits.{depthLimit, pairLimit, variableLimit};
 use definitions::PAIR_LIMIT;
@@ -83,18 +83,6 @@ pub fn replace(control: SavedControl, item: SavedItem) -> SavedControl
     next
 }
 
-// A variable bound to a term.
-// Ruled out: a variable that is bound to nothing; another variable's term changed.
-pub fn bind(control: SavedControl, v: usize, term: u16) -> SavedControl
-    requires { ⌜ v < variableLimit ⌝ }
-    ensures { λ r. ⌜ r ≡ boundTo control v term ⌝ }
-{
-    let mut next = control;
-    next.bound[v] = true;
-    next.bindings[v] = term;
-    next
-}
-
 // A tuple's terms for the variables of a block's pairs, which begin at an offset.
 // Ruled out: the first variable left out; a variable bound twice keeping its later term.
 pub fn bind_tuple(
@@ -109,14 +97,19 @@ pub fn bind_tuple(
     requires { ⌜ ((k : ℕ) → k < count → byte (now script) (at + 2 * k) < variableLimit) ⌝ }
     ensures { λ r. ⌜ r ≡ boundAll control (pairVariables count (now (script .entry)) at) (take count tuple) ⌝ }
 {
-    let mut next = control;
+    let mut bound = control.bound;
+    let mut bindings = control.bindings;
     let mut k = count;
     while 0 < k {
         k -= 1;
         let from = at + 2 * k;
         let v = index(script[from]);
         let term = tuple[k];
-        next = bind(next, v, term);
+        bound[v] = true;
+        bindings[v] = term;
     }
+    let mut next = control;
+    next.bound = bound;
+    next.bindings = bindings;
     next
 }

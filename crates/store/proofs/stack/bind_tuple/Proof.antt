@@ -1,20 +1,21 @@
-use Prim.Native.Nat.{_≤_, _-_, _+_, _*_}
+use Prim.Native.Nat.{_≤_, _<_, _-_, _+_, _*_}
 use native.Mathlib.Omega.{arith}
 use mathlib.Core.Path.{_≡_, refl, _∙_}
 use borrow.Author.Needs.{needs}
 use lib.ListN.{length, take, drop}
+use Rattle.definitions.specs.Limits.{variableLimit}
 use Rattle.laws.specs.Pairs.{pairVariables}
 use Rattle.store.specs.Stack.{boundAll}
-use Rattle.store.proofs.BindLaws.{bind-next, bind-none, bind-all}
+use Rattle.store.proofs.BindLaws.{withBound, bind-next, bind-none, bind-all}
 use Rattle.store.proofs.stack.bind_tuple.Statement.{statement}
 use Rattle.store.proofs.stack.bind_tuple.Tie as tie
 
 abbrev Inv-loop : tie.InvT-loop
-Inv-loop script at count tuple next₀ k₀ next k =
-    (k ≤ count) × (next ≡ boundAll next₀ (pairVariables (count - k) script (at + 2 * k)) (take (count - k) (drop k tuple)))
+Inv-loop control script at count tuple bound₀ bindings₀ k₀ bound bindings k =
+    (k ≤ count) × (withBound control bound bindings ≡ boundAll control (pairVariables (count - k) script (at + 2 * k)) (take (count - k) (drop k tuple)))
 
 abbrev μ-loop : tie.MeasureT-loop
-μ-loop script at count tuple next₀ k₀ next k = k
+μ-loop control script at count tuple bound₀ bindings₀ k₀ bound bindings k = k
 
 loop-holds : tie.Need-loop-holds Inv-loop μ-loop
 loop-holds c = (omega arith, bind-none _ _ _ _ _)
@@ -40,23 +41,33 @@ mul-term c = search needs
 array-read-term : tie.Need-array-read-term Inv-loop μ-loop
 array-read-term c = search needs
 
-bind-requires : tie.Need-bind-requires Inv-loop μ-loop
-bind-requires c κs =
+-- the variable is one of a block's
+below : (c : tie.After-index Inv-loop μ-loop) → c .index .result < variableLimit
+below c =
     let n = c .before .before .before in
-    rw (c .index .ensures) (n .before .before .pre .1 .1 (n .loop .k - 1) (omega arith))
+    rw (c .index .ensures) (n .before .before .before .before .pre .1 .1 (n .loop .k - 1) (omega arith))
+
+array-write-bound : tie.Need-array-write-bound Inv-loop μ-loop
+array-write-bound c = let l = below c in omega arith
+
+mul-bindings : tie.Need-mul-bindings Inv-loop μ-loop
+mul-bindings c = let l = below c in omega arith
+
+array-write-bindings : tie.Need-array-write-bindings Inv-loop μ-loop
+array-write-bindings c = let l = below c in omega arith
 
 loop-less : tie.Need-loop-less Inv-loop μ-loop
 loop-less c = search needs
 
 loop-again : tie.Need-loop-again Inv-loop μ-loop
 loop-again c =
-    let n = c .before .before .before .before in
-    let a = n .before .before .args in
-    let l : length (a .t5) ≡ 4 = search needs in (
+    let n = c .before .before .before in
+    let a = n .before .before .before .before .args in
+    let l : length (a .t5) ≡ 4 = search needs in
+    let b = withBound (a .control) (n .loop .bound) (n .loop .bindings) in (
       omega arith,
-      c .bind .ensures
-          ∙ bind-next (a .control) (n .loop .next) (a .script .now) (a .t5) (a .at) (a .count) (n .loop .k) (n .loop .k - 1) _ _ (omega arith) (omega arith) (omega arith)
-          (c .before .index .ensures) refl (n .loop .inv .1),
+      bind-next (a .control) b (a .script .now) (a .t5) (a .at) (a .count) (n .loop .k) (n .loop .k - 1) _ _ (omega arith) (omega arith) (omega arith)
+          (c .index .ensures) refl (n .loop .inv .1),
     )
 
 returns : tie.Need-returns Inv-loop μ-loop
@@ -76,7 +87,9 @@ bind-tuple-spec =
     index-requires
     mul-term
     array-read-term
-    bind-requires
+    array-write-bound
+    mul-bindings
+    array-write-bindings
     loop-less
     loop-again
     returns)
