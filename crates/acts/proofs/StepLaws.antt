@@ -18,7 +18,7 @@ use Rattle.definitions.specs.Scope.{variablesOf}
 use Rattle.definitions.specs.Evaluate.{Bindings, Named, named, numberOf, termOfNumber, withTerm, isURI}
 use Rattle.definitions.specs.Search.{bind}
 use Rattle.definitions.specs.Tree.{Script, success, fromNamed, block, sequence, Name, var, const, Binder, Query}
-use Rattle.definitions.specs.Reading.{readName, readQuery, readScript, bindersAt, nameRows, NameShape, nameOf}
+use Rattle.definitions.specs.Reading.{readName, readScript, bindersAt, nameRows, NameShape, nameOf}
 use Rattle.definitions.specs.Typing.{typeAt}
 use Rattle.definitions.specs.Outcome.{Outcome, ok, _>>=_, _>>_, demand, fromNamedNoURI}
 use Rattle.definitions.specs.Machine.{State, Item, Next, step, stand, fresh, withStack, withAnswer, act, enterNamed, enterOnce, enterEach}
@@ -32,9 +32,11 @@ use Rattle.laws.proofs.NoFault.{ok-is, then-ok, and-ok}
 use Rattle.laws.proofs.Tests.{andLeft, andRight}
 use Rattle.laws.proofs.Options.{some-not-none, pair-is, provided-inv}
 use Rattle.laws.specs.Lists.{All}
+use Rattle.laws.specs.Ends.{Ended, afterIn}
+use Rattle.laws.proofs.Ends.{query-ends}
 use Rattle.laws.proofs.Places.{place-found}
 use Rattle.laws.proofs.Reading.{script-none, byte-out, row-keys}
-use Rattle.laws.proofs.Levels.{name-more, query-more, script-more}
+use Rattle.laws.proofs.Levels.{name-more, script-more}
 use Rattle.laws.proofs.ReadBounds.{script-within, binders-bounded}
 use Rattle.laws.proofs.Saved.{stack-low}
 use Rattle.laws.proofs.Variables.{at-variable}
@@ -522,12 +524,6 @@ module _ {script : List ℕ} {loaded : ℕ} {run : SavedControl} {at : ℕ} (x :
       (sym h))
 
 -- where a block's script begins
-pub body-found : (script : List ℕ) (loaded at : ℕ) (r : Read) → r ≡ nextOf (readQuery script loaded 24 (at + 11)) → (m : ℕ) → r ≡ Reads.Next m → BodyAt script loaded at m
-body-found script loaded at r f m g b =
-    let up = query-more script loaded (b .left) 24 (at + 11) (b .few) (b .query) (b .reads .next) (b .reads .query) in
-    end-is (readQuery script loaded 24 (at + 11)) (b .query) (b .reads .next) up r f m g
-
-pub body-there : (script : List ℕ) (loaded at : ℕ) (r : Read) → r ≡ nextOf (readQuery script loaded 24 (at + 11)) → BlockReads script loaded at → r ≡ Reads.Malformed → ⊥
-body-there script loaded at r f b g =
-    let up = query-more script loaded (b .left) 24 (at + 11) (b .few) (b .query) (b .reads .next) (b .reads .query) in
-    not-lost (readQuery script loaded 24 (at + 11)) (b .query) (b .reads .next) up r f g
+pub body-after : (script ends : List ℕ) (loaded at r : ℕ) → Ended script ends → r ≡ afterIn ends (length script) (at + 11) → BodyAt script loaded at r
+body-after script ends loaded at r ended e b =
+    e ∙ query-ends script ends ended loaded (b .left) (at + 11) (b .query) (b .reads .next) (b .reads .query)

@@ -4,10 +4,10 @@ use definitions::RunState;
 use definitions::SavedControl;
 use definitions::SavedItem;
 use definitions::SavedStore;
+use ends::after;
 use fields::numbers::index;
 use fields::numbers::number_at;
 use reader::script::read_name;
-use reader::script::read_query;
 use reader::script::read_script;
 use store::canonical::first_numbers;
 use store::graphs::is_fetched;
@@ -21,6 +21,7 @@ ghost use Prim.Native.Nat.{_+_, _≤_};
 ghost use Rattle.definitions.specs.Limits.{graphLimit};
 ghost use Rattle.definitions.specs.Bytes.{byte};
 ghost use Rattle.definitions.specs.Saved.{savedStore};
+ghost use Rattle.laws.specs.Ends.{EndsLent};
 ghost use Rattle.acts.specs.Steps.{movedTo, standsAt, OnTop, Acts, NameReads, NumberOf, BlockReads, BodyAt, answerOf, EntersOnce, EntersEach};
 use definitions::DEPTH_LIMIT;
 use definitions::PAIR_LIMIT;
@@ -124,15 +125,13 @@ pub fn enter_named(
 
 // The offset of a block's script, after its query.
 // Ruled out: the query's own offset; the end of the block.
-pub fn block_body(script: &[u8], loaded: usize, at: usize) -> usize
+pub fn block_body(script: &[u8], ends: &[u16], loaded: usize, at: usize) -> usize
     requires { ⌜ BlockReads (now script) loaded at ⌝ }
+    requires { ⌜ EndsLent (now script) (now ends) ⌝ }
     ensures { λ r. ⌜ BodyAt (now (script .entry)) loaded at r ⌝ }
 {
     let query = at + QUERY_OFFSET;
-    let Read::Next(body) = read_query(script, loaded, query, DEPTH_LIMIT) else {
-        return at;
-    };
-    body
+    after(ends, script.len(), query)
 }
 
 // A once block binds its answer and becomes its script; with none it waits.

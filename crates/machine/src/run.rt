@@ -47,7 +47,7 @@ fn enter_block(
     let answer = block_answer(run, script, ends, context, at, ranks, table, quads, leasts);
     let found = answer.found;
     let tuple = answer.tuple;
-    let body = block_body(script, loaded, at);
+    let body = block_body(script, ends, loaded, at);
     let second = at + 1;
     let mode = script[second];
     if mode == 1 {

@@ -14,7 +14,7 @@ block-answer-requires c κs = search needs
 block-body-requires : tie.Need-block-body-requires
 block-body-requires c κs =
     let c₁ = c .before .before .before .before .before .before .before .before in
-    blocked (onTop (c₁ .pre .0 .0 .here) (c₁ .pre .0 .1)) (c₁ .pre .1 .0) .reads
+    (blocked (onTop (c₁ .pre .0 .0 .here) (c₁ .pre .0 .1)) (c₁ .pre .1 .0) .reads, c₁ .pre .1 .1)
 
 add-second : tie.Need-add-second
 add-second c =
