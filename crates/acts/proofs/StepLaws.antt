@@ -327,14 +327,14 @@ module _ {script : List ℕ} {loaded : ℕ} {run : SavedControl} {at : ℕ} (x :
           }
 
   pub sequence-acts : (r : Read) (t : Two r) (m : ℕ) → r ≡ Reads.Next m → (below above : SavedItem) → below ≡ freshItem m → above ≡ freshItem (at + 1)
-      → (rest saved : SavedControl) → rest ≡ replaced run below → saved ≡ pushed rest above → (y : Stepped) → y ≡ movedTo saved → Acts x y
+      → (saved : SavedControl) → saved ≡ pushed (replaced run below) above → (y : Stepped) → y ≡ movedTo saved → Acts x y
   unfolding act steppedOf
-  sequence-acts r t m g below above b a rest saved e f y h ranks clock n k =
+  sequence-acts r t m g below above b a saved f y h ranks clock n k =
       let item-of : (c : Script) (i : SavedItem) (o : ℕ) → i ≡ freshItem o → offsetOf c ≡ o → i ≡ savedItem (fresh c) =
       λ c i o p q. p ∙ (ap freshItem (sym q) ∙ sym (fresh-is c)) in
-      let lower : rest ≡ savedWith β (fresh (t .second) ∷ x .rest) =
-      e ∙ (ap₂ replaced run-is (item-of (t .second) below m b (t .secondAt ∙ sym (t .found m g)))
-      ∙ saved-replace types β (x .item) (x .rest) room (fresh (t .second))) in
+      let lower : replaced run below ≡ savedWith β (fresh (t .second) ∷ x .rest) =
+      ap₂ replaced run-is (item-of (t .second) below m b (t .secondAt ∙ sym (t .found m g)))
+      ∙ saved-replace types β (x .item) (x .rest) room (fresh (t .second)) in
       let upper : saved ≡ savedWith β (fresh (t .first) ∷ fresh (t .second) ∷ x .rest) =
       f ∙ (ap₂ pushed lower (item-of (t .first) above (at + 1) a (t .firstAt))
       ∙ saved-push types β (fresh (t .first)) (fresh (t .second) ∷ x .rest) (t .room2)) in
@@ -492,15 +492,15 @@ module _ {script : List ℕ} {loaded : ℕ} {run : SavedControl} {at : ℕ} (x :
         ∙ ap (λ (found : Bool). steppedOf run (enterOnce s (variablesOf bs′) (fresh c ∷ x .rest) (answerOf found (byte script (at + 2)) tuple))) (sym h)))
 
     pub each-enters : (body : ℕ) → BodyAt script loaded at body → (bound : SavedControl) → bound ≡ boundAll run (pairVariables (byte script (at + 2)) script (at + 3)) t
-        → (last : List ℕ) → last ≡ filled 4 t → (below : SavedControl) → below ≡ replaced bound (record { «at» = at; started = true; last = last })
-        → (item : SavedItem) → item ≡ freshItem body → (saved : SavedControl) → saved ≡ pushed below item → (y : Stepped) → y ≡ movedTo saved
+        → (last : List ℕ) → last ≡ filled 4 t → (item : SavedItem) → item ≡ freshItem body
+        → (saved : SavedControl) → saved ≡ pushed (replaced bound (record { «at» = at; started = true; last = last })) item → (y : Stepped) → y ≡ movedTo saved
         → (found : Bool) → found ≡ true → EntersEach x (answerOf found (byte script (at + 2)) tuple) y
     unfolding enterEach steppedOf savedItem
-    each-enters body f bound e last l below w item i saved g y z found h bs′ q c k =
+    each-enters body f bound e last l item i saved g y z found h bs′ q c k =
         let p = parts-of true bs′ q c k in
         let used : Item = record { script = block at true bs′ q c; last = some t } in
-        let lower : below ≡ savedWith after (used ∷ x .rest) =
-        w ∙ ((λ j. replaced (bound-is bound e j) (record { «at» = at; started = true; last = l j })) ∙ saved-replace types after (x .item) (x .rest) room used) in
+        let lower : replaced bound (record { «at» = at; started = true; last = last }) ≡ savedWith after (used ∷ x .rest) =
+        (λ j. replaced (bound-is bound e j) (record { «at» = at; started = true; last = l j })) ∙ saved-replace types after (x .item) (x .rest) room used in
         let new : saved ≡ savedWith after (fresh (b .reads .body) ∷ used ∷ x .rest) =
         g ∙ (ap₂ pushed lower (fresh-body body f item i) ∙ saved-push types after (fresh (b .reads .body)) (used ∷ x .rest) (b .room2)) in
         z ∙ (ap movedTo new

@@ -14,8 +14,8 @@ use store::graphs::is_fetched;
 use store::stack::bind_tuple;
 use store::stack::fresh_item;
 use store::stack::pop;
-use store::stack::push;
 use store::stack::replace;
+use store::stack::replace_and_push;
 ghost use mathlib.Core.Path.{_≡_};
 ghost use Prim.Native.Nat.{_+_, _≤_};
 ghost use Rattle.definitions.specs.Limits.{graphLimit};
@@ -79,8 +79,7 @@ pub fn enter_sequence(run: SavedControl, script: &[u8], loaded: usize, at: usize
     };
     let below = fresh_item(second as u16);
     let above = fresh_item(first as u16);
-    let rest = replace(run, below);
-    moved(push(rest, above))
+    moved(replace_and_push(run, below, above))
 }
 
 // The term number that a name stands for: a variable's, or a constant's own.
@@ -192,7 +191,6 @@ pub fn enter_each(
         started: true,
         last,
     };
-    let below = replace(bound, used);
     let item = fresh_item(body as u16);
-    moved(push(below, item))
+    moved(replace_and_push(bound, used, item))
 }

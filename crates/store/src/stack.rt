@@ -1,4 +1,5 @@
-// Operations on the saved control: its stack and its bindings.
+// Operations on the saved control: its stack and its bindings. One that changes it copies it first and reads only the copy: a parameter that
+// is read as well stays a second copy in the machine code.
 ghost use mathlib.Core.Path.{_≡_};
 ghost use Prim.Native.Nat.{ℕ, _+_, _*_, _<_, _-_, _≤_};
 ghost use lib.ListN.{length, take};
@@ -35,16 +36,19 @@ pub fn top(control: SavedControl) -> SavedItem
     control.items[place]
 }
 
-// One item more.
-// Ruled out: an item that replaces the top; a height that stays.
-pub fn push(control: SavedControl, item: SavedItem) -> SavedControl
+// Another item on top, and one more above it.
+// Ruled out: an item above the one that was there; a height that stays.
+pub fn replace_and_push(control: SavedControl, below: SavedItem, above: SavedItem) -> SavedControl
+    requires { ⌜ 0 < control .height ⌝ }
     requires { ⌜ control .height < depthLimit ⌝ }
-    ensures { λ r. ⌜ r ≡ pushed control item ⌝ }
+    ensures { λ r. ⌜ r ≡ pushed (replaced control below) above ⌝ }
 {
     let mut next = control;
-    let n = control.height;
+    let n = next.height;
     let place = n as usize;
-    next.items[place] = item;
+    let under = place - 1;
+    next.items[under] = below;
+    next.items[place] = above;
     next.height = n + 1;
     next
 }
@@ -57,7 +61,7 @@ pub fn pop(control: SavedControl) -> SavedControl
     ensures { λ r. ⌜ r ≡ popped control ⌝ }
 {
     let mut next = control;
-    let n = control.height - 1;
+    let n = next.height - 1;
     let place = n as usize;
     let empty = SavedItem {
         at: 0,
@@ -77,7 +81,7 @@ pub fn replace(control: SavedControl, item: SavedItem) -> SavedControl
     ensures { λ r. ⌜ r ≡ replaced control item ⌝ }
 {
     let mut next = control;
-    let n = control.height - 1;
+    let n = next.height - 1;
     let place = n as usize;
     next.items[place] = item;
     next
@@ -97,8 +101,9 @@ pub fn bind_tuple(
     requires { ⌜ ((k : ℕ) → k < count → byte (now script) (at + 2 * k) < variableLimit) ⌝ }
     ensures { λ r. ⌜ r ≡ boundAll control (pairVariables count (now (script .entry)) at) (take count tuple) ⌝ }
 {
-    let mut bound = control.bound;
-    let mut bindings = control.bindings;
+    let mut next = control;
+    let mut bound = next.bound;
+    let mut bindings = next.bindings;
     let mut k = count;
     while 0 < k {
         k -= 1;
@@ -108,7 +113,6 @@ pub fn bind_tuple(
         bound[v] = true;
         bindings[v] = term;
     }
-    let mut next = control;
     next.bound = bound;
     next.bindings = bindings;
     next

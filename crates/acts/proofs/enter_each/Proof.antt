@@ -1,7 +1,5 @@
 use native.Mathlib.Omega.{arith}
-use mathlib.Core.Path.{ap}
 use borrow.Author.Tests.{not-true, not-false}
-use Rattle.definitions.specs.declared.SavedControl.{SavedControl}
 use Rattle.acts.proofs.StepLaws.{height-is, room, blocked, bound-by, bound-height, each-drops, each-enters}
 use borrow.Author.Needs.{needs}
 use Rattle.acts.proofs.enter_each.Statement.{statement}
@@ -47,17 +45,9 @@ cast-place c =
     let b = blocked x (c₁ .pre .1 .0) in
     omega (arith, b .reads .reads .room, x .here .short)
 
-replace-requires : tie.Need-replace-requires
-replace-requires c κs =
-    let c₁ = c .before in let c₂ = c₁ .before in let c₃ = c₂ .before .before .before .before in
-    let x = c₃ .pre .0 in
-    let b = blocked x (c₃ .pre .1 .0) in
-    let h = bound-height x b (c₃ .args .tuple) _ (bound-by x b (c₃ .args .tuple) _ (c₂ .index .ensures) _ (c₁ .bind-tuple .ensures)) in
-    (omega arith, omega (arith, room x))
-
 cast-fresh-item : tie.Need-cast-fresh-item
 cast-fresh-item c =
-    let c₁ = c .before .before .before .before .before .before .before in
+    let c₁ = c .before .before .before .before .before .before in
     let x = c₁ .pre .0 in
     let b = blocked x (c₁ .pre .1 .0) in
     omega (arith, c₁ .pre .1 .1 (b .reads), b .low, x .here .short)
@@ -65,24 +55,24 @@ cast-fresh-item c =
 fresh-item-requires : tie.Need-fresh-item-requires
 fresh-item-requires c κs = search needs
 
-push-requires : tie.Need-push-requires
-push-requires c κs =
-    let c₁ = c .before in let c₂ = c₁ .before .before in let c₃ = c₂ .before in let c₄ = c₃ .before .before .before .before in
-    let x = c₄ .pre .0 in
-    let b = blocked x (c₄ .pre .1 .0) in
-    let h = bound-height x b (c₄ .args .tuple) _ (bound-by x b (c₄ .args .tuple) _ (c₃ .index .ensures) _ (c₂ .bind-tuple .ensures)) in
-    omega (arith, ap (λ (r : SavedControl). r .height) (c₁ .replace .ensures), b .room2)
+replace-and-push-requires : tie.Need-replace-and-push-requires
+replace-and-push-requires c κs =
+    let c₁ = c .before .before in let c₂ = c₁ .before in let c₃ = c₂ .before .before .before .before in
+    let x = c₃ .pre .0 in
+    let b = blocked x (c₃ .pre .1 .0) in
+    let h = bound-height x b (c₃ .args .tuple) _ (bound-by x b (c₃ .args .tuple) _ (c₂ .index .ensures) _ (c₁ .bind-tuple .ensures)) in
+    (omega arith, omega (arith, b .room2))
 
 moved-requires-2 : tie.Need-moved-requires-2
 moved-requires-2 c κs = search needs
 
 returns-2 : tie.Need-returns-2
 returns-2 c =
-    let c₁ = c .before in let c₂ = c₁ .before in let c₃ = c₂ .before in let c₄ = c₃ .before in let c₅ = c₄ .before in let c₆ = c₅ .before in let c₇ = c₆ .before .before in
-    let c₈ = c₇ .before .before in
-    λ x. let b = blocked x (c₈ .pre .1 .0) in
-    each-enters x b (c₈ .args .tuple) _ (c₈ .pre .1 .1) _ (bound-by x b (c₈ .args .tuple) _ (c₆ .index .ensures) _ (c₅ .bind-tuple .ensures)) _ (c₄ .first-numbers .ensures) _
-    (c₃ .replace .ensures) _ (c₂ .fresh-item .ensures) _ (c₁ .push .ensures) _ (c .moved2 .ensures) (c₈ .args .found) (not-false (c₈ .args .found) (c₇ .if1 .left))
+    let c₁ = c .before in let c₂ = c₁ .before in let c₃ = c₂ .before in let c₄ = c₃ .before in let c₅ = c₄ .before in let c₆ = c₅ .before .before in
+    let c₇ = c₆ .before .before in
+    λ x. let b = blocked x (c₇ .pre .1 .0) in
+    each-enters x b (c₇ .args .tuple) _ (c₇ .pre .1 .1) _ (bound-by x b (c₇ .args .tuple) _ (c₅ .index .ensures) _ (c₄ .bind-tuple .ensures)) _ (c₃ .first-numbers .ensures) _
+    (c₂ .fresh-item .ensures) _ (c₁ .replace-and-push .ensures) _ (c .moved2 .ensures) (c₇ .args .found) (not-false (c₇ .args .found) (c₆ .if1 .left))
 
 pub enter-each-spec : {M : Type 1} → statement M
 enter-each-spec =
@@ -98,9 +88,8 @@ enter-each-spec =
     bind-tuple-requires
     first-numbers-requires
     cast-place
-    replace-requires
     cast-fresh-item
     fresh-item-requires
-    push-requires
+    replace-and-push-requires
     moved-requires-2
     returns-2)

@@ -1,7 +1,5 @@
 use native.Mathlib.Omega.{arith}
-use mathlib.Core.Path.{ap}
-use Rattle.definitions.specs.declared.SavedControl.{SavedControl}
-use Rattle.acts.proofs.StepLaws.{height-is, room, inside, two, sequence-acts}
+use Rattle.acts.proofs.StepLaws.{height-is, inside, two, sequence-acts}
 use borrow.Author.Needs.{needs}
 use Rattle.acts.proofs.enter_sequence.Statement.{statement}
 use Rattle.acts.proofs.enter_sequence.Tie as tie
@@ -47,25 +45,21 @@ cast-fresh-item-2 c =
 fresh-item-requires-2 : tie.Need-fresh-item-requires-2
 fresh-item-requires-2 c κs = search needs
 
-replace-requires : tie.Need-replace-requires
-replace-requires c κs = let x = c .before .before .before .before .before .before .before .pre .0 in (omega (arith, height-is x), omega (arith, height-is x, room x))
-
-push-requires : tie.Need-push-requires
-push-requires c κs =
-    let c₁ = c .before .before .before .before .before .before in let c₂ = c₁ .before .before in
+replace-and-push-requires : tie.Need-replace-and-push-requires
+replace-and-push-requires c κs =
+    let c₁ = c .before .before .before .before .before in let c₂ = c₁ .before .before in
     let x = c₂ .pre .0 in
     let t = two x (c₂ .pre .1) _ (c₁ .read-script .ensures) in
-    omega (arith, ap (λ (r : SavedControl). r .height) (c .replace .ensures), height-is x, t .room2)
+    (omega (arith, height-is x), omega (arith, height-is x, t .room2))
 
 moved-requires : tie.Need-moved-requires
 moved-requires c κs = search needs
 
 returns-2 : tie.Need-returns-2
 returns-2 c =
-    let c₁ = c .before in let c₂ = c₁ .before in let c₃ = c₂ .before in let c₄ = c₃ .before in let c₅ = c₄ .before .before in let c₆ = c₅ .before .before in
-    let c₇ = c₆ .before .before in
-    λ x. sequence-acts x _ (two x (c₇ .pre .1) _ (c₆ .read-script .ensures)) _ (c₅ .second .given .1) _ _ (c₄ .fresh-item .ensures) (c₃ .fresh-item2 .ensures) _ _
-    (c₂ .replace .ensures) (c₁ .push .ensures) _ (c .moved .ensures)
+    let c₁ = c .before in let c₂ = c₁ .before in let c₃ = c₂ .before in let c₄ = c₃ .before .before in let c₅ = c₄ .before .before in let c₆ = c₅ .before .before in
+    λ x. sequence-acts x _ (two x (c₆ .pre .1) _ (c₅ .read-script .ensures)) _ (c₄ .second .given .1) _ _ (c₃ .fresh-item .ensures) (c₂ .fresh-item2 .ensures) _
+    (c₁ .replace-and-push .ensures) _ (c .moved .ensures)
 
 pub enter-sequence-spec : {M : Type 1} → statement M
 enter-sequence-spec =
@@ -81,7 +75,6 @@ enter-sequence-spec =
     fresh-item-requires
     cast-fresh-item-2
     fresh-item-requires-2
-    replace-requires
-    push-requires
+    replace-and-push-requires
     moved-requires
     returns-2)

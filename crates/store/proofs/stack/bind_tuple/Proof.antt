@@ -11,11 +11,11 @@ use Rattle.store.proofs.stack.bind_tuple.Statement.{statement}
 use Rattle.store.proofs.stack.bind_tuple.Tie as tie
 
 abbrev Inv-loop : tie.InvT-loop
-Inv-loop control script at count tuple bound₀ bindings₀ k₀ bound bindings k =
-    (k ≤ count) × (withBound control bound bindings ≡ boundAll control (pairVariables (count - k) script (at + 2 * k)) (take (count - k) (drop k tuple)))
+Inv-loop script at count tuple next bound₀ bindings₀ k₀ bound bindings k =
+    (k ≤ count) × (withBound next bound bindings ≡ boundAll next (pairVariables (count - k) script (at + 2 * k)) (take (count - k) (drop k tuple)))
 
 abbrev μ-loop : tie.MeasureT-loop
-μ-loop control script at count tuple bound₀ bindings₀ k₀ bound bindings k = k
+μ-loop script at count tuple next bound₀ bindings₀ k₀ bound bindings k = k
 
 loop-holds : tie.Need-loop-holds Inv-loop μ-loop
 loop-holds c = (omega arith, bind-none _ _ _ _ _)
