@@ -76,8 +76,10 @@ pub fn step(
     if run.height == 0 {
         return stands(run, RunState::Ended);
     }
-    let item = top(run);
-    let place = item.at;
+    // the top item's offset, read in place: a call would copy the whole control
+    let top = run.height - 1;
+    let under = top as usize;
+    let place = run.items[under].at;
     let at = place as usize;
     let kind = script[at];
     let loaded = context.loaded;

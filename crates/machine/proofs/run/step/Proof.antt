@@ -1,6 +1,9 @@
-use mathlib.Core.Path.{ap}
-use Rattle.definitions.specs.declared.SavedItem.{SavedItem}
-use Rattle.acts.specs.Steps.{onTop}
+use Prim.Native.Nat.{_<_, _≤_}
+use native.Mathlib.Omega.{arith}
+use mathlib.Core.Path.{refl}
+use lib.ListN.{length}
+use Rattle.store.specs.Stack.{topOf}
+use Rattle.acts.specs.Steps.{Standing, Top, OnTop, onTop}
 use Rattle.acts.proofs.TopLaws.{first-item, height-low, item-inside, is-block}
 use Rattle.machine.proofs.RunLaws.{step-acts, step-ends, graphs-low}
 use borrow.Author.Needs.{needs}
@@ -13,61 +16,75 @@ stands-requires c κs = search needs
 returns : tie.Need-returns
 returns c = λ w. step-ends (w .lends) (c .before .if1 .taken) _ (c .stands .ensures)
 
-top-requires : tie.Need-top-requires
-top-requires c κs = height-low (c .before .before .before .before .before .before .before .before .pre .0 .lends .here) (c .if1 .left)
+-- where the step begins
+abbrev start : tie.Else1 → tie.Start
+start c = c .before .before .before .before .before .before .before
+
+-- the item on top
+first : (c : tie.Else1) (h : Standing (start c .args .script .now) (start c .args .context .loaded) (start c .args .t1)) → Top h (topOf (start c .args .t1) .«at»)
+first c h = first-item h (c .if1 .left) _ refl
+
+high : (c : tie.Else1) → (0 < start c .args .t1 .height) × (start c .args .t1 .height ≤ 24)
+high c = height-low (start c .pre .0 .lends .here) (c .if1 .left)
+
+inside : (c : tie.Else1) → topOf (start c .args .t1) .«at» < length (start c .args .script .now)
+inside c = item-inside (start c .pre .0 .lends .here) _ (first c (start c .pre .0 .lends .here))
+
+on-top : (c : tie.Else1) → OnTop (start c .args .script .now) (start c .args .context .loaded) (start c .args .t1) (topOf (start c .args .t1) .«at»)
+on-top c = onTop (start c .pre .0 .lends .here) (first c (start c .pre .0 .lends .here))
+
+sub-top : tie.Need-sub-top
+sub-top c = omega (arith, high c)
+
+cast-under : tie.Need-cast-under
+cast-under c = search needs
+
+mul-place : tie.Need-mul-place
+mul-place c = omega (arith, high c)
+
+element-copy-out-place : tie.Need-element-copy-out-place
+element-copy-out-place c = omega (arith, high c)
 
 cast-at : tie.Need-cast-at
-cast-at c = search needs
+cast-at c = omega (arith, inside c, start c .pre .0 .lends .here .short)
 
 shared-slice-read-kind : tie.Need-shared-slice-read-kind
-shared-slice-read-kind c =
-    let c₁ = c .before in let c₂ = c₁ .before in let c₃ = c₂ .before .before .before .before .before .before .before .before in
-    item-inside (c₃ .pre .0 .lends .here) _ (first-item (c₃ .pre .0 .lends .here) (c₂ .if1 .left) _ (ap (λ (y : SavedItem). y .«at») (c₁ .top .ensures)))
+shared-slice-read-kind c = inside (c .before)
 
 drop-success-requires : tie.Need-drop-success-requires
-drop-success-requires c κs =
-    let c₁ = c .before .before in let c₂ = c₁ .before in let c₃ = c₂ .before .before .before .before .before .before .before .before in
-    (onTop (c₃ .pre .0 .lends .here) (first-item (c₃ .pre .0 .lends .here) (c₂ .if1 .left) _ (ap (λ (y : SavedItem). y .«at») (c₁ .top .ensures))), c .if2 .taken)
+drop-success-requires c κs = (on-top (c .before .before), c .if2 .taken)
 
 returns-2 : tie.Need-returns-2
 returns-2 c =
-    let c₁ = c .before .before .before in let c₂ = c₁ .before in
-    λ w. let t = first-item (w .lends .here) (c₂ .if1 .left) _ (ap (λ (y : SavedItem). y .«at») (c₁ .top .ensures)) in
+    λ w. let t = first (c .before .before .before) (w .lends .here) in
     step-acts (w .lends) _ t _ (c .drop-success .ensures (onTop (w .lends .here) t) _ _)
 
 enter-named-requires : tie.Need-enter-named-requires
-enter-named-requires c κs =
-    let c₁ = c .before .before .before in let c₂ = c₁ .before in let c₃ = c₂ .before .before .before .before .before .before .before .before in
-    let w = c₃ .pre .0 in
-    (onTop (c₃ .pre .0 .lends .here) (first-item (c₃ .pre .0 .lends .here) (c₂ .if1 .left) _ (ap (λ (y : SavedItem). y .«at») (c₁ .top .ensures))), (c .if3 .taken, graphs-low w))
+enter-named-requires c κs = let p = c .before .before .before in (on-top p, (c .if3 .taken, graphs-low (start p .pre .0)))
 
 returns-3 : tie.Need-returns-3
 returns-3 c =
-    let c₁ = c .before .before .before .before in let c₂ = c₁ .before in
-    λ w. let t = first-item (w .lends .here) (c₂ .if1 .left) _ (ap (λ (y : SavedItem). y .«at») (c₁ .top .ensures)) in
+    λ w. let t = first (c .before .before .before .before) (w .lends .here) in
     step-acts (w .lends) _ t _ (c .enter-named .ensures (onTop (w .lends .here) t) (w .stored) _ _)
 
 enter-sequence-requires : tie.Need-enter-sequence-requires
-enter-sequence-requires c κs =
-    let c₁ = c .before .before .before .before in let c₂ = c₁ .before in let c₃ = c₂ .before .before .before .before .before .before .before .before in
-    (onTop (c₃ .pre .0 .lends .here) (first-item (c₃ .pre .0 .lends .here) (c₂ .if1 .left) _ (ap (λ (y : SavedItem). y .«at») (c₁ .top .ensures))), c .if4 .taken)
+enter-sequence-requires c κs = (on-top (c .before .before .before .before), c .if4 .taken)
 
 returns-4 : tie.Need-returns-4
 returns-4 c =
-    let c₁ = c .before .before .before .before .before in let c₂ = c₁ .before in
-    λ w. let t = first-item (w .lends .here) (c₂ .if1 .left) _ (ap (λ (y : SavedItem). y .«at») (c₁ .top .ensures)) in
+    λ w. let t = first (c .before .before .before .before .before) (w .lends .here) in
     step-acts (w .lends) _ t _ (c .enter-sequence .ensures (onTop (w .lends .here) t) _ _)
 
 enter-block-requires : tie.Need-enter-block-requires
 enter-block-requires c κs =
-    let c₁ = c .before in let c₂ = c₁ .before in let c₃ = c₂ .before .before in let c₄ = c₃ .before in let c₅ = c₄ .before .before .before .before .before .before .before .before in
-    let t = first-item (c₅ .pre .0 .lends .here) (c₄ .if1 .left) _ (ap (λ (y : SavedItem). y .«at») (c₃ .top .ensures)) in
-    ((c₅ .pre .0 .lends, t), (is-block (c₅ .pre .0 .lends .here) _ t (c₂ .if2 .left) (c₁ .if3 .left) (c .if4 .left), c₅ .pre .1))
+    let p = c .before .before .before .before in
+    let w = start p .pre .0 .lends in
+    let t = first p (w .here) in
+    ((w, t), (is-block (w .here) _ t (c .before .before .if2 .left) (c .before .if3 .left) (c .if4 .left), start p .pre .1))
 
 returns-5 : tie.Need-returns-5
 returns-5 c =
-    let c₁ = c .before .before .before .before .before in let c₂ = c₁ .before in
-    λ w. let t = first-item (w .lends .here) (c₂ .if1 .left) _ (ap (λ (y : SavedItem). y .«at») (c₁ .top .ensures)) in
+    λ w. let t = first (c .before .before .before .before .before) (w .lends .here) in
     step-acts (w .lends) _ t _ (c .enter-block .ensures (w .lends) t)
 
 pub step-spec : {M : Type 1} → statement M
@@ -76,7 +93,10 @@ step-spec =
     (tie.spec
     stands-requires
     returns
-    top-requires
+    sub-top
+    cast-under
+    mul-place
+    element-copy-out-place
     cast-at
     shared-slice-read-kind
     drop-success-requires
