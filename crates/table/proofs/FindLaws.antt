@@ -1,5 +1,5 @@
 -- Laws of a slot looked for in a table: by its hash first.
-use Prim.Native.Nat.{ℕ, _+_, _-_, _*_, _≤_, _<_}
+use Prim.Native.Nat.{ℕ, zero, suc, _+_, _-_, _*_, _≤_, _<_}
 use native.Mathlib.Omega.{arith}
 use mathlib.Core.Bool.{false}
 use mathlib.Core.List.{List}
@@ -15,7 +15,7 @@ use Rattle.table.specs.Table.{HoldsTerms, GoodSlot, numberFrom}
 use Rattle.fields.proofs.PartLaws.{some-part}
 use Rattle.table.proofs.PlaceLaws.{to-place, place-within}
 use Rattle.fields.proofs.SameLaws.{Compared}
-use Rattle.table.proofs.TableLaws.{holds-few, number-next}
+use Rattle.table.proofs.TableLaws.{holds-few, number-end, number-next}
 
 module _ (table slot : List ℕ) (n : ℕ) (h : HoldsTerms table n) (g : GoodSlot slot) (a : AreBytes table) (b : AreBytes slot)
     (hashes : List ℕ) (long : length hashes ≡ termLimit) (w : Hashed table n hashes) (m : ℕ) (e : m ≡ hashOf slot) where
@@ -25,6 +25,12 @@ module _ (table slot : List ℕ) (n : ℕ) (h : HoldsTerms table n) (g : GoodSlo
 
   number-skip : (i : ℕ) → i < n → (getD hashes i 0 ≡ m → ⊥) → numberFrom i (slotTerm slot) (termsIn table) ≡ numberFrom (i + 1) (slotTerm slot) (termsIn table)
   number-skip i l d = number-next table slot n h g a b i l (hashes-differ i l d) refl
+
+  -- none of those from a number on has its hash
+  pub number-none : (k i : ℕ) → i + k ≡ n → ((j : ℕ) → i ≤ j → j < n → getD hashes j 0 ≡ m → ⊥) → n ≡ numberFrom i (slotTerm slot) (termsIn table)
+  number-none zero i s d = number-end table slot n h g i (omega arith) (omega arith)
+  number-none (suc k) i s d =
+      number-none k (i + 1) (omega arith) (λ j l. d j (omega arith)) ∙ sym (number-skip i (omega arith) (d i (omega arith) (omega arith)))
 
   -- no slot before the next place of its hash is the same
   pub number-place : (from i : ℕ) → i ≤ n → numberFrom from (slotTerm slot) (termsIn table) ≡ numberFrom i (slotTerm slot) (termsIn table)

@@ -1,6 +1,6 @@
 -- Laws of the term table: its slots, the number of a term, slots that are all different, a slot written.
 use Prim.Native.Nat.{ℕ, zero, suc, _+_, _-_, _*_, _<_, _≤_}
-use mathlib.Core.Bool.{Bool, true, false, true≢false, not, _&&_, _||_}
+use mathlib.Core.Bool.{Bool, true, false, true≢false, not, _&&_, _||_, and-false}
 use mathlib.Core.List.{List, [], _∷_, _++_, append-nil}
 use mathlib.Core.Option.{Option, none, some}
 use mathlib.Core.Path.{_≡_, refl, sym, ap, ap₂, _∙_}
@@ -155,9 +155,12 @@ module _ (table : List ℕ) (n : ℕ) (h : HoldsTerms table n) where
     pub slot-width : length (part table (i * slotWidth) slotWidth) ≡ slotWidth
     slot-width = part-length table (i * slotWidth) slotWidth (omega (arith, h .width, holds-few))
 
+    pub slot-holds : GoodSlot (part table (i * slotWidth) slotWidth)
+    slot-holds = record { width = slot-width; good = rw (slot-there .1) }
+
     -- as the code hands it on
     pub slot-good : GoodSlot (part table (i * slotWidth) (i * slotWidth + slotWidth - i * slotWidth))
-    slot-good = rw (some-part table (i * slotWidth) slotWidth) (record { width = slot-width; good = rw (slot-there .1) })
+    slot-good = rw (some-part table (i * slotWidth) slotWidth) slot-holds
 
 -- a table that begins with the slots of another holds terms there
 module _ (other table : List ℕ) (n : ℕ) (h : HoldsTerms other n) (w : length table ≡ termTableWidth) where
@@ -282,8 +285,17 @@ module _ (table : List ℕ) (n : ℕ) (h : HoldsTerms table n) (i : ℕ) where
     pub slots-again : f < n → distinctFrom i (termsIn table) ≡ false
     slots-again k = from-here ∙ rw (lt-ltb (numbered t rest .number) (length rest) (omega (arith, found, rest-length)))
 
+    slots-later : distinctFrom (i + 1) (termsIn table) ≡ false → distinctFrom i (termsIn table) ≡ false
+    slots-later k = from-here ∙ rw k (and-false (not (ltb (numbered t rest .number) (length rest))))
+
     pub slots-next : n ≤ f → distinctFrom i (termsIn table) ≡ distinctFrom (i + 1) (termsIn table)
     slots-next k = from-here ∙ rw (le-ltb (numbered t rest .number) (length rest) (omega (arith, found, rest-length)))
+
+-- two that are the same among those from a number on are two among all
+pub slots-twice : (table : List ℕ) (n : ℕ) (h : HoldsTerms table n) (i : ℕ) → i ≤ n → distinctFrom i (termsIn table) ≡ false → distinctIn sameTerm (termsIn table) ≡ false
+slots-twice table n h zero l e = distinct-zero (termsIn table) ∙ e
+slots-twice table n h (suc i) l e =
+    slots-twice table n h i (omega arith) (slots-later table n h i (omega arith) refl (ap (λ (k : ℕ). distinctFrom k (termsIn table)) (add-one i) ∙ e))
 
 -- ── a slot written ──────────────────────────────────────────────────────────────────────────
 

@@ -7,6 +7,7 @@ use definitions::SLOT_WIDTH;
 use definitions::TERM_LIMIT;
 use fields::Counted;
 use fields::numbers::is_zero;
+use fields::numbers::number_index;
 use fields::reading::read_term;
 ghost use mathlib.Core.Path.{_≡_};
 ghost use mathlib.Core.List.{_∷_};
@@ -69,19 +70,28 @@ pub fn find_term(table: &[u8], n: usize, hashes: &[u16], slot: &[u8]) -> usize
     find_slot(table, n, hashes, slot, hash, 0)
 }
 
-// Whether the terms of a table are all different. Ruled out: neighbours alone compared; a slot compared with itself.
+// How many places there are for hashes: a prime, since the hashes of texts that are alike often differ by multiples of 256.
+const SEEN_PLACES: usize = 2039;
+
+// Whether the terms of a table are all different. A slot is looked for among those after it only where its hash has the place of one of theirs.
+// Ruled out: neighbours alone compared; a slot compared with itself.
 pub fn slots_distinct(table: &[u8], n: usize, hashes: &[u16]) -> bool
     requires { ⌜ HoldsTerms (now table) n ⌝ }
     requires { ⌜ length (now hashes) ≡ termLimit ⌝ }
     requires { ⌜ Hashed (now table) n (now hashes) ⌝ }
     ensures { λ r. ⌜ r ≡ distinctIn sameTerm (termsIn (now (table .entry))) ⌝ }
 {
-    let mut i = 0;
-    while i < n {
-        if slot_again(table, n, hashes, i) < n {
-            return false;
+    let mut seen = [false; SEEN_PLACES];
+    let mut i = n;
+    while 0 < i {
+        i -= 1;
+        let place = number_index(hashes[i]) % SEEN_PLACES;
+        if seen[place] {
+            if slot_again(table, n, hashes, i) < n {
+                return false;
+            }
         }
-        i += 1;
+        seen[place] = true;
     }
     true
 }
