@@ -1,6 +1,6 @@
 -- Laws of fields: a text and then zeros, byte by byte.
 use Prim.Native.Nat.{ℕ, suc, _+_, _<_, _≤_}
-use mathlib.Core.Bool.{Bool, true, false, _&&_, _||_, and-true, and-false, or-true, or-false}
+use mathlib.Core.Bool.{Bool, true, false, cond, not, _&&_, _||_, and-true, and-false, or-true, or-false}
 use mathlib.Core.List.{List, [], _∷_}
 use mathlib.Core.Option.{some}
 use mathlib.Core.Path.{_≡_, refl, sym, ap, _∙_, fun-ext}
@@ -9,53 +9,58 @@ use native.Mathlib.Omega.{arith}
 use lib.Dec.{leb, eqb}
 use lib.ListN.{length, drop, drop-of-length-le}
 use lib.Seq.{drop-cons}
-use borrow.Author.Tests.{ne-eqb, eq-eqb, le-leb, lt-leb, eqb-true}
+use borrow.Author.Tests.{ne-eqb, eq-eqb, le-leb, eqb-true}
 use Rattle.definitions.specs.Limits.{textWidth}
 use Rattle.definitions.specs.Lists.{every}
 use Rattle.definitions.specs.Bytes.{byte, sameBytes, allZero, filled, unfilled, provided, onward}
 use Rattle.definitions.specs.Terms.{between, fieldText, uriText, uriByte, textByte, tagByte}
 use Rattle.laws.proofs.Fields.{filledBy, field-text}
+use Rattle.laws.proofs.TestEquations.{eqb-swap}
 use Rattle.laws.specs.ReadAnswers.{isSome}
 use Rattle.fields.specs.Answers.{rangeOr}
 use Rattle.laws.proofs.ReadAnswers.{provided-is}
 
 -- ── a text and then zeros, byte by byte ─────────────────────────────────────────────────────
 
-pub field-is : (ok : ℕ → Bool) (s : List ℕ) → filledBy ok s ≡ isSome (fieldText ok (length s) s)
-field-is ok s = sym (ap isSome (field-text ok (length s) s refl) ∙ provided-is (filledBy ok s) (unfilled s))
+-- what is left of a field after a byte: only zeros after a zero
+unfoldable pub filledAfter : (ok : ℕ → Bool) → (before : ℕ) → List ℕ → Bool
+filledAfter ok before s = cond (eqb before 0) (allZero s) (filledBy ok s)
 
-module _ (ok : ℕ → Bool) (s : List ℕ) (i : ℕ) where
-  pub field-end : length s ≤ i → filledBy ok (drop i s) ≡ true
-  unfolding filledBy
-  field-end h = rw (drop-of-length-le s {i = i} h)
+one-more : (ok : ℕ → Bool) (before b : ℕ) (bs : List ℕ)
+    → filledAfter ok before (b ∷ bs) ≡ ((eqb b 0 || (not (eqb before 0) && ok b)) && filledAfter ok b bs)
+unfolding filledBy filledAfter
+one-more ok before b bs = rw (eqb-swap 0 b) (go (eqb before 0) (eqb b 0))
+  where
+    go : (z t : Bool) → cond z (t && allZero bs) (cond t (allZero bs) (ok b && filledBy ok bs)) ≡ ((t || (not z && ok b)) && cond t (allZero bs) (filledBy ok bs))
+    go true true = refl
+    go true false = refl
+    go false true = refl
+    go false false = refl
 
-  module _ (h : i < length s) where
-    pub field-zeros : byte s i ≡ 0 → filledBy ok (drop i s) ≡ allZero (drop i s)
-    unfolding filledBy
-    field-zeros e = rw (drop-cons s i 0 h, e)
+no-more : (ok : ℕ → Bool) (before : ℕ) → filledAfter ok before [] ≡ true
+unfolding filledBy filledAfter
+no-more ok before = go (eqb before 0)
+  where
+    go : (z : Bool) → cond z true true ≡ true
+    go true = refl
+    go false = refl
 
-    pub field-more : (byte s i ≡ 0 → ⊥) → ok (byte s i) ≡ true → filledBy ok (drop i s) ≡ filledBy ok (drop (i + 1) s)
-    unfolding filledBy
-    field-more n e = rw (add-one, drop-cons s i 0 h, ne-eqb (byte s i) 0 n, e)
+-- what was looked at is good, and so is the rest, where all is
+module _ (ok : ℕ → Bool) (s : List ℕ) where
+  pub field-start : isSome (fieldText ok (length s) s) ≡ (true && filledAfter ok 1 s)
+  unfolding filledAfter
+  field-start = ap isSome (field-text ok (length s) s refl) ∙ provided-is (filledBy ok s) (unfilled s)
 
-    pub field-bad : (byte s i ≡ 0 → ⊥) → ok (byte s i) ≡ false → filledBy ok (drop i s) ≡ false
-    unfolding filledBy
-    field-bad n e = rw (drop-cons s i 0 h, ne-eqb (byte s i) 0 n, e)
+  module _ (before i : ℕ) where
+    pub field-next : (good : Bool) → i < length s → isSome (fieldText ok (length s) s) ≡ (good && filledAfter ok before (drop i s)) → {r : Bool} → r ≡ ok (byte s i)
+        → isSome (fieldText ok (length s) s) ≡ ((good && (eqb (byte s i) 0 || (not (eqb before 0) && r))) && filledAfter ok (byte s i) (drop (i + 1) s))
+    field-next false h far e = far
+    field-next true h far e = far ∙ rw (drop-cons s i 0 h, add-one i, e) (one-more ok before (byte s i) (drop (suc i) s))
+
+    pub field-end : (good : Bool) → length s ≤ i → isSome (fieldText ok (length s) s) ≡ (good && filledAfter ok before (drop i s)) → good ≡ isSome (fieldText ok (length s) s)
+    field-end good h far = sym (far ∙ rw (drop-of-length-le s {i = i} h, no-more ok before) (and-true good))
 
 -- ── the tests of bytes ──────────────────────────────────────────────────────────────────────
-
-module _ (low high other b : ℕ) where
-  pub range-other : b ≡ other → rangeOr low high other b ≡ true
-  unfolding rangeOr
-  range-other e = rw (eq-eqb b other e) (or-true (between low high b))
-
-  pub range-low : (b ≡ other → ⊥) → b < low → rangeOr low high other b ≡ false
-  unfolding rangeOr
-  range-low n h = rw (ne-eqb b other n, lt-leb low b h)
-
-  pub range-high : (b ≡ other → ⊥) → low ≤ b → rangeOr low high other b ≡ leb b high
-  unfolding rangeOr
-  range-high n h = rw (ne-eqb b other n, le-leb low b h) (or-false (leb b high))
 
 -- the end of the range is no other byte
 range-end : (low high : ℕ) → low ≤ high → rangeOr low high high ≡ between low high

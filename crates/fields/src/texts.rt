@@ -1,5 +1,4 @@
 // Fields of text filled with zeros.
-use crate::numbers::is_zero;
 ghost use mathlib.Core.Path.{_≡_};
 ghost use lib.ListN.{length};
 ghost use Rattle.definitions.specs.Limits.{textWidth, tagWidth};
@@ -10,32 +9,24 @@ ghost use Rattle.fields.specs.Answers.{rangeOr};
 fn byte_ok(b: u8, low: u8, high: u8, other: u8) -> bool
     ensures { λ r. ⌜ r ≡ rangeOr low high other b ⌝ }
 {
-    if b == other {
-        return true;
-    }
-    if b < low {
-        return false;
-    }
-    b <= high
+    ((low <= b) & (b <= high)) | (b == other)
 }
 
-// Whether a field is a text of bytes from low to high, or other, and then zeros.
+// Whether a field is a text of bytes from low to high, or other, and then zeros. All are looked at, so that the compiler takes many at once.
 // Ruled out: bytes after the first zero left unchecked; the last byte left out.
 pub fn field_ok(field: &[u8], low: u8, high: u8, other: u8) -> bool
     ensures { λ r. ⌜ r ≡ isSome (fieldText (rangeOr low high other) (length (now (field .entry))) (now (field .entry))) ⌝ }
 {
+    let mut ok = true;
+    let mut before = 1;
     let mut i = 0;
     while i < field.len() {
         let b = field[i];
-        if b == 0 {
-            return is_zero(&field[i..]);
-        }
-        if !byte_ok(b, low, high, other) {
-            return false;
-        }
+        ok = ok & ((b == 0) | ((before != 0) & byte_ok(b, low, high, other)));
+        before = b;
         i += 1;
     }
-    true
+    ok
 }
 
 // A URI: one byte at least, all from 21 to 7E. Ruled out: an empty one; one with a blank.
