@@ -12,7 +12,7 @@ use lib.Seq.{drop-cons, drop-append-le, take-append-le, take-at, drop-at, length
 use borrow.Author.Count.{below-more}
 use Rattle.definitions.specs.Limits.{slotWidth, termLimit, termTableWidth}
 use Rattle.definitions.specs.Lists.{some?}
-use Rattle.definitions.specs.Bytes.{word, part}
+use Rattle.definitions.specs.Bytes.{byte, word, part}
 use Rattle.table.specs.Hashes.{slotWords, hashSum, hashOf, slotAt, HashesOf, Hashed}
 use Rattle.table.specs.Table.{slotSet}
 use Rattle.fields.proofs.PartLaws.{some-part}
@@ -44,12 +44,15 @@ module _ (s : List ℕ) (at sum : ℕ) (i : Hashing s at sum) where
           let here : hashSum (suc k) at s ≡ w * (at + 1) + hashSum k (at + 2) s = unfold hashSum in λ t. sym e t * (at + 1) + hashSum k (at + 2) s in
           record { left = k; place = omega arith; whole = omega (arith, here, q); low = omega (arith, times-low w at l h, i .low) }
 
-  pub hash-end : 2 * slotWords ≤ at → sum % 65521 ≡ hashOf s
+  pub hash-end : 2 * slotWords ≤ at → {x : ℕ} → x ≡ byte s (2 * slotWords) → (sum + x * slotWidth) % 65521 ≡ hashOf s
   unfolding hashOf
-  hash-end h = go (i .left) (i .place) (i .whole)
+  hash-end h {x} e = go (i .left) (i .place) (i .whole)
     where
-      go : (k : ℕ) → at + 2 * k ≡ 2 * slotWords → sum + hashSum k at s ≡ hashSum slotWords 0 s → sum % 65521 ≡ hashOf s
-      go zero p q = let none : hashSum zero at s ≡ 0 = unfold hashSum in refl in let all : sum ≡ hashSum slotWords 0 s = omega (arith, none, q) in ap (λ (n : ℕ). n % 65521) all
+      go : (k : ℕ) → at + 2 * k ≡ 2 * slotWords → sum + hashSum k at s ≡ hashSum slotWords 0 s → (sum + x * slotWidth) % 65521 ≡ hashOf s
+      go zero p q =
+          let none : hashSum zero at s ≡ 0 = unfold hashSum in refl in
+          let all : sum ≡ hashSum slotWords 0 s = omega (arith, none, q) in
+          λ t. (all t + e t * slotWidth) % 65521
       go (suc k) p q = absurd (omega arith)
 
 -- ── a hash among others ─────────────────────────────────────────────────────────────────────

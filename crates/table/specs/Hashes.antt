@@ -6,7 +6,7 @@ use mathlib.Core.Path.{_≡_}
 use lib.Dec.{eqb}
 use lib.ListN.{length, getD}
 use Rattle.definitions.specs.Limits.{entryWidth, slotWidth, entryLimit, schemaWidth, textWidth}
-use Rattle.definitions.specs.Bytes.{word, part, filled}
+use Rattle.definitions.specs.Bytes.{byte, word, part, filled}
 
 -- so many words of 2 bytes from an offset on, each as often as its offset and one more say
 unfoldable pub hashSum : (words at : ℕ) → List ℕ → ℕ
@@ -17,9 +17,9 @@ hashSum (suc k) at s = word s at * (at + 1) + hashSum k (at + 2) s
 abbrev pub slotWords : ℕ
 slotWords = slotWidth / 2
 
--- the hash of a slot: a last byte that is no word does not count
+-- the hash of a slot: its whole words, and its last byte as often as a slot has bytes
 unfoldable pub hashOf : List ℕ → ℕ
-hashOf slot = hashSum slotWords 0 slot % 65521
+hashOf slot = (hashSum slotWords 0 slot + byte slot (2 * slotWords) * slotWidth) % 65521
 
 -- the place of a number in a list, or the list's length
 unfoldable pub placeIn : ℕ → List ℕ → ℕ

@@ -9,13 +9,14 @@ ghost use Rattle.table.specs.Hashes.{hashOf, placeIn, slotAt, Hashed};
 ghost use Rattle.table.specs.Table.{HoldsTerms, GoodSlot, numberFrom};
 use definitions::SLOT_WIDTH;
 use definitions::TERM_LIMIT;
+use fields::numbers::index;
 use fields::numbers::same_bytes;
 use fields::numbers::word_at;
 
 // The bytes of a slot in whole words.
 const HASHED_WIDTH: usize = 2 * (SLOT_WIDTH / 2);
 
-// The hash of a slot: 16 bits of its words. Ruled out: the first word alone; the words in another order.
+// The hash of a slot: 16 bits of its words and its last byte. Ruled out: the first word alone; the words in another order.
 pub fn hash_of(slot: &[u8]) -> u16
     requires { ⌜ length (now slot) ≡ slotWidth ⌝ }
     ensures { λ r. ⌜ r ≡ hashOf (now (slot .entry)) ⌝ }
@@ -26,7 +27,9 @@ pub fn hash_of(slot: &[u8]) -> u16
         sum += word_at(slot, at) * (at + 1);
         at += 2;
     }
-    (sum % 65521) as u16
+    let last = index(slot[HASHED_WIDTH]) * SLOT_WIDTH;
+    let whole = sum + last;
+    (whole % 65521) as u16
 }
 
 // Whether a number is in a list. All are looked at, so that the compiler takes many at once.

@@ -39,11 +39,24 @@ loop-less c = search needs
 loop-again : tie.Need-loop-again Inv-loop μ-loop
 loop-again c = hash-next _ _ _ (c .before .before .loop .inv) (c .before .loop-test .taken) _ (c .word-at .ensures .1) (c .word-at .ensures .0)
 
+shared-slice-read-index : tie.Need-shared-slice-read-index Inv-loop μ-loop
+shared-slice-read-index c = search needs
+
+index-requires : tie.Need-index-requires Inv-loop μ-loop
+index-requires c κs = search needs
+
+mul-last : tie.Need-mul-last Inv-loop μ-loop
+mul-last c = omega (arith, c .index .ensures, c .before .shared-slice-known2 .given (2 * slotWords))
+
+add-whole : tie.Need-add-whole Inv-loop μ-loop
+add-whole c =
+    let i = c .before .before .before .loop .inv in omega (arith, c .index .ensures, c .before .shared-slice-known2 .given (2 * slotWords), i .low, i .place)
+
 cast-result : tie.Need-cast-result Inv-loop μ-loop
 cast-result c = search needs
 
 returns : tie.Need-returns Inv-loop μ-loop
-returns c = hash-end _ _ _ (c .before .loop .inv) (c .loop-test .left)
+returns c = hash-end _ _ _ (c .before .before .before .loop .inv) (c .before .before .loop-test .left) (c .index .ensures)
 
 pub hash-of-spec : {M : Type 1} → statement M
 hash-of-spec =
@@ -59,5 +72,9 @@ hash-of-spec =
     add-at
     loop-less
     loop-again
+    shared-slice-read-index
+    index-requires
+    mul-last
+    add-whole
     cast-result
     returns)
