@@ -63,6 +63,10 @@ module _ (known : List ℕ) (v i : ℕ) (inside : v < length known) (small : i <
           go true e f = rw (e tt, getD-set-same known v i freeCode inside, lt-ltb i soughtCode small) refl
           go false e f = rw (getD-set-other known v x i freeCode (λ e. f e)) refl
 
+-- where it is known whether there is a tuple
+told : (P : Tuple → Type 0) (y : Found) (k n : ℕ) {b : Bool} → y .found ≡ b → First P (tupleOf y k n) → First P (cond b (some (numbersFrom n (y .tuple) k)) none)
+told P y k n f h = subst (λ (b : Bool). First P (cond b (some (numbersFrom n (y .tuple) k)) none)) f h
+
 pub from-zero : (t : Tuple) → From 0 t
 from-zero [] = tt
 from-zero (i ∷ t) = omega arith
@@ -168,7 +172,8 @@ module _ {script ranks table quads leasts : List ℕ} {x : Context} {block : Blo
                 omega (arith, so-far .0, es .0, next-higher),
                 λ vs r δ p h l.
                     subst⁻¹ (λ i. i ≤ h .number) (et ∙ skipped s)
-                    (skip-reaches (w .schema) (w .typing v) (w .terms) (length (w .terms) - s) s (h .number) (to-seek vs r δ p h l) (holds-test (w .schema) (w .terms) (w .typing v) (h .number) (h .typed))),
+                    (skip-reaches (w .schema) (w .typing v) (w .terms) (length (w .terms) - s) s (h .number) (to-seek vs r δ p h l)
+                    (holds-test (w .schema) (w .terms) (w .typing v) (h .number) (h .typed))),
               )
 
     -- ── a number chosen ───────────────────────────────────────────────────────────────────────
@@ -430,22 +435,23 @@ module _ {script ranks table quads leasts : List ℕ} {x : Context} {block : Blo
             find-skip h e = past-it (λ o r c t g. not-worth known k below o r c i small inside (ei .1 small) h e t g)
 
             module _ (y : Found) (ey : FindOf w (set known this i) (k + 1) 0 y) where
-              rest-first : Given (First (λ t. Good w (set known this i) (later block (k + 1)) t × From 0 t) (tupleOf y (k + 1) (size - (k + 1))))
+              abbrev AfterIt : Tuple → Type 0
+              AfterIt t = Good w (set known this i) (later block (k + 1)) t × From 0 t
+
+              rest-first : Given (First AfterIt (tupleOf y (k + 1) (size - (k + 1))))
               rest-first o r c = ey (o .1) (chosen-ready known k below o r c i small inside (ei .1 small)) (chosen-cleared known k below o r c i small inside (ei .1 small))
 
               pub find-on : y .found ≡ false → LevelFrom (i + 1)
               find-on f = past-it (λ o r c t g.
                   none-after known k below o r c i small inside (ei .1 small) (From 0) (λ t. Unit {0}) (λ t q. from-zero t)
-                  (subst (λ (b : Bool). First (λ t. Good w (set known this i) (later block (k + 1)) t × From 0 t) (cond b (some (numbersFrom (size - (k + 1)) (y .tuple) (k + 1))) none)) f
-                  (rest-first o r c)) t g tt)
+                  (told AfterIt y (k + 1) (size - (k + 1)) f (rest-first o r c)) t g tt)
 
               pub find-hit : y .found ≡ true → lo ≤ i → k < length (y .tuple) → FindOf w known k lo (record { found = true; tuple = set (y .tuple) k i })
               find-hit f l h = at-level (From lo) (record { found = true; tuple = set (y .tuple) k i }) (λ o r c.
                   hit (λ t. Good w known both t × From lo t) y i h
                   (first-after known k below o r c i small inside (ei .1 small) (From 0) (From lo) (λ t q. from-zero t) (λ t q. l) (λ j t g q. at-least′ o r c j t g q)
                   (numbersFrom (size - (k + 1)) (y .tuple) (k + 1))
-                  (subst (λ (b : Bool). First (λ t. Good w (set known this i) (later block (k + 1)) t × From 0 t) (cond b (some (numbersFrom (size - (k + 1)) (y .tuple) (k + 1))) none)) f
-                  (rest-first o r c))))
+                  (told AfterIt y (k + 1) (size - (k + 1)) f (rest-first o r c))))
 
     -- ── after the last tuple ──────────────────────────────────────────────────────────────────
 
@@ -497,7 +503,10 @@ module _ {script ranks table quads leasts : List ℕ} {x : Context} {block : Blo
         own-typed = test-holds (w .schema) (w .terms) (w .typing this) own (subst T (sym f ∙ (e ∙ coded known k below own small)) tt)
 
         module _ (y : Found) (ey : AfterOf w (set known this own) (k + 1) y) where
-          rest-after : Given (First (λ t. Good w (set known this own) (later block (k + 1)) t × T (isAfter (some others) t)) (tupleOf y (k + 1) (size - (k + 1))))
+          abbrev AfterOwn : Tuple → Type 0
+          AfterOwn t = Good w (set known this own) (later block (k + 1)) t × T (isAfter (some others) t)
+
+          rest-after : Given (First AfterOwn (tupleOf y (k + 1) (size - (k + 1))))
           rest-after o r c = ey (o .1) (chosen-ready known k below o r c own small inside own-typed) (chosen-cleared known k below o r c own small inside own-typed)
 
           own-out : (t : Tuple) → After (own ∷ t) → T (isAfter (some others) t)
@@ -506,13 +515,11 @@ module _ {script ranks table quads leasts : List ℕ} {x : Context} {block : Blo
           pub own-none : y .found ≡ false → NoneOwn
           own-none g o r c t a q =
               none-after known k below o r c own small inside own-typed (λ t. T (isAfter (some others) t)) After own-out
-              (subst (λ (b : Bool). First (λ t. Good w (set known this own) (later block (k + 1)) t × T (isAfter (some others) t)) (cond b (some (numbersFrom (size - (k + 1)) (y .tuple) (k + 1))) none)) g
-              (rest-after o r c)) t a q
+              (told AfterOwn y (k + 1) (size - (k + 1)) g (rest-after o r c)) t a q
 
           pub own-hit : y .found ≡ true → k < length (y .tuple) → AfterOf w known k (record { found = true; tuple = set (y .tuple) k own })
           own-hit g h = at-after (record { found = true; tuple = set (y .tuple) k own }) (λ o r c.
               hit (λ t. Good w known both t × After t) y own h
               (first-after known k below o r c own small inside own-typed (λ t. T (isAfter (some others) t)) After own-out (λ t q. alike own others t q) (λ j t g q. from-own j t q)
               (numbersFrom (size - (k + 1)) (y .tuple) (k + 1))
-              (subst (λ (b : Bool). First (λ t. Good w (set known this own) (later block (k + 1)) t × T (isAfter (some others) t)) (cond b (some (numbersFrom (size - (k + 1)) (y .tuple) (k + 1))) none)) g
-              (rest-after o r c))))
+              (told AfterOwn y (k + 1) (size - (k + 1)) g (rest-after o r c))))

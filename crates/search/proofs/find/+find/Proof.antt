@@ -78,11 +78,16 @@ module _ (t : ℕ) where
 
   returns-2 : lts.Need-returns-2 (calls t) (find-at t) find.Post find-Inv-loop find-μ-loop
   returns-2 c =
-      let below = c .before .before .before .before .before .before .before .if1 .left in
-      (λ w. find-none w _ _ below _ _ (c .before .before .before .before .before .loop .inv .1 w below) _ (c .before .before .next .ensures w) (c .before .if2 .taken) _ (c .nothing .ensures .0), c .nothing .ensures .1)
+      let c₁ = c .before .before in
+      let c₂ = c₁ .before .before .before in
+      let c₃ = c₂ .before .before in
+      let below = c₃ .if1 .left in
+      (λ w. find-none w _ _ below _ _ (c₂ .loop .inv .1 w below) _ (c₁ .next .ensures w) (c .before .if2 .taken) _ (c .nothing .ensures .0), c .nothing .ensures .1)
 
   mul-with : lts.Need-mul-with (calls t) (find-at t) find.Post find-Inv-loop find-μ-loop
-  mul-with c = omega (arith, c .before .before .before .before .before .before .before .before .before .before .before .before .before .before .pre .1 .0 .small (c .before .before .before .before .before .before .before .before .before .before .before .before .before .before .args .k))
+  mul-with c =
+      let c₁ = c .before .before .before .before .before .before .before .before .before .before .before .before .before .before in
+      omega (arith, c₁ .pre .1 .0 .small (c₁ .args .k))
 
   array-write-with : lts.Need-array-write-with (calls t) (find-at t) find.Post find-Inv-loop find-μ-loop
   array-write-with c = c .before .before .before .before .before .before .before .before .before .before .before .before .before .before .pre .1 .0 .small _
@@ -93,44 +98,76 @@ module _ (t : ℕ) where
       (p .0, (p .1 .0, (p .1 .1, (c .before .before .before .before .before .before .if1 .left, c .if2 .left))))
 
   add-find : lts.Need-add-find (calls t) (find-at t) find.Post find-Inv-loop find-μ-loop
-  add-find c = omega (arith, c .before .before .before .before .before .before .before .before .before .before .before .before .before .before .before .before .pre .1 .0 .size, c .before .before .before .before .before .before .before .before .if1 .left)
+  add-find c =
+      let c₁ = c .before .before .before .before .before .before .before .before in
+      let c₂ = c₁ .before .before .before .before .before .before .before .before in
+      omega (arith, c₂ .pre .1 .0 .size, c₁ .if1 .left)
 
   find-requires : lts.Need-find-requires (calls t) (find-at t) find.Post find-Inv-loop find-μ-loop
-  find-requires c κs = (omega (arith, c .before .before .before .before .before .before .before .before .before .before .before .before .before .before .before .before .pre .0, c .before .before .before .before .before .before .before .before .if1 .left), c .before .before .before .before .before .before .before .before .before .before .before .before .before .before .before .before .pre .1)
+  find-requires c κs =
+      let c₁ = c .before .before .before .before .before .before .before .before in
+      let c₂ = c₁ .before .before .before .before .before .before .before .before in
+      (omega (arith, c₂ .pre .0, c₁ .if1 .left), c₂ .pre .1)
 
   mul-tuple : lts.Need-mul-tuple (calls t) (find-at t) find.Post find-Inv-loop find-μ-loop
-  mul-tuple c = omega (arith, c .before .before .before .before .before .before .before .before .before .before .before .before .before .before .before .before .before .before .before .pre .1 .0 .size, c .before .before .before .before .before .before .before .before .before .before .before .if1 .left)
+  mul-tuple c =
+      let c₁ = c .before .before .before .before .before .before .before .before .before .before .before in
+      let c₂ = c₁ .before .before .before .before .before .before .before .before in
+      omega (arith, c₂ .pre .1 .0 .size, c₁ .if1 .left)
 
   array-write-tuple : lts.Need-array-write-tuple (calls t) (find-at t) find.Post find-Inv-loop find-μ-loop
-  array-write-tuple c = omega (arith, c .before .before .before .before .before .before .before .before .before .before .before .before .before .before .before .before .before .before .before .pre .1 .0 .size, c .before .before .before .before .before .before .before .before .before .before .before .if1 .left)
+  array-write-tuple c =
+      let c₁ = c .before .before .before .before .before .before .before .before .before .before .before in
+      let c₂ = c₁ .before .before .before .before .before .before .before .before in
+      omega (arith, c₂ .pre .1 .0 .size, c₁ .if1 .left)
 
   returns-3 : lts.Need-returns-3 (calls t) (find-at t) find.Post find-Inv-loop find-μ-loop
   returns-3 c =
-      let s = c .before .before .before .before .before .before .before .before .before .before .before .before .before .before .before .before .before .before .before in
-      let below = c .before .before .before .before .before .before .before .before .before .before .before .if1 .left in
-      let i = c .before .before .before .before .before .before .before .before .before .loop .inv in
+      let c₁ = c .before .before in
+      let c₂ = c₁ .before .before .before in
+      let c₃ = c₂ .before in
+      let c₄ = c₃ .before .before in
+      let c₅ = c₄ .before in
+      let c₆ = c₅ .before .before in
+      let c₇ = c₆ .before .before .before .before .before .before .before .before in
+      let s = c₇ in
+      let below = c₆ .if1 .left in
+      let i = c₅ .loop .inv in
       let g = s .pre .1 .0 in
-      let y = c .before .before .find in (
-        λ w. find-hit w _ _ below _ _ (i .1 w below) _ (c .before .before .before .before .before .before .next .ensures w) (c .before .before .before .before .before .if2 .left) (omega (arith, g .small (s .args .k), sixteen s)) _ (y .ensures .0 w) (c .before .if4 .taken)
-            (omega (arith, i .0, c .before .before .before .before .before .before .next .ensures w .0, c .before .before .before .before .before .before .before .before .loop-test .taken)) (omega (arith, y .ensures .1, g .size, below)),
-        length-set (y .result .tuple) (s .args .k) (c .before .before .before .before .before .before .next .result) ∙ y .ensures .1,
+      let y = c₁ .find in (
+        λ w. find-hit w _ _ below _ _ (i .1 w below) _ (c₃ .next .ensures w) (c₂ .if2 .left) (omega (arith, g .small (s .args .k), sixteen s)) _ (y .ensures .0 w) (c .before .if4 .taken)
+            (omega (arith, i .0, c₃ .next .ensures w .0, c₄ .loop-test .taken)) (omega (arith, y .ensures .1, g .size, below)),
+        length-set (y .result .tuple) (s .args .k) (c₃ .next .result) ∙ y .ensures .1,
       )
 
   add-from : lts.Need-add-from (calls t) (find-at t) find.Post find-Inv-loop find-μ-loop
-  add-from c = omega (arith, few-terms (c .before .before .before .before .before .before .before .before .before .before .before .before .before .before .before .before .pre .1 .0), c .before .before .if2 .left)
+  add-from c =
+      let c₁ = c .before .before in
+      let c₂ = c₁ .before .before .before .before .before .before .before .before .before .before .before .before .before .before in
+      omega (arith, few-terms (c₂ .pre .1 .0), c₁ .if2 .left)
 
   loop-less : lts.Need-loop-less (calls t) (find-at t) find.Post find-Inv-loop find-μ-loop
-  loop-less c = omega (arith, c .before .before .before .next .ensures (c .before .before .before .before .before .before .before .before .before .before .before .before .before .before .before .before .pre .1 .0) .0, c .before .before .if2 .left, c .before .before .before .before .before .loop-test .taken)
+  loop-less c =
+      let c₁ = c .before .before in
+      let c₂ = c₁ .before in
+      let c₃ = c₂ .before .before in
+      let c₄ = c₃ .before .before .before .before .before .before .before .before .before .before .before in
+      omega (arith, c₂ .next .ensures (c₄ .pre .1 .0) .0, c₁ .if2 .left, c₃ .loop-test .taken)
 
   loop-again : lts.Need-loop-again (calls t) (find-at t) find.Post find-Inv-loop find-μ-loop
   loop-again c =
-      let s = c .before .before .before .before .before .before .before .before .before .before .before .before .before .before .before .before in
-      let i = c .before .before .before .before .before .before .loop .inv in
-      let small = c .before .before .if2 .left in (
-        omega (arith, i .0, c .before .before .before .next .ensures (s .pre .1 .0) .0, c .before .before .before .before .before .loop-test .taken),
+      let c₁ = c .before .before in
+      let c₂ = c₁ .before in
+      let c₃ = c₂ .before .before in
+      let c₄ = c₃ .before in
+      let c₅ = c₄ .before .before .before .before .before .before .before .before .before .before in
+      let s = c₅ in
+      let i = c₄ .loop .inv in
+      let small = c₁ .if2 .left in (
+        omega (arith, i .0, c₂ .next .ensures (s .pre .1 .0) .0, c₃ .loop-test .taken),
         ⊎-elim
-            (λ h w below. find-on w _ _ below _ _ (i .1 w below) _ (c .before .before .before .next .ensures w) small (omega (arith, s .pre .1 .0 .small (s .args .k), sixteen s)) _ (h .1 .ensures .0 w) (h .2 .left))
-            (λ h w below. find-skip w _ _ below _ _ (i .1 w below) _ (c .before .before .before .next .ensures w) small (omega (arith, s .pre .1 .0 .small (s .args .k), sixteen s)) (c .before .worth .ensures w) (h .left))
+            (λ h w below. find-on w _ _ below _ _ (i .1 w below) _ (c₂ .next .ensures w) small (omega (arith, s .pre .1 .0 .small (s .args .k), sixteen s)) _ (h .1 .ensures .0 w) (h .2 .left))
+            (λ h w below. find-skip w _ _ below _ _ (i .1 w below) _ (c₂ .next .ensures w) small (omega (arith, s .pre .1 .0 .small (s .args .k), sixteen s)) (c .before .worth .ensures w) (h .left))
             (c .if3 .came),
       )
 

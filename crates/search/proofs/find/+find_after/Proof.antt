@@ -52,64 +52,103 @@ module _ (t : ℕ) where
   returns-2 c = (λ w. after-past w _ _ (c .before .before .before .if1 .left) (c .before .if2 .taken) _ (c .nothing2 .ensures .0), c .nothing2 .ensures .1)
 
   mul-v : lts.Need-mul-v (calls t) (find-after-at t) find-after.Post
-  mul-v c = omega (arith, c .before .before .before .before .before .before .before .before .before .before .before .before .pre .1 .0 .size, c .before .before .before .before .if1 .left)
+  mul-v c =
+      let c₁ = c .before .before .before .before in
+      let c₂ = c₁ .before .before .before .before .before .before .before .before in
+      omega (arith, c₂ .pre .1 .0 .size, c₁ .if1 .left)
 
   array-read-v : lts.Need-array-read-v (calls t) (find-after-at t) find-after.Post
-  array-read-v c = omega (arith, c .before .before .before .before .before .before .before .before .before .before .before .before .pre .1 .0 .size, c .before .before .before .before .if1 .left)
+  array-read-v c =
+      let c₁ = c .before .before .before .before in
+      let c₂ = c₁ .before .before .before .before .before .before .before .before in
+      omega (arith, c₂ .pre .1 .0 .size, c₁ .if1 .left)
 
   shared-slice-read-has-type : lts.Need-shared-slice-read-has-type (calls t) (find-after-at t) find-after.Post
-  shared-slice-read-has-type c = omega (arith, c .before .before .before .before .before .before .before .before .before .before .before .before .before .pre .1 .0 .lent .room, c .before .before .before .if2 .left)
+  shared-slice-read-has-type c =
+      let c₁ = c .before .before .before in
+      let c₂ = c₁ .before .before .before .before .before .before .before .before .before .before in
+      omega (arith, c₂ .pre .1 .0 .lent .room, c₁ .if2 .left)
 
   array-read-has-type : lts.Need-array-read-has-type (calls t) (find-after-at t) find-after.Post
-  array-read-has-type c = omega (arith, c .before .before .before .before .before .before .before .before .before .before .before .before .before .pre .1 .0 .size, c .before .before .before .before .before .if1 .left)
+  array-read-has-type c =
+      let c₁ = c .before .before .before .before .before in
+      let c₂ = c₁ .before .before .before .before .before .before .before .before in
+      omega (arith, c₂ .pre .1 .0 .size, c₁ .if1 .left)
 
   has-type-requires : lts.Need-has-type-requires (calls t) (find-after-at t) find-after.Post
   has-type-requires c κs = search needs
 
   mul-with : lts.Need-mul-with (calls t) (find-after-at t) find-after.Post
-  mul-with c = omega (arith, c .before .before .before .before .before .before .before .before .before .before .before .before .before .before .before .pre .1 .0 .small (c .before .before .before .before .before .before .before .before .before .before .before .before .before .before .before .args .k))
+  mul-with c =
+      let c₁ = c .before .before .before .before .before .before .before .before .before .before .before .before .before .before .before in
+      omega (arith, c₁ .pre .1 .0 .small (c₁ .args .k))
 
   array-write-with : lts.Need-array-write-with (calls t) (find-after-at t) find-after.Post
   array-write-with c = c .before .before .before .before .before .before .before .before .before .before .before .before .before .before .before .pre .1 .0 .small _
 
   add-find-after : lts.Need-add-find-after (calls t) (find-after-at t) find-after.Post
-  add-find-after c = omega (arith, c .before .before .before .before .before .before .before .before .before .before .before .before .before .before .before .pre .1 .0 .size, c .before .before .before .before .before .before .before .if1 .left)
+  add-find-after c =
+      let c₁ = c .before .before .before .before .before .before .before in
+      let c₂ = c₁ .before .before .before .before .before .before .before .before in
+      omega (arith, c₂ .pre .1 .0 .size, c₁ .if1 .left)
 
   find-after-requires : lts.Need-find-after-requires (calls t) (find-after-at t) find-after.Post
-  find-after-requires c κs = (omega (arith, c .before .before .before .before .before .before .before .before .before .before .before .before .before .before .before .pre .0, c .before .before .before .before .before .before .before .if1 .left), c .before .before .before .before .before .before .before .before .before .before .before .before .before .before .before .pre .1)
+  find-after-requires c κs =
+      let c₁ = c .before .before .before .before .before .before .before in
+      let c₂ = c₁ .before .before .before .before .before .before .before .before in
+      (omega (arith, c₂ .pre .0, c₁ .if1 .left), c₂ .pre .1)
 
   mul-tuple : lts.Need-mul-tuple (calls t) (find-after-at t) find-after.Post
-  mul-tuple c = omega (arith, c .before .before .before .before .before .before .before .before .before .before .before .before .before .before .before .before .before .before .pre .1 .0 .size, c .before .before .before .before .before .before .before .before .before .before .if1 .left)
+  mul-tuple c =
+      let c₁ = c .before .before .before .before .before .before .before .before .before .before in
+      let c₂ = c₁ .before .before .before .before .before .before .before .before in
+      omega (arith, c₂ .pre .1 .0 .size, c₁ .if1 .left)
 
   array-write-tuple : lts.Need-array-write-tuple (calls t) (find-after-at t) find-after.Post
-  array-write-tuple c = omega (arith, c .before .before .before .before .before .before .before .before .before .before .before .before .before .before .before .before .before .before .pre .1 .0 .size, c .before .before .before .before .before .before .before .before .before .before .if1 .left)
+  array-write-tuple c =
+      let c₁ = c .before .before .before .before .before .before .before .before .before .before in
+      let c₂ = c₁ .before .before .before .before .before .before .before .before in
+      omega (arith, c₂ .pre .1 .0 .size, c₁ .if1 .left)
 
   returns-3 : lts.Need-returns-3 (calls t) (find-after-at t) find-after.Post
   returns-3 c =
-      let s = c .before .before .before .before .before .before .before .before .before .before .before .before .before .before .before .before .before .before in
-      let below = c .before .before .before .before .before .before .before .before .before .before .if1 .left in
+      let c₁ = c .before .before in
+      let c₂ = c₁ .before in
+      let c₃ = c₂ .before in
+      let c₄ = c₃ .before .before .before .before in
+      let c₅ = c₄ .before .before in
+      let c₆ = c₅ .before .before .before .before .before .before .before .before in
+      let s = c₆ in
+      let below = c₅ .if1 .left in
       let g = s .pre .1 .0 in
-      let y = c .before .before .find-after in (
-        λ w. own-hit w _ _ below (c .before .before .before .before .before .before .before .before .if2 .left) (omega (arith, g .small (s .args .k), sixteen s)) (c .before .before .before .before .has-type .ensures) (c .before .before .before .if3 .taken) _ (y .ensures .0 w) (c .before .if4 .taken)
+      let y = c₁ .find-after in (
+        λ w. own-hit w _ _ below (c₄ .if2 .left) (omega (arith, g .small (s .args .k), sixteen s)) (c₃ .has-type .ensures) (c₂ .if3 .taken) _ (y .ensures .0 w) (c .before .if4 .taken)
             (omega (arith, y .ensures .1, g .size, below)),
         length-set (y .result .tuple) (s .args .k) (getD (s .args .block .last) (s .args .k) 0) ∙ y .ensures .1,
       )
 
   add-find : lts.Need-add-find (calls t) (find-after-at t) find-after.Post
-  add-find c = omega (arith, few-terms (c .before .before .before .before .before .before .before .before .before .before .before .before .before .before .before .pre .1 .0), c .before .before .before .before .before .if2 .left)
+  add-find c =
+      let c₁ = c .before .before .before .before .before in
+      let c₂ = c₁ .before .before .before .before .before .before .before .before .before .before in
+      omega (arith, few-terms (c₂ .pre .1 .0), c₁ .if2 .left)
 
   find-requires : lts.Need-find-requires (calls t) (find-after-at t) find-after.Post
   find-requires c κs = c .before .before .before .before .before .before .before .before .before .before .before .before .before .before .before .pre .1
 
   returns-4 : lts.Need-returns-4 (calls t) (find-after-at t) find-after.Post
   returns-4 c =
-      let s = c .before .before .before .before .before .before .before .before .before .before .before .before .before .before .before .before in
-      let below = c .before .before .before .before .before .before .before .before .if1 .left in
-      let small = c .before .before .before .before .before .before .if2 .left in (
+      let c₁ = c .before .before in
+      let c₂ = c₁ .before .before .before .before in
+      let c₃ = c₂ .before .before in
+      let c₄ = c₃ .before .before .before .before .before .before .before .before in
+      let s = c₄ in
+      let below = c₃ .if1 .left in
+      let small = c₂ .if2 .left in (
         λ w. after-find w _ _ below
             (⊎-elim
-            (λ h. own-none w _ _ below small (omega (arith, s .pre .1 .0 .small (s .args .k), sixteen s)) (c .before .before .has-type .ensures) (h .0 .taken) _ (h .1 .ensures .0 w) (h .2 .left))
-            (λ h. own-untyped w _ _ below small (c .before .before .has-type .ensures) (h .left))
+            (λ h. own-none w _ _ below small (omega (arith, s .pre .1 .0 .small (s .args .k), sixteen s)) (c₁ .has-type .ensures) (h .0 .taken) _ (h .1 .ensures .0 w) (h .2 .left))
+            (λ h. own-untyped w _ _ below small (c₁ .has-type .ensures) (h .left))
             (c .before .if3 .came))
             (c .find .result) (c .find .ensures .0 w),
         c .find .ensures .1,

@@ -41,13 +41,17 @@ slice-aggregate-next : tie.Need-slice-aggregate-next Inv-loop μ-loop
 slice-aggregate-next c = search needs
 
 next-requires : tie.Need-next-requires Inv-loop μ-loop
-next-requires c κs = let p = c .before .before .before .before .before .before .before .before .before .before .before .pre in (p .0, (p .1 .0, (p .1 .1 .0, (sixteen (c .before .before .before .before .before .before .before .before .before .before .before), p .1 .1 .1))))
+next-requires c κs =
+    let c₁ = c .before .before .before .before .before .before .before .before .before .before .before in
+    let p = c₁ .pre in (p .0, (p .1 .0, (p .1 .1 .0, (sixteen c₁, p .1 .1 .1))))
 
 returns : tie.Need-returns Inv-loop μ-loop
 returns c = λ w. hope-none w _ _ _ (c .before .before .before .before .loop .inv w) _ (c .before .next .ensures w) (c .if1 .taken)
 
 mul-with : tie.Need-mul-with Inv-loop μ-loop
-mul-with c = omega (arith, c .before .before .before .before .before .before .before .before .before .before .before .before .before .pre .0 .small (c .before .before .before .before .before .before .before .before .before .before .before .before .before .args .j))
+mul-with c =
+    let c₁ = c .before .before .before .before .before .before .before .before .before .before .before .before .before in
+    omega (arith, c₁ .pre .0 .small (c₁ .args .j))
 
 array-write-with : tie.Need-array-write-with Inv-loop μ-loop
 array-write-with c = c .before .before .before .before .before .before .before .before .before .before .before .before .before .pre .0 .small _
@@ -57,24 +61,40 @@ slice-aggregate-agree c = search (needs, sixteen (c .before .before .before .bef
 
 agree-requires : tie.Need-agree-requires Inv-loop μ-loop
 agree-requires c κs =
-    let p = c .before .before .before .before .before .before .before .before .before .before .before .before .before .before .pre in
+    let c₁ = c .before .before in
+    let c₂ = c₁ .before .before .before .before .before .before .before .before .before .before .before .before in
+    let p = c₂ .pre in
     let w = p .0 in
     let q = p .1 .1 .0 in
-    (q .room, ((w .tree, parts-here w q), (lent-here w _ (length-set (c .before .before .before .before .before .before .before .before .before .before .before .before .before .before .args .t10) (getD (c .before .before .before .before .before .before .before .before .before .before .before .before .before .before .args .block .vars) (c .before .before .before .before .before .before .before .before .before .before .before .before .before .before .args .j) 0) (c .before .before .next .result) ∙ sixteen (c .before .before .before .before .before .before .before .before .before .before .before .before .before .before)), (p .1 .0, (w .lent .stored, (w .small _, (omega arith, c .before .if1 .left)))))))
+    let sized = length-set (c₂ .args .t10) (getD (c₂ .args .block .vars) (c₂ .args .j) 0) (c₁ .next .result) ∙ sixteen c₂ in
+    (q .room, ((w .tree, parts-here w q), (lent-here w _ sized, (p .1 .0, (w .lent .stored, (w .small _, (omega arith, c .before .if1 .left)))))))
 
 returns-2 : tie.Need-returns-2 Inv-loop μ-loop
 returns-2 c = λ w e. absurd (true≢false e)
 
 add-lo : tie.Need-add-lo Inv-loop μ-loop
-add-lo c = omega (arith, few-terms (c .before .before .before .before .before .before .before .before .before .before .before .before .before .before .before .before .pre .0), c .before .before .before .if1 .left)
+add-lo c =
+    let c₁ = c .before .before .before in
+    let c₂ = c₁ .before .before .before .before .before .before .before .before .before .before .before .before .before in
+    omega (arith, few-terms (c₂ .pre .0), c₁ .if1 .left)
 
 loop-less : tie.Need-loop-less Inv-loop μ-loop
-loop-less c = omega (arith, c .before .before .before .before .next .ensures (c .before .before .before .before .before .before .before .before .before .before .before .before .before .before .before .before .pre .0) .0, c .before .before .before .if1 .left, c .before .before .before .before .before .before .loop-test .taken)
+loop-less c =
+    let c₁ = c .before .before .before in
+    let c₂ = c₁ .before in
+    let c₃ = c₂ .before .before in
+    let c₄ = c₃ .before .before .before .before .before .before .before .before .before .before in
+    omega (arith, c₂ .next .ensures (c₄ .pre .0) .0, c₁ .if1 .left, c₃ .loop-test .taken)
 
 loop-again : tie.Need-loop-again Inv-loop μ-loop
-loop-again c = λ w.
-    hope-on w _ _ _ (c .before .before .before .before .before .before .before .loop .inv w) _ (c .before .before .before .before .next .ensures w) (c .before .before .before .if1 .left) (omega (arith, w .small (c .before .before .before .before .before .before .before .before .before .before .before .before .before .before .before .before .args .j), sixteen (c .before .before .before .before .before .before .before .before .before .before .before .before .before .before .before .before)))
-    (c .before .agree .ensures (c .if2 .left) (w .tree) (parts-here w (c .before .before .before .before .before .before .before .before .before .before .before .before .before .before .before .before .pre .1 .1 .0)))
+loop-again c =
+    let c₁ = c .before .before .before in
+    let c₂ = c₁ .before in
+    let c₃ = c₂ .before .before .before in
+    let c₄ = c₃ .before .before .before .before .before .before .before .before .before in
+    λ w.
+    hope-on w _ _ _ (c₃ .loop .inv w) _ (c₂ .next .ensures w) (c₁ .if1 .left) (omega (arith, w .small (c₄ .args .j), sixteen c₄))
+    (c .before .agree .ensures (c .if2 .left) (w .tree) (parts-here w (c₄ .pre .1 .1 .0)))
 
 returns-3 : tie.Need-returns-3 Inv-loop μ-loop
 returns-3 c = λ w. hope-past w _ _ _ (c .before .loop .inv w) (c .loop-test .left)

@@ -19,7 +19,10 @@ hope-requires : tie.Need-hope-requires Inv-loop μ-loop
 hope-requires c κs = let p = c .before .before .before .before .before .before .before .before .before .pre in (p .0, (p .1 .0, (p .1 .1, c .loop-test .taken)))
 
 returns : tie.Need-returns Inv-loop μ-loop
-returns c = λ w. hopeful-lost w _ _ _ (c .before .before .before .loop .inv) (c .before .before .loop-test .taken) (c .before .hope .ensures w) (not-true _ (c .if1 .taken))
+returns c =
+    let c₁ = c .before .before in
+    let c₂ = c₁ .before in
+    λ w. hopeful-lost w _ _ _ (c₂ .loop .inv) (c₁ .loop-test .taken) (c .before .hope .ensures w) (not-true _ (c .if1 .taken))
 
 add-j : tie.Need-add-j Inv-loop μ-loop
 add-j c = omega arith

@@ -39,17 +39,23 @@ mul-agree : tie.Need-mul-agree
 mul-agree c = let p = c .before .before .before .before .before .before .before .before .before .before .pre in omega (arith, p .0 .size, c .before .before .if1 .left)
 
 array-read-agree : tie.Need-array-read-agree
-array-read-agree c = let p = c .before .before .before .before .before .before .before .before .before .before .pre in omega (arith, p .0 .size, c .before .before .if1 .left)
+array-read-agree c =
+    let c₁ = c .before .before in
+    let c₂ = c₁ .before .before .before .before .before .before .before .before in
+    let p = c₂ .pre in omega (arith, p .0 .size, c₁ .if1 .left)
 
 agree-requires : tie.Need-agree-requires
 agree-requires c κs =
-    let p = c .before .before .before .before .before .before .before .before .before .before .pre in
+    let c₁ = c .before .before .before .before .before .before .before .before .before .before in
+    let p = c₁ .pre in
     let w = p .0 in
     let q = p .1 .1 .0 in
-    (q .room, ((w .tree, parts-here w q), (lent-here w _ (sixteen (c .before .before .before .before .before .before .before .before .before .before)), (p .1 .0, (w .lent .stored, (w .small _, (omega (arith, w .small (c .before .before .before .before .before .before .before .before .before .before .args .k + 1)), p .1 .1 .1 .1)))))))
+    (q .room, ((w .tree, parts-here w q), (lent-here w _ (sixteen c₁), (p .1 .0, (w .lent .stored, (w .small _, (omega (arith, w .small (c₁ .args .k + 1)), p .1 .1 .1 .1)))))))
 
 returns-2 : tie.Need-returns-2
-returns-2 c = λ w. worth-denied w _ _ _ (c .before .agree .ensures (not-true _ (c .if2 .taken)) (w .tree) (parts-here w (c .before .before .before .before .before .before .before .before .before .before .before .before .pre .1 .1 .0)))
+returns-2 c =
+    let c₁ = c .before .before .before .before .before .before .before .before .before .before .before .before in
+    λ w. worth-denied w _ _ _ (c .before .agree .ensures (not-true _ (c .if2 .taken)) (w .tree) (parts-here w (c₁ .pre .1 .1 .0)))
 
 add-hopeful : tie.Need-add-hopeful
 add-hopeful c = let p = c .before .before .before .before .before .before .before .before .before .before .before .before .pre in omega (arith, p .0 .size, p .1 .1 .1 .0)

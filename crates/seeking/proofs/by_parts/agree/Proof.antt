@@ -34,10 +34,15 @@ shared-slice-read-names-but : tie.Need-shared-slice-read-names-but Inv-loop μ-l
 shared-slice-read-names-but c = omega (arith, c .before .before .loop-test .taken)
 
 names-but-requires : tie.Need-names-but-requires Inv-loop μ-loop
-names-but-requires c κs = let p = c .before .before .before .before .before .before .before .before .before .before .before .pre .1 .1 .1 .1 .1 in (omega (arith, p .0), p .1 .0)
+names-but-requires c κs =
+    let c₁ = c .before .before .before .before .before .before .before .before .before .before .before in
+    let p = c₁ .pre .1 .1 .1 .1 .1 in (omega (arith, p .0), p .1 .0)
 
 shared-slice-read-if1 : tie.Need-shared-slice-read-if1 Inv-loop μ-loop
-shared-slice-read-if1 c = part-inside _ _ (c .before .before .before .before .before .before .before .before .before .before .before .before .before .pre .1 .0 .1 _ (omega (arith, c .before .before .before .before .loop-test .taken)))
+shared-slice-read-if1 c =
+    let c₁ = c .before .before .before .before in
+    let c₂ = c₁ .before .before .before .before .before .before .before .before .before in
+    part-inside _ _ (c₂ .pre .1 .0 .1 _ (omega (arith, c₁ .loop-test .taken)))
 
 seek-requires : tie.Need-seek-requires Inv-loop μ-loop
 seek-requires c κs =
@@ -45,12 +50,20 @@ seek-requires c κs =
     (part-loads _ _ (p .0 .1 _ (omega (arith, c .before .before .before .before .before .loop-test .taken))), (p .1 .0, (p .1 .1 .0, p .1 .1 .1 .0)))
 
 returns : tie.Need-returns Inv-loop μ-loop
-returns c = λ f q p.
-    let x = p (c .before .before .before .before .before .before .before .before .before .loop .i) (omega (arith, c .before .before .before .before .before .before .before .before .loop-test .taken)) in
-    part-denies _ _ _ _ _ _ _ q x _ _ (c .before .before .before .before .before .before .before .before .before .before .before .before .before .before .before .before .before .pre .1 .1 .1 .1 .1 .1 .1) (c .if2 .taken) (walked-at (c .before .before .seek .ensures) (x .read))
+returns c =
+    let c₁ = c .before .before in
+    let c₂ = c₁ .before .before .before .before .before .before in
+    let c₃ = c₂ .before in
+    let c₄ = c₃ .before .before .before .before .before .before .before .before in
+    λ f q p.
+    let x = p (c₃ .loop .i) (omega (arith, c₂ .loop-test .taken)) in
+    part-denies _ _ _ _ _ _ _ q x _ _ (c₄ .pre .1 .1 .1 .1 .1 .1 .1) (c .if2 .taken) (walked-at (c₁ .seek .ensures) (x .read))
 
 add-i : tie.Need-add-i Inv-loop μ-loop
-add-i c = omega (arith, c .before .before .before .before .before .loop-test .taken, c .before .before .before .before .before .before .before .before .before .before .before .before .before .before .pre .0)
+add-i c =
+    let c₁ = c .before .before .before .before .before in
+    let c₂ = c₁ .before .before .before .before .before .before .before .before .before in
+    omega (arith, c₁ .loop-test .taken, c₂ .pre .0)
 
 loop-less : tie.Need-loop-less Inv-loop μ-loop
 loop-less c = omega (arith, c .before .before .before .before .before .loop-test .taken)

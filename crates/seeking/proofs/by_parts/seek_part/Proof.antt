@@ -23,15 +23,22 @@ sub-below : tie.Need-sub-below
 sub-below c = search needs
 
 names-at-requires : tie.Need-names-at-requires
-names-at-requires c κs = (query-at _ _ _ _ _ refl (c .before .before .before .before .before .before .before .before .before .pre .0) .pattern (c .if2 .taken) .all, c .before .before .before .before .before .before .before .before .before .pre .1 .0 .terms .variables)
+names-at-requires c κs =
+    let c₁ = c .before .before .before .before .before .before .before .before .before in
+    (query-at _ _ _ _ _ refl (c₁ .pre .0) .pattern (c .if2 .taken) .all, c₁ .pre .1 .0 .terms .variables)
 
 least-requires : tie.Need-least-requires
-least-requires c κs = let p = c .before .before .before .before .before .before .before .before .before .before .pre .1 in (p .1 .1 .room, (p .1 .1 .rises, omega (arith, few _ _ _ (p .0 .terms .tabled))))
+least-requires c κs =
+    let c₁ = c .before .before .before .before .before .before .before .before .before .before in
+    let p = c₁ .pre .1 in (p .1 .1 .room, (p .1 .1 .rises, omega (arith, few _ _ _ (p .0 .terms .tabled))))
 
 returns-2 : tie.Need-returns-2
-returns-2 c = λ q m e.
+returns-2 c =
+    let c₁ = c .before .before in
+    let c₂ = c₁ .before .before .before .before .before .before .before .before .before in
+    λ q m e.
     pattern-seeks _ _ _ _ _ _ q _ _ _
-    (walked-at (walked-as (query-at _ _ _ _ _ refl (c .before .before .before .before .before .before .before .before .before .before .before .pre .0) .pattern (c .before .before .if2 .taken) .read) (c .before .names-at .ensures)) e) (c .least .ensures)
+    (walked-at (walked-as (query-at _ _ _ _ _ refl (c₂ .pre .0) .pattern (c₁ .if2 .taken) .read) (c .before .names-at .ensures)) e) (c .least .ensures)
 
 seek-requires : tie.Need-seek-requires
 seek-requires c κs = c .before .before .before .before .before .before .before .before .before .pre

@@ -30,13 +30,19 @@ loop-holds : tie.Need-loop-holds Inv-loop μ-loop
 loop-holds c = (λ h. h, λ q p. stays _ _ _ _ _ _ _ _)
 
 mul-place : tie.Need-mul-place Inv-loop μ-loop
-mul-place c = omega (arith, c .before .loop .inv .0 (omega (arith, c .loop-test .taken)), c .before .before .before .before .before .before .before .before .before .pre .0)
+mul-place c =
+    let c₁ = c .before .before .before .before .before .before .before .before .before in
+    omega (arith, c .before .loop .inv .0 (omega (arith, c .loop-test .taken)), c₁ .pre .0)
 
 add-second : tie.Need-add-second Inv-loop μ-loop
-add-second c = omega (arith, c .before .loop .inv .0 (omega (arith, c .loop-test .taken)), c .before .before .before .before .before .before .before .before .before .pre .0)
+add-second c =
+    let c₁ = c .before .before .before .before .before .before .before .before .before in
+    omega (arith, c .before .loop .inv .0 (omega (arith, c .loop-test .taken)), c₁ .pre .0)
 
 mul-may-name : tie.Need-mul-may-name Inv-loop μ-loop
-mul-may-name c = omega (arith, c .before .loop .inv .0 (omega (arith, c .loop-test .taken)), c .before .before .before .before .before .before .before .before .before .pre .0)
+mul-may-name c =
+    let c₁ = c .before .before .before .before .before .before .before .before .before in
+    omega (arith, c .before .loop .inv .0 (omega (arith, c .loop-test .taken)), c₁ .pre .0)
 
 shared-slice-read-may-name : tie.Need-shared-slice-read-may-name Inv-loop μ-loop
 shared-slice-read-may-name c = omega (arith, c .before .before .loop .inv .0 (omega (arith, c .before .loop-test .taken)))
@@ -45,7 +51,11 @@ may-name-requires : tie.Need-may-name-requires Inv-loop μ-loop
 may-name-requires c κs = omega (arith, c .before .before .before .before .before .before .before .before .before .before .pre .1 .1 .1 .1 .1)
 
 mul-seek-part : tie.Need-mul-seek-part Inv-loop μ-loop
-mul-seek-part c = omega (arith, c .before .before .before .loop .inv .0 (omega (arith, c .before .before .loop-test .taken)), c .before .before .before .before .before .before .before .before .before .before .before .pre .0)
+mul-seek-part c =
+    let c₁ = c .before .before in
+    let c₂ = c₁ .before in
+    let c₃ = c₂ .before .before .before .before .before .before .before .before in
+    omega (arith, c₂ .loop .inv .0 (omega (arith, c₁ .loop-test .taken)), c₃ .pre .0)
 
 shared-slice-read-seek-part : tie.Need-shared-slice-read-seek-part Inv-loop μ-loop
 shared-slice-read-seek-part c = omega (arith, c .before .before .before .before .loop .inv .0 (omega (arith, c .before .before .before .loop-test .taken)))
@@ -57,9 +67,12 @@ seek-part-requires c κs =
     (part-loads _ _ (p .0 .1 _ (omega (arith, i))), (p .1 .0, (p .1 .1 .0, p .1 .1 .1 .0)))
 
 returns : tie.Need-returns Inv-loop μ-loop
-returns c = λ q p.
-    let b = c .before .before .before .before .before .before .loop .inv in
-    let x = p (c .before .before .before .before .before .before .loop .i) (omega (arith, b .0 (omega (arith, c .before .before .before .before .before .loop-test .taken)))) in
+returns c =
+    let c₁ = c .before .before .before .before .before in
+    let c₂ = c₁ .before in
+    λ q p.
+    let b = c₂ .loop .inv in
+    let x = p (c₂ .loop .i) (omega (arith, b .0 (omega (arith, c₁ .loop-test .taken)))) in
     ended _ _ _ _ _ _ _ _ q (c .if1 .taken) (part-seeks _ _ _ _ _ _ _ q x _ _ _ (b .1 q p) (c .before .seek-part .ensures (x .part) (x .end) (x .read)))
 
 either-requires : tie.Need-either-requires Inv-loop μ-loop
@@ -67,18 +80,30 @@ either-requires c κs = tt
 
 -- the turn that is taken brings the end nearer
 falls : (c : lts.After-either calls seek-parts.Pre seek-parts.Post Inv-loop μ-loop)
-    → let n = length (c .before .before .before .before .before .before .before .before .before .before .before .before .before .before .before .args .parts .now) / 2 in
-    let count = c .before .before .before .before .before .before .before .before .before .before .before .before .before .before .before .args .context .count in
-    (c .either .result < n) × (17 * (count - c .before .before .seek-part .result) + (n - (c .either .result + 1)) < 17 * (count - c .before .before .before .before .before .before .before .loop .found) + (n - c .before .before .before .before .before .before .before .loop .agreed))
+    → let c₁ = c .before .before .before .before .before .before .before in
+    let c₂ = c₁ .before .before .before .before .before .before .before .before in
+    let n = length (c₂ .args .parts .now) / 2 in
+    let count = c₂ .args .context .count in
+    (c .either .result < n) × (17 * (count - c .before .before .seek-part .result) + (n - (c .either .result + 1)) < 17 * (count - c₁ .loop .found) + (n - c₁ .loop .agreed))
 falls c =
-    let x = c .before .before .before .before .before .before .before .before .before .before .before .before .before .before .before .pre .1 .0 .1 (c .before .before .before .before .before .before .before .loop .i) (omega (arith, c .before .before .before .before .before .before .before .loop .inv .0 (omega (arith, c .before .before .before .before .before .before .loop-test .taken)))) in
-    turn-falls _ _ _ _ _ _ (omega (arith, c .before .before .before .before .before .before .before .before .before .before .before .before .before .before .before .pre .0)) (c .before .before .before .before .before .before .loop-test .taken) (c .before .if1 .left) (c .before .before .seek-part .ensures (x .part) (x .end) (x .read) .0) (c .either .ensures)
+    let c₁ = c .before .before in
+    let c₂ = c₁ .before .before .before .before in
+    let c₃ = c₂ .before in
+    let c₄ = c₃ .before .before .before .before .before .before .before .before in
+    let x = c₄ .pre .1 .0 .1 (c₃ .loop .i) (omega (arith, c₃ .loop .inv .0 (omega (arith, c₂ .loop-test .taken)))) in
+    turn-falls _ _ _ _ _ _ (omega (arith, c₄ .pre .0)) (c₂ .loop-test .taken) (c .before .if1 .left) (c₁ .seek-part .ensures (x .part) (x .end) (x .read) .0) (c .either .ensures)
 
 add-agreed : tie.Need-add-agreed Inv-loop μ-loop
-add-agreed c = omega (arith, falls c .0, c .before .before .before .before .before .before .before .before .before .before .before .before .before .before .before .pre .0)
+add-agreed c =
+    let c₁ = c .before .before .before .before .before .before .before .before .before .before .before .before .before .before .before in
+    omega (arith, falls c .0, c₁ .pre .0)
 
 add-next : tie.Need-add-next Inv-loop μ-loop
-add-next c = omega (arith, c .before .before .before .before .before .before .before .loop .inv .0 (omega (arith, c .before .before .before .before .before .before .loop-test .taken)), c .before .before .before .before .before .before .before .before .before .before .before .before .before .before .before .pre .0)
+add-next c =
+    let c₁ = c .before .before .before .before .before .before in
+    let c₂ = c₁ .before in
+    let c₃ = c₂ .before .before .before .before .before .before .before .before in
+    omega (arith, c₂ .loop .inv .0 (omega (arith, c₁ .loop-test .taken)), c₃ .pre .0)
 
 either-requires-2 : tie.Need-either-requires-2 Inv-loop μ-loop
 either-requires-2 c κs = tt
@@ -87,13 +112,16 @@ loop-less : tie.Need-loop-less Inv-loop μ-loop
 loop-less c = falls (c .before) .1
 
 loop-again : tie.Need-loop-again Inv-loop μ-loop
-loop-again c = (
-  λ h. turn-within _ _ _ h (c .either2 .ensures),
-  λ q p.
-      let b = c .before .before .before .before .before .before .before .before .loop .inv in
-      let x = p (c .before .before .before .before .before .before .before .before .loop .i) (omega (arith, b .0 (omega (arith, c .before .before .before .before .before .before .before .loop-test .taken)))) in
-      part-seeks _ _ _ _ _ _ _ q x _ _ _ (b .1 q p) (c .before .before .before .seek-part .ensures (x .part) (x .end) (x .read)),
-)
+loop-again c =
+    let c₁ = c .before .before .before in
+    let c₂ = c₁ .before .before .before .before in
+    let c₃ = c₂ .before in (
+      λ h. turn-within _ _ _ h (c .either2 .ensures),
+      λ q p.
+          let b = c₃ .loop .inv in
+          let x = p (c₃ .loop .i) (omega (arith, b .0 (omega (arith, c₂ .loop-test .taken)))) in
+          part-seeks _ _ _ _ _ _ _ q x _ _ _ (b .1 q p) (c₁ .seek-part .ensures (x .part) (x .end) (x .read)),
+    )
 
 returns-2 : tie.Need-returns-2 Inv-loop μ-loop
 returns-2 c = c .before .loop .inv .1

@@ -69,8 +69,11 @@ array-write-list c = omega (arith, c .before .before .before .before .before .lo
 
 variables-in-requires : tie.Need-variables-in-requires Inv-loop μ-loop
 variables-in-requires c κs =
-    let (q, m, e) = c .before .before .before .before .before .before .before .before .pre .0 in
-    let w = ends-within _ _ q _ (c .before .before .before .before .before .before .before .before .pre .1) _ _ _ (c .before .before .before .before .loop-test .taken) (c .before .before .before .before .before .loop .inv .2 q m e .1) (c .after .ensures) in
+    let c₁ = c .before .before .before .before in
+    let c₂ = c₁ .before in
+    let c₃ = c₂ .before .before .before in
+    let (q, m, e) = c₃ .pre .0 in
+    let w = ends-within _ _ q _ (c₃ .pre .1) _ _ _ (c₁ .loop-test .taken) (c₂ .loop .inv .2 q m e .1) (c .after .ensures) in
     (w .0, w .1)
 
 mul-list-2 : tie.Need-mul-list-2 Inv-loop μ-loop
