@@ -60,7 +60,7 @@ def refused(crate, edit):
     (copy / "log").write_text(log)
     good = run.returncode == 1 and "logic=not-proved" in log
     print(f"{crate}/{edit.stem}: {'refused' if good else 'NOT REFUSED'} ({time.time() - began:.0f} s)")
-    for line in [line for line in log.splitlines() if ": error" in line][:2]:
+    for line in [line for line in log.splitlines() if ": error" in line or "it is not proved" in line][:2]:
         print("    " + line.replace(f"{copy}/", "")[:400])
     return good
 

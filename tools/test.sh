@@ -27,7 +27,7 @@ part() {
   counts "$name" "$log/part" "${PIPESTATUS[0]}"
 }
 
-part 'rt ci' env RT_JOBS=4 rt ci
+part 'rt ci' env RT_JOBS=8 rt ci
 # check NAME COMMAND: a part that has no count of its own counts as one
 check() {
   local name=$1

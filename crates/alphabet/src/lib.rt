@@ -1,9 +1,12 @@
-// A club's own alphabet: whether 95 bytes hold each rank 0 to 94 once.
+// A club's own alphabet: whether 95 bytes hold each rank 0 to 94 once (21), which comes before the saved run (10).
 ghost use mathlib.Core.Path.{_≡_};
 ghost use lib.ListN.{length};
 ghost use Rattle.definitions.specs.Limits.{ranksWidth};
 ghost use Rattle.definitions.specs.Alphabet.{isAlphabet};
+ghost use Rattle.alphabet.specs.Unread.{unreadNumber};
+use definitions::BAD_RANKS;
 use definitions::RANKS_WIDTH;
+use definitions::UNSOUND;
 
 // Whether each rank stands once: one pass, which stops at a number that is no rank and at a rank that was met before.
 // Ruled out: a list with a rank twice; a list with rank 95.
@@ -25,4 +28,15 @@ pub fn is_alphabet(ranks: &[u8]) -> bool
         i += 1;
     }
     true
+}
+
+// The refusal where no saved run has the bytes. Ruled out: 10 whatever the ranks are; 21 whatever they are.
+pub fn unread_number(ranks: &[u8]) -> u8
+    requires { ⌜ length (now ranks) ≡ ranksWidth ⌝ }
+    ensures { λ r. ⌜ r ≡ unreadNumber (now (ranks .entry)) ⌝ }
+{
+    if is_alphabet(ranks) {
+        return UNSOUND;
+    }
+    BAD_RANKS
 }

@@ -2,8 +2,10 @@
 use Prim.Native.Nat.{ℕ}
 use mathlib.Core.Path.{_≡_, ap, sym, _∙_}
 use mathlib.Core.List.{List}
+use mathlib.Core.Bool.{Bool, true, false, not}
+use lib.Dec.{eqb}
 use lib.ListN.{length}
-use borrow.Author.Tests.{eq-eqb, ne-eqb}
+use borrow.Author.Tests.{not-true, not-false}
 use Rattle.definitions.specs.Terms.{Term}
 use Rattle.definitions.specs.Result.{Result}
 use Rattle.definitions.specs.Calls.{total, numberCall, suggest, SchemaResult, schemaCall}
@@ -18,59 +20,60 @@ use Rattle.definitions.specs.declared.SchemaAnswer.{SchemaAnswer}
 -- ── total ───────────────────────────────────────────────────────────────────────────────────
 
 module _ (terms schema script report : List ℕ) where
-  pub total-length : (length report ≡ totalReportWidth → ⊥) → totalExport terms schema script report ≡ record { number = 1; report = report }
+  pub total-length : {b : Bool} → b ≡ eqb (length report) totalReportWidth → not b ≡ true → totalExport terms schema script report ≡ record { number = 1; report = report }
   unfolding totalExport
-  total-length h = rw (totalExport, ne-eqb (length report) totalReportWidth h)
+  total-length e t = rw (totalExport, sym e ∙ not-true _ t)
 
-  pub total-done : {answer : TotalAnswer} {p : List ℕ} {n : ℕ} → length report ≡ totalReportWidth → answer ≡ total terms schema script
+  pub total-done : {b : Bool} {answer : TotalAnswer} {p : List ℕ} {n : ℕ} → b ≡ eqb (length report) totalReportWidth → not b ≡ false → answer ≡ total terms schema script
       → p ≡ totalReport report answer → n ≡ totalNumber answer → totalExport terms schema script report ≡ record { number = n; report = p }
   unfolding totalExport
-  total-done h e written number =
+  total-done {b} f t e written number =
       let m = number ∙ ap totalNumber e in
       let k = written ∙ ap (totalReport report) e in
-      rw (totalExport, eq-eqb (length report) totalReportWidth h) (λ i. record { number = sym m i; report = sym k i })
+      rw (totalExport, sym f ∙ not-false b t) (λ i. record { number = sym m i; report = sym k i })
 
 -- ── number ──────────────────────────────────────────────────────────────────────────────────
 
 module _ (text lent : List ℕ) where
-  pub number-length : (length lent ≡ numberRecordWidth → ⊥) → numberExport text lent ≡ record { number = 1; «record» = lent }
+  pub number-length : {b : Bool} → b ≡ eqb (length lent) numberRecordWidth → not b ≡ true → numberExport text lent ≡ record { number = 1; «record» = lent }
   unfolding numberExport
-  number-length h = rw (numberExport, ne-eqb (length lent) numberRecordWidth h)
+  number-length e t = rw (numberExport, sym e ∙ not-true _ t)
 
-  pub number-done : {r : Result Term} {p : List ℕ} {n : ℕ} → length lent ≡ numberRecordWidth → r ≡ numberCall text → p ≡ recordAfter lent r → n ≡ resultNumber r
+  pub number-done : {b : Bool} {r : Result Term} {p : List ℕ} {n : ℕ} → b ≡ eqb (length lent) numberRecordWidth → not b ≡ false → r ≡ numberCall text → p ≡ recordAfter lent r → n ≡ resultNumber r
       → numberExport text lent ≡ record { number = n; «record» = p }
   unfolding numberExport
-  number-done h e written number =
+  number-done {b} f t e written number =
       let m = number ∙ ap resultNumber e in
       let k = written ∙ ap (recordAfter lent) e in
-      rw (numberExport, eq-eqb (length lent) numberRecordWidth h) (λ i. record { number = sym m i; «record» = sym k i })
+      rw (numberExport, sym f ∙ not-false b t) (λ i. record { number = sym m i; «record» = sym k i })
 
 -- ── suggest ─────────────────────────────────────────────────────────────────────────────────
 
 module _ (terms schema script report : List ℕ) where
-  pub suggest-length : (length report ≡ suggestReportWidth → ⊥) → suggestExport terms schema script report ≡ record { number = 1; report = report }
+  pub suggest-length : {b : Bool} → b ≡ eqb (length report) suggestReportWidth → not b ≡ true → suggestExport terms schema script report ≡ record { number = 1; report = report }
   unfolding suggestExport
-  suggest-length h = rw (suggestExport, ne-eqb (length report) suggestReportWidth h)
+  suggest-length e t = rw (suggestExport, sym e ∙ not-true _ t)
 
-  pub suggest-done : {answer : SuggestAnswer} {p : List ℕ} {n : ℕ} → length report ≡ suggestReportWidth → answer ≡ suggest terms schema script
+  pub suggest-done : {b : Bool} {answer : SuggestAnswer} {p : List ℕ} {n : ℕ} → b ≡ eqb (length report) suggestReportWidth → not b ≡ false → answer ≡ suggest terms schema script
       → p ≡ suggestReport report answer → n ≡ suggestNumber answer → suggestExport terms schema script report ≡ record { number = n; report = p }
   unfolding suggestExport
-  suggest-done h e written number =
+  suggest-done {b} f t e written number =
       let m = number ∙ ap suggestNumber e in
       let k = written ∙ ap (suggestReport report) e in
-      rw (suggestExport, eq-eqb (length report) suggestReportWidth h) (λ i. record { number = sym m i; report = sym k i })
+      rw (suggestExport, sym f ∙ not-false b t) (λ i. record { number = sym m i; report = sym k i })
 
 -- ── a schema out of a page ──────────────────────────────────────────────────────────────────
 
 module _ (page schema report : List ℕ) where
-  pub schema-length : (length report ≡ schemaReportWidth → ⊥) → schemaExport page schema report ≡ record { number = 1; schema = schema; report = report }
+  pub schema-length : {b : Bool} → b ≡ eqb (length report) schemaReportWidth → not b ≡ true → schemaExport page schema report ≡ record { number = 1; schema = schema; report = report }
   unfolding schemaExport
-  schema-length h = rw (schemaExport, ne-eqb (length report) schemaReportWidth h)
+  schema-length e t = rw (schemaExport, sym e ∙ not-true _ t)
 
-  pub schema-done : {answer : SchemaAnswer} {after p : List ℕ} {n : ℕ} → length report ≡ schemaReportWidth → schemaCall page schema ≡ record { answer = answer; schema = after }
+  pub schema-done : {b : Bool} {answer : SchemaAnswer} {after p : List ℕ} {n : ℕ} → b ≡ eqb (length report) schemaReportWidth → not b ≡ false
+      → schemaCall page schema ≡ record { answer = answer; schema = after }
       → p ≡ schemaReport report answer → n ≡ schemaNumber answer → schemaExport page schema report ≡ record { number = n; schema = after; report = p }
   unfolding schemaExport
-  schema-done {answer} {after} {p} {n} h call written number =
+  schema-done {b} {answer} {after} {p} {n} f t call written number =
       let x : SchemaResult = record { answer = answer; schema = after } in
-      rw (schemaExport, eq-eqb (length report) schemaReportWidth h, call)
+      rw (schemaExport, sym f ∙ not-false b t, call)
       (λ i. record { number = sym number i; schema = x .schema; report = sym written i })

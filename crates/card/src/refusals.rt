@@ -26,7 +26,6 @@ use definitions::TERM_LIMIT;
 use definitions::TERM_TWICE;
 use definitions::VARIABLE_LIMIT;
 use fields::Counted;
-use reader::script::script_ok;
 use records::lists::count_entries;
 use records::lists::entries_distinct;
 use records::lists::hashed_distinct;
@@ -35,7 +34,8 @@ use records::numbering::list_terms;
 use records::schema::hash_entries;
 use scope::scope::in_scope;
 use table::Added;
-use typing::typer::work_out;
+use typer::work_out;
+use whole_script::script_ok;
 
 // What a check finds: a refusal's number and zeros, or the number of terms and the reported type of each variable; and the hashes of the
 // schema's URIs, where nothing is refused.

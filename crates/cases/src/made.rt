@@ -2,7 +2,7 @@
 use definitions::PATTERN_WIDTH;
 use definitions::TAG_WIDTH;
 use definitions::TEXT_WIDTH;
-use fields::texts;
+use term_bodies::texts;
 use values::ANY_URI;
 use values::DECIMAL;
 use values::INTEGER;

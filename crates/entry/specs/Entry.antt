@@ -2,9 +2,7 @@
 use Prim.Native.Nat.{ℕ}
 use mathlib.Core.Path.{_≡_}
 use mathlib.Core.List.{List}
-use mathlib.Core.Bool.{cond}
 use lib.ListN.{length, replicate}
-use Rattle.definitions.specs.Alphabet.{isAlphabet}
 use Rattle.definitions.specs.Limits.{entryLimit}
 use Rattle.definitions.specs.Result.{Result, passed}
 use Rattle.definitions.specs.Calls as Calls
@@ -15,10 +13,6 @@ use Rattle.query.specs.declared.Context.{Context}
 use Rattle.query.specs.StoreLent.{StoreLent}
 use Rattle.card.specs.Check.{numberOf}
 use Rattle.entry.specs.declared.Entered.{Entered}
-
--- where no saved run has the bytes: the ranks come first
-abbrev pub unreadNumber : (ranks : List ℕ) → ℕ
-unreadNumber ranks = cond (isAlphabet ranks) 10 21
 
 -- what a search is told where this was found, at a value of now
 abbrev pub contextOf : Entered → SavedRun → (clock : ℕ) → Context

@@ -3,14 +3,14 @@ ghost use mathlib.Core.Path.{_≡_};
 ghost use mathlib.Core.List.{List};
 ghost use Prim.Native.Nat.{ℕ};
 ghost use lib.ListN.{length};
-ghost use Rattle.definitions.specs.Limits.{ranksWidth, termLimit, quadLimit, termTableWidth, quadTableWidth};
+ghost use Rattle.definitions.specs.Limits.{termLimit, quadLimit, termTableWidth, quadTableWidth};
 ghost use Rattle.definitions.specs.Saved.{termsIn};
 ghost use Rattle.definitions.specs.Result.{given};
 ghost use Rattle.definitions.specs.Calls.{soundIn, entryTests};
 ghost use Rattle.fields.specs.Answers.{countOf};
 ghost use Rattle.table.specs.Table.{HoldsTerms};
 ghost use Rattle.lengths.specs.Lent.{lentOf};
-ghost use Rattle.entry.specs.Entry.{unreadNumber, refusedEntry, Finds};
+ghost use Rattle.entry.specs.Entry.{refusedEntry, Finds};
 use alphabet::is_alphabet;
 use card::leasts::least_codes;
 use card::refusals::check_card;
@@ -46,17 +46,6 @@ fn refused(refusal: u8) -> Entered
         count: 0,
         entries: [0; ENTRY_LIMIT],
     }
-}
-
-// The refusal where no saved run has the bytes. Ruled out: 10 whatever the ranks are; 21 whatever they are.
-pub fn unread_number(ranks: &[u8]) -> u8
-    requires { ⌜ length (now ranks) ≡ ranksWidth ⌝ }
-    ensures { λ r. ⌜ r ≡ unreadNumber (now (ranks .entry)) ⌝ }
-{
-    if is_alphabet(ranks) {
-        return UNSOUND;
-    }
-    BAD_RANKS
 }
 
 // How many terms a table holds. Where it begins as that of loading, the slots of loading's terms are not read again.

@@ -5,8 +5,9 @@ use mathlib.Core.List.{List}
 use mathlib.Core.Bool.{Bool, true, false, not}
 use mathlib.Core.Option.{none, some}
 use lib.IntN.{ℤ}
+use lib.Dec.{eqb}
 use lib.ListN.{length}
-use borrow.Author.Tests.{eq-eqb, ne-eqb, not-true, not-false}
+use borrow.Author.Tests.{not-true, not-false}
 use Rattle.definitions.specs.Outcome.{ok, _>>=_}
 use Rattle.definitions.specs.Calls.{Lent, lengthsOf, load, runCall, pageCall, publishCall}
 use Rattle.definitions.specs.Alphabet.{isAlphabet}
@@ -21,7 +22,7 @@ use Rattle.definitions.specs.declared.Ran.{Ran}
 use Rattle.definitions.specs.declared.Paged.{Paged}
 use Rattle.definitions.specs.declared.PublishAnswer.{PublishAnswer}
 use Rattle.laws.proofs.SoundIn.{entry-ranks}
-use Rattle.entry.specs.Entry.{unreadNumber}
+use Rattle.alphabet.specs.Unread.{unreadNumber}
 use Rattle.lengths.specs.Buffers.{buffersFit, savedFits}
 use Rattle.lengths.proofs.BufferLaws.{tables-fit}
 use Rattle.running.proofs.RunLaws as RunLaws
@@ -30,20 +31,20 @@ use Rattle.paging.proofs.PageLaws as PageLaws
 -- ── load ────────────────────────────────────────────────────────────────────────────────────
 
 module _ (l : Lent) (saved : List ℕ) where
-  pub load-length : (length saved ≡ savedWidth → ⊥)
+  pub load-length : {b : Bool} → b ≡ eqb (length saved) savedWidth → not b ≡ true
       → loadExport l saved ≡ record { number = 1; termTable = l .termTable; quadTable = l .quadTable; saved = saved }
   unfolding loadExport
-  load-length h = rw (loadExport, ne-eqb (length saved) savedWidth h)
+  load-length e t = rw (loadExport, sym e ∙ not-true _ t)
 
-  pub load-done : {x : Loaded} {t q s : List ℕ} {n : ℕ} → length saved ≡ savedWidth → x ≡ load l .returned → t ≡ load l .termTable
+  pub load-done : {b : Bool} {x : Loaded} {t q s : List ℕ} {n : ℕ} → b ≡ eqb (length saved) savedWidth → not b ≡ false → x ≡ load l .returned → t ≡ load l .termTable
       → q ≡ load l .quadTable → n ≡ loadNumber (x .answer) → s ≡ savedAfter n (x .saved) saved
       → loadExport l saved ≡ record { number = n; termTable = t; quadTable = q; saved = s }
   unfolding loadExport
-  load-done {x} {t} {q} {s} {n} h e a b number after =
+  load-done {b} {x} {t} {q} {s} {n} f h e a c number after =
       let m : n ≡ loadNumber (load l .returned .answer) = number ∙ ap (λ (y : Loaded). loadNumber (y .answer)) e in
       let k : s ≡ savedAfter (loadNumber (load l .returned .answer)) (load l .returned .saved) saved = after ∙ (λ i. savedAfter (m i) (e i .saved) saved) in
-      rw (loadExport, eq-eqb (length saved) savedWidth h)
-      (λ i. record { number = sym m i; termTable = sym a i; quadTable = sym b i; saved = sym k i })
+      rw (loadExport, sym f ∙ not-false b h)
+      (λ i. record { number = sym m i; termTable = sym a i; quadTable = sym c i; saved = sym k i })
 
 -- ── run ─────────────────────────────────────────────────────────────────────────────────────
 

@@ -4,10 +4,6 @@ ghost use mathlib.Core.List.{List};
 ghost use Prim.Native.Nat.{ℕ};
 ghost use Rattle.definitions.specs.Outcome.{ok};
 ghost use Rattle.definitions.specs.Exports.{loadExport, runExport, pageExport, totalExport, numberExport, suggestExport, schemaExport, publishExport};
-use definitions::PAGE_REPORT_WIDTH;
-use definitions::PUBLISH_REPORT_WIDTH;
-use definitions::RUN_REPORT_WIDTH;
-use definitions::SAVED_WIDTH;
 use definitions::UNSOUND;
 use layout::reading;
 
@@ -40,15 +36,13 @@ pub extern "C" fn willetcoffer_load(
           saved = now (saved .exit);
         } ⌝ }
 {
-    if saved.len() != SAVED_WIDTH {
+    if !lengths::load_fits(saved.len()) {
         return 1;
     }
     let loaded = loading::load(ranks, terms, schema, script, term_table, quad_table);
     let answer = loaded.answer;
     let first = loaded.saved;
-    let number = reports::load_number(answer);
-    reports::hand_back(number, first, saved);
-    number
+    handing_back::after_load(answer, first, saved)
 }
 
 // Run: 1, 21, 10, 11.
@@ -78,19 +72,18 @@ pub extern "C" fn willetcoffer_run(
         (now (saved .entry)) budget clock (now (report .entry))
         ≡ ok (record { number = r; saved = now (saved .exit); report = now (report .exit) }) ⌝ }
 {
-    if !lengths::buffers_fit(
+    if !lengths::run_fits(
         ranks.len(),
         term_table.len(),
         quad_table.len(),
         saved.len(),
         report.len(),
-        RUN_REPORT_WIDTH,
     ) {
         return 1;
     }
     let read = reading::read_saved(saved);
     if !read.ok {
-        return entry::unread_number(ranks) as u32;
+        return alphabet::unread_number(ranks) as u32;
     }
     let before = read.saved;
     let ran = running::run(
@@ -106,10 +99,7 @@ pub extern "C" fn willetcoffer_run(
     );
     let answer = ran.answer;
     let after = ran.saved;
-    let number = reports::run_number(answer);
-    reports::hand_back(number, after, saved);
-    reports::write_run_report(answer, report);
-    number
+    handing_back::after_run(answer, after, saved, report)
 }
 
 // Page: 1, 21, 10, 12, 13, 14.
@@ -145,19 +135,18 @@ pub extern "C" fn willetcoffer_page(
           report = now (report .exit);
         } ⌝ }
 {
-    if !lengths::buffers_fit(
+    if !lengths::page_fits(
         ranks.len(),
         term_table.len(),
         quad_table.len(),
         saved.len(),
         report.len(),
-        PAGE_REPORT_WIDTH,
     ) {
         return 1;
     }
     let read = reading::read_saved(saved);
     if !read.ok {
-        return entry::unread_number(ranks) as u32;
+        return alphabet::unread_number(ranks) as u32;
     }
     let before = read.saved;
     let paged = paging::page(
@@ -173,10 +162,7 @@ pub extern "C" fn willetcoffer_page(
     );
     let answer = paged.answer;
     let kept = paged.saved;
-    let number = reports::page_number(answer);
-    reports::hand_back(number, kept, saved);
-    reports::write_page_report(answer, report);
-    number
+    handing_back::after_page(answer, kept, saved, report)
 }
 
 // Total: 1 for its report, then 2 to 7.
@@ -254,12 +240,11 @@ pub extern "C" fn willetcoffer_publish(
         (now (saved .entry)) graph (now (page .entry)) (now (report .entry))
         ≡ record { number = r; page = now (page .exit); report = now (report .exit) }) ⌝ }
 {
-    if !lengths::saved_fits(
+    if !lengths::publish_fits(
         term_table.len(),
         quad_table.len(),
         saved.len(),
         report.len(),
-        PUBLISH_REPORT_WIDTH,
     ) {
         return 1;
     }
@@ -278,6 +263,5 @@ pub extern "C" fn willetcoffer_publish(
         graph,
         page,
     );
-    reports::write_publish_report(answer, report);
-    reports::publish_number(answer)
+    handing_back::after_publish(answer, report)
 }

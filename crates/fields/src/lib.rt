@@ -1,8 +1,5 @@
-// Bytes, fields and bodies of records: numbers, texts filled with zeros, and where a record of each kind ends.
-pub mod bodies;
+// Bytes and the numbers in them; how many records there are.
 pub mod numbers;
-pub mod reading;
-pub mod texts;
 
 // How many there are.
 pub enum Counted {

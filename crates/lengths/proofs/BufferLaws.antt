@@ -47,3 +47,7 @@ module _ (terms quads saved report width : ℕ) {b : Bool} (is : b ≡ savedFits
 
   pub report-is : report ≡ width
   report-is = eqb→eq report width (andRight (eqb saved savedWidth) (eqb report width) (andRight bothTables lastTwo allFour))
+
+-- of one buffer alone
+pub width-is : {n width : ℕ} {b : Bool} → b ≡ eqb n width → not b ≡ false → n ≡ width
+width-is {n} {width} {b} is t = eqb→eq n width (trueIs (eqb n width) (sym is ∙ not-false b t))

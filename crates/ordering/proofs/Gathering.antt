@@ -17,8 +17,9 @@ use Rattle.keys.specs.Keys.{graphWeight, keyOf, keysFrom, rowsFrom, rising, key
 use Rattle.keys.proofs.Order.{order}
 use Rattle.keys.proofs.Rise.{snoc}
 use Rattle.keys.proofs.Quads.{same-test, order-rises, rows-are}
-use Rattle.ordering.specs.Sets.{inserted, insertAll, others, apart, Gathered}
-use Rattle.ordering.proofs.Halves.{put-last}
+use Rattle.key_merging.specs.Inserted.{inserted, insertAll}
+use Rattle.ordering.specs.Sets.{others, apart, Gathered}
+use Rattle.key_sorting.proofs.Halves.{put-last}
 
 -- ── key by key ──────────────────────────────────────────────────────────────────────────────
 

@@ -9,7 +9,7 @@ use borrow.Author.Tests.{eq-eqb, ne-eqb}
 use Rattle.keys.specs.Keys.{graphWeight, keysFrom, Splits}
 use Rattle.keys.proofs.Rise.{keys-same, ordered}
 use Rattle.ordering.specs.Sets.{others}
-use Rattle.ordering.proofs.Union.{cut, cut-all, written}
+use Rattle.key_merging.proofs.Union.{cut, cut-all, written}
 
 module _ (g : ℕ) (f : List ℕ) where
   kept : (a r i : ℕ) → ((j : ℕ) → i ≤ j → j < i + a → getD f j 0 / graphWeight ≡ g → ⊥)

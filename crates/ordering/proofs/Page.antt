@@ -5,10 +5,11 @@ use mathlib.Core.List.{List, [], _∷_}
 use mathlib.Core.Bool.{Bool, true, false, cond}
 use lib.Dec.{eqb}
 use Rattle.keys.specs.Keys.{graphWeight, rising}
-use Rattle.ordering.specs.Sets.{insertAll, others}
-use Rattle.ordering.proofs.Union.{Above}
-use Rattle.ordering.proofs.Same.{tail-rises, rest-above, cons-rises, all-rises}
-use Rattle.ordering.proofs.Halves.{sorted-rises, sorted-first}
+use Rattle.key_merging.specs.Inserted.{insertAll}
+use Rattle.ordering.specs.Sets.{others}
+use Rattle.key_merging.proofs.Union.{Above}
+use Rattle.key_sorting.proofs.Same.{tail-rises, rest-above, cons-rises, all-rises}
+use Rattle.key_sorting.proofs.Halves.{sorted-rises, sorted-first}
 
 module _ (g : ℕ) where
   others-above : (x : ℕ) (ks : List ℕ) → Above x ks → Above x (others g ks)

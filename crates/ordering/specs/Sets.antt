@@ -1,36 +1,21 @@
--- Sets of keys as rising lists.
-use Prim.Native.Nat.{ℕ, _+_, _/_, _≤_, _<_}
+-- The keys of other graphs, and quads that are a base with keys put in.
+use Prim.Native.Nat.{ℕ, _/_}
 use mathlib.Core.Path.{_≡_}
 use mathlib.Core.List.{List, [], _∷_}
 use mathlib.Core.Bool.{true, cond, not}
-use lib.Dec.{eqb, ltb}
-use lib.ListN.{getD}
+use lib.Dec.{eqb}
 use Rattle.definitions.specs.Lists.{keep}
 use Rattle.definitions.specs.Evaluate.{Quad}
 use Rattle.definitions.specs.Machine.{inOrder, ofGraph}
 use Rattle.laws.specs.Lists.{All}
 use Rattle.laws.specs.Quads.{Small}
 use Rattle.keys.specs.Keys.{graphWeight, keysFrom, keysOf}
-
--- a key put into its place, once
-unfoldable pub inserted : ℕ → List ℕ → List ℕ
-inserted x [] = x ∷ []
-inserted x (k ∷ ks) = cond (ltb x k) (x ∷ (k ∷ ks)) (cond (eqb x k) (k ∷ ks) (k ∷ inserted x ks))
-
--- each key of a list put in
-unfoldable pub insertAll : List ℕ → List ℕ → List ℕ
-insertAll [] ys = ys
-insertAll (x ∷ xs) ys = inserted x (insertAll xs ys)
+use Rattle.key_merging.specs.Inserted.{insertAll}
 
 -- the keys of other graphs
 unfoldable pub others : (graph : ℕ) → List ℕ → List ℕ
 others g [] = []
 others g (k ∷ ks) = cond (eqb (k / graphWeight) g) (others g ks) (k ∷ others g ks)
-
--- nothing is changed but n keys from a place on
-pub record Outside (f g : List ℕ) (from n : ℕ) : Type 0 where
-  pub before : (j : ℕ) → j < from → getD g j 0 ≡ getD f j 0
-  pub after : (j : ℕ) → from + n ≤ j → getD g j 0 ≡ getD f j 0
 
 -- the quads of other graphs
 abbrev pub apart : (graph : ℕ) → List Quad → List Quad

@@ -5,7 +5,7 @@ ghost use Rattle.definitions.specs.Terms.{readTriple};
 ghost use Rattle.laws.specs.ReadAnswers.{isSome, nextOf};
 ghost use Rattle.definitions.specs.declared.Read.the-variants as Read;
 use definitions::OBJECT_OFFSET;
-use fields::bodies::body_width;
+use term_bodies::bodies::body_width;
 
 // A page from an offset on: the record there is the next one to be read.
 pub struct PageReader<'a> {

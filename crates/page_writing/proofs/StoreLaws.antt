@@ -33,7 +33,7 @@ use Rattle.triples.specs.Sorting.{sort}
 use Rattle.triples.specs.Bytewise.{byteLe}
 use Rattle.triples.proofs.Merging.{map-sort}
 use Rattle.triples.proofs.Graphs.{SoundStore, map-same, said, own-named, published-sorted}
-use Rattle.sorting.specs.Records.{kindOf, bodyOfSlot, fromProperty, fromSubject, recordIn, keyRecord, keyLe, slotIn, quadIn, keyIn, keysIn}
+use Rattle.record_order.specs.Records.{kindOf, bodyOfSlot, fromProperty, fromSubject, recordIn, keyRecord, keyLe, slotIn, quadIn, keyIn, keysIn}
 use Rattle.page_writing.specs.Page.{keysPage, sortedPage}
 
 -- ── a term's slot ───────────────────────────────────────────────────────────────────────────

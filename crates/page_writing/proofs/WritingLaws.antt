@@ -28,8 +28,8 @@ use Rattle.keys.specs.Keys.{quadOf}
 use Rattle.fields.specs.Answers.{widthOf}
 use Rattle.output.specs.Written.{Written}
 use Rattle.output.proofs.WritingLaws.{written-none, written-then, written-as}
-use Rattle.sorting.specs.Records.{kindOf, bodyOfSlot, fromProperty, fromSubject, recordIn, slotIn, keyRecord, keyLe, keyIn, keysIn}
-use Rattle.sorting.proofs.CompareLaws.{slot-fits, lent-part, subject-in, property-in, object-in, object-kind, width-small}
+use Rattle.record_order.specs.Records.{kindOf, bodyOfSlot, fromProperty, fromSubject, recordIn, slotIn, keyRecord, keyLe, keyIn, keysIn}
+use Rattle.record_order.proofs.CompareLaws.{slot-fits, lent-part, subject-in, property-in, object-in, object-kind, width-small}
 use Rattle.page_writing.specs.Page.{keysPage, sortedPage, fitted}
 
 -- ── a slot's body ───────────────────────────────────────────────────────────────────────────

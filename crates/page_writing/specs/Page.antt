@@ -6,7 +6,7 @@ use lib.ListN.{length}
 use Rattle.definitions.specs.Publish.{pageOf}
 use Rattle.definitions.specs.Result.{Result, passed, _>>_, require}
 use Rattle.triples.specs.Sorting.{sort}
-use Rattle.sorting.specs.Records.{keyRecord, keyLe}
+use Rattle.record_order.specs.Records.{keyRecord, keyLe}
 
 unfoldable pub keysPage : (table keys : List ℕ) → List ℕ
 keysPage table ks = pageOf (map (keyRecord table) ks)

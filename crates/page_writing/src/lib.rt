@@ -6,7 +6,7 @@ ghost use Prim.Native.Nat.{_+_, _≤_, _<_};
 ghost use lib.ListN.{length, drop};
 ghost use Rattle.definitions.specs.Limits.{slotWidth, quadLimit};
 ghost use Rattle.output.specs.Written.{Written};
-ghost use Rattle.sorting.specs.Records.{bodyOfSlot, slotIn, keyRecord, keyIn, keysIn};
+ghost use Rattle.record_order.specs.Records.{bodyOfSlot, slotIn, keyRecord, keyIn, keysIn};
 ghost use Rattle.definitions.specs.Calls.{publishResult};
 ghost use Rattle.page_writing.specs.Page.{keysPage, sortedPage, fitted};
 use definitions::OBJECT_OFFSET;
@@ -15,13 +15,13 @@ use definitions::QUAD_LIMIT;
 use definitions::SHORT_BUFFER;
 use definitions::SLOT_WIDTH;
 use definitions::TEXT_WIDTH;
-use fields::bodies::body_width;
 use keys::object_of;
 use keys::property_of;
 use keys::subject_of;
 use output::put_byte;
 use output::put_text;
 use sorting::merging::sort_keys;
+use term_bodies::bodies::body_width;
 
 // What a term's kind (11 to 15) and the page record's (81 to 85) with such an object lie apart.
 const KIND_STEP: u8 = 0x70;

@@ -22,7 +22,8 @@ use Rattle.laws.proofs.Tables.{quad-table-length}
 use Rattle.laws.proofs.Writing.{copied}
 use Rattle.keys.specs.Keys.{keysFrom, rowsFrom, rising, keysOf}
 use Rattle.keys.proofs.Quads.{order-rises}
-use Rattle.ordering.specs.Sets.{insertAll, others, apart, Gathered}
+use Rattle.key_merging.specs.Inserted.{insertAll}
+use Rattle.ordering.specs.Sets.{others, apart, Gathered}
 use Rattle.ordering.proofs.Gathering.{gathered-none, apart-small, apart-order, page-count, page-rows}
 use Rattle.pages.specs.declared.Counts.{Counts}
 use Rattle.pages.specs.declared.AfterPage.{AfterPage}

@@ -33,7 +33,7 @@ use Rattle.pages.specs.declared.Counts.{Counts}
 use Rattle.records.specs.declared.Joined.{Joined}
 use Rattle.pages.specs.declared.Numbers.{Numbers}
 use Rattle.ordering.proofs.Gathering.{gathered-one}
-use Rattle.store.specs.Quads.{quad}
+use Rattle.quad_table.specs.Quads.{quad}
 use Rattle.pages.specs.Page.{BodyIs, Joins, subjectIn, propertyIn, objectIn, Numbering, HeldQuads, HeldTaken, Took}
 use Rattle.records.proofs.NumberingLaws.{held-width}
 use Rattle.page_reader.proofs.RecordLaws.{page-kind, record-ends}

@@ -14,7 +14,7 @@ ghost use Rattle.laws.specs.Records.{TripleAt};
 ghost use Rattle.laws.specs.Quads.{Small};
 ghost use Rattle.keys.specs.Keys.{keyOf};
 ghost use Rattle.table.specs.Table.{HeldTerms};
-ghost use Rattle.store.specs.Quads.{quad};
+ghost use Rattle.quad_table.specs.Quads.{quad};
 ghost use Rattle.pages.specs.Page.{Held, HeldHashes, BodyIs, Says, Joins, RecordAt, Reads, Numbering, HeldTaken, HeldBoth, Took, PageReads};
 use crate::Counts;
 use crate::Numbers;

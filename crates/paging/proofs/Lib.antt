@@ -1,3 +1,2 @@
-pub mod GraphLaws
 pub mod PageLaws
 pub mod TakeLaws

@@ -1,15 +1,11 @@
 // The page call: refusals 1, 10, 12, 13 and 14 in this order, then the page taken in on copies of both tables.
 ghost use mathlib.Core.Path.{_≡_};
 ghost use mathlib.Core.List.{List};
-ghost use Prim.Native.Nat.{ℕ, _≤_};
-ghost use lib.ListN.{length, getElem?};
-ghost use Rattle.definitions.specs.Limits.{termLimit};
-ghost use Rattle.definitions.specs.Terms.{Term, Schema};
-ghost use Rattle.definitions.specs.Calls.{isGraph, pageIn, pageCall};
+ghost use Prim.Native.Nat.{ℕ};
+ghost use Rattle.definitions.specs.Calls.{pageIn, pageCall};
 ghost use Rattle.laws.specs.ReadAnswers.{isSome};
 ghost use Rattle.lengths.specs.Lent.{lentOf};
 ghost use Rattle.paging.specs.Refused.{refusedPaged};
-ghost use Rattle.laws.specs.Sorts.{LeastOf};
 ghost use Rattle.paging.specs.Passed.{Passed};
 use definitions::BAD_PAGE;
 use definitions::NO_GRAPH;
@@ -22,9 +18,9 @@ use definitions::SavedRun;
 use definitions::TERM_LIMIT;
 use entry::enter;
 use fields::Counted;
+use graph_tests::is_graph;
 use pages::intake::take_in;
 use records::lists::count_triples;
-use soundness::graphs::is_uri;
 use store::canonical::canonical_control;
 use store::canonical::canonical_store;
 
@@ -35,18 +31,6 @@ fn refused(saved: SavedRun, number: u8) -> Paged
         answer: PageAnswer::Refused(number),
         saved,
     }
-}
-
-// Whether a number is that of a URI among the terms in use.
-fn is_graph(leasts: &[u8], count: usize, graph: u64) -> bool
-    requires { ⌜ count ≤ length (now leasts) ⌝ }
-    requires { ⌜ count ≤ termLimit ⌝ }
-    ensures { λ r. ⌜ ((S : Schema) (terms : List Term) → LeastOf S terms (now (leasts .entry)) → count ≡ length terms → r ≡ isGraph (getElem? terms graph)) ⌝ }
-{
-    if (count as u64) <= graph {
-        return false;
-    }
-    is_uri(leasts, count, graph as u16)
 }
 
 // Whether a page has no more bytes than it may, and good records only.

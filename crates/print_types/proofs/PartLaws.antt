@@ -7,12 +7,7 @@ use mathlib.Core.List.{List, [], _∷_}
 use lib.ListN.{length, take, drop, length-drop}
 use lib.Seq.{take-all, take-nil}
 use Rattle.laws.proofs.Ranges.{split}
-
-pub drop-out : (l : List ℕ) (n : ℕ) → length l ≤ n → drop n l ≡ []
-drop-out [] zero h = refl
-drop-out [] (suc n) h = refl
-drop-out (x ∷ l) zero h = absurd (omega arith)
-drop-out (x ∷ l) (suc n) h = drop-out l n (omega arith)
+use Rattle.type_lines.proofs.Texts.{drop-out}
 
 drop-take : (a b : ℕ) (s : List ℕ) → drop a (take b s) ≡ take (b - a) (drop a s)
 drop-take zero b s = let e : b ≡ b - 0 = omega arith in ap (λ (n : ℕ). take n s) e

@@ -21,7 +21,7 @@ use Rattle.definitions.specs.Calls.{Checked, recordTests, scriptTests, readTest
 use Rattle.definitions.specs.Printer.{line, typeName, typeLines, boundCount, printedResult, printed, entryBody, endFrom, termsEnd, schemaEnd, termsPart, schemaPart, scriptPart}
 use Rattle.laws.proofs.Refusing.{by-require}
 use Rattle.laws.proofs.Check.{check-passed, types-length, variable-count}
-use Rattle.print_types.specs.Lines.{datatypeText, typeText, variableLine, boundLine, boundLines, counts, boundOnes, cardText}
+use Rattle.type_lines.specs.Lines.{datatypeText, typeText, variableLine, boundLine, boundLines, counts, boundOnes, cardText}
 use Rattle.card.specs.Check.{cardOf}
 use Rattle.card.specs.declared.refusals.Card.{Card}
 use Rattle.print_types.proofs.PartLaws.{first-part, second-part, last-part}

@@ -7,10 +7,7 @@ ghost use Rattle.definitions.specs.Calls.{check};
 ghost use Rattle.definitions.specs.Printer.{termsPart, schemaPart, scriptPart, printed};
 ghost use Rattle.card.specs.Check.{cardOf};
 ghost use Rattle.output.specs.Written.{Written};
-ghost use Rattle.print_types.specs.Lines.{outputRoom};
-use super::lines::put_card;
-use super::splitting::schema_end;
-use super::splitting::terms_end;
+ghost use Rattle.type_lines.specs.Lines.{outputRoom};
 use card::refusals::Card;
 use card::refusals::check_card;
 use definitions::BAD_SCRIPT;
@@ -18,6 +15,9 @@ use definitions::PRINTER_LIMIT;
 use definitions::TERM_LIMIT;
 use definitions::TERM_TABLE_WIDTH;
 use definitions::VARIABLE_LIMIT;
+use joined_input::schema_end;
+use joined_input::terms_end;
+use type_lines::put_card;
 
 // One byte more than an input may have, so that one that is too long shows.
 pub const INPUT_WIDTH: usize = PRINTER_LIMIT + 1;

@@ -5,7 +5,7 @@ use mathlib.Core.Path.{_≡_, refl, sym, ap, _∙_}
 use mathlib.Core.List.{List, map}
 use mathlib.Core.Bool.{Bool, true, false, _&&_}
 use mathlib.Core.Option.{some}
-use borrow.Author.Tests.{lt-ltb, le-ltb, ltb-true}
+use borrow.Author.Tests.{lt-ltb, ltb-true}
 use lib.Dec.{eqb, eqb→eq, ltb, leb, leb→le}
 use lib.ListN.{length, take, drop, length-take}
 use Rattle.definitions.specs.Limits.{termLimit, quadLimit, graphLimit, termTableWidth}
@@ -31,7 +31,7 @@ use Rattle.laws.proofs.Saved.{quads-in-count, quads-few}
 use Rattle.laws.proofs.SoundIn.{SoundIn, sound-in, is-accepted, holding, valid-held}
 use Rattle.keys.specs.Keys.{graphWeight, quadOf, rowsFrom, Splits}
 use Rattle.triples.proofs.Graphs.{SoundStore, all-in}
-use Rattle.sorting.specs.Records.{keysIn}
+use Rattle.record_order.specs.Records.{keysIn}
 use Rattle.page_writing.specs.Page.{sortedPage, fitted}
 use Rattle.query.proofs.TermLaws.{few}
 use Rattle.page_writing.proofs.StoreLaws.{keys-in, page-is, stretch, rows-part}
@@ -97,12 +97,6 @@ ranks-unread ranks other terms schema script table store saved g buffer = refl
 -- a number that passed is below the count
 pub below-count : (g count : ℕ) (b : Bool) {r : Bool} → r ≡ (ltb g count && b) → r ≡ true → g < count
 below-count g count b e h = ltb-true g count (isTrue (ltb g count) (andLeft (ltb g count) b (trueIs (ltb g count && b) (sym e ∙ h))))
-
-pub past-count : (g count : ℕ) (b : Bool) → count ≤ g → false ≡ (ltb g count && b)
-past-count g count b h = sym (ap (λ t. t && b) (le-ltb g count h))
-
-pub within-count : (g count : ℕ) (b : Bool) {r : Bool} → g < count → r ≡ b → r ≡ (ltb g count && b)
-within-count g count b h e = e ∙ sym (ap (λ t. t && b) (lt-ltb g count h))
 
 -- ── what soundness says ─────────────────────────────────────────────────────────────────────
 

@@ -1,41 +1,23 @@
 // The publish call: refusals 1, 10, 22 and 23 in this order, then the page of a graph.
 ghost use mathlib.Core.Path.{_≡_};
-ghost use mathlib.Core.Bool.{_&&_};
 ghost use mathlib.Core.List.{List};
-ghost use Prim.Native.Nat.{ℕ, _≤_};
-ghost use lib.Dec.{ltb};
-ghost use lib.ListN.{take};
-ghost use Rattle.definitions.specs.Limits.{termLimit, graphLimit};
-ghost use Rattle.definitions.specs.Lists.{isIn};
+ghost use Prim.Native.Nat.{ℕ};
 ghost use Rattle.definitions.specs.Calls.{publishCall};
 ghost use Rattle.lengths.specs.Lent.{lentOf};
 use definitions::NOT_FETCHED;
 use definitions::PublishAnswer;
 use definitions::QUAD_LIMIT;
 use definitions::SavedRun;
-use definitions::SavedStore;
 use definitions::TERM_LIMIT;
 use definitions::WRONG_LENGTH;
 use entry::sound;
+use graph_tests::is_listed;
 use keys::GRAPH_REACH;
 use keys::GRAPH_WEIGHT;
 use keys::lower;
 use keys::upper;
 use lengths::both_fit;
 use page_writing::publish_keys;
-use store::graphs::is_fetched;
-
-// Whether a number is that of a term in use and in the fetched list.
-fn is_listed(store: SavedStore, count: usize, graph: u64) -> bool
-    requires { ⌜ store .graphs ≤ graphLimit ⌝ }
-    requires { ⌜ count ≤ termLimit ⌝ }
-    ensures { λ r. ⌜ r ≡ (ltb graph count && isIn graph (take (store .graphs) (store .fetched))) ⌝ }
-{
-    if (count as u64) <= graph {
-        return false;
-    }
-    is_fetched(store, graph as u16)
-}
 
 // The publish call: the page's length, and the page at the front of the buffer, of which the rest is untouched; a refusal leaves all of it.
 // Ruled out: a graph published that is not fetched; the quads of another graph published with it.

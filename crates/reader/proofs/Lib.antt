@@ -1,4 +1,3 @@
--- In this order: the bytes of patterns and language ranges, the pairs of a block, and last the records that hold them.
-pub mod FieldLaws
+-- In this order: the pairs of a block, then the records that hold them.
 pub mod PairLaws
 pub mod ReadLaws

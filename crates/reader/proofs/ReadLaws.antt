@@ -4,14 +4,13 @@ use mathlib.Core.Bool.{Bool, true, false}
 use mathlib.Core.List.{List}
 use mathlib.Core.Option.{Option}
 use mathlib.Core.Path.{_≡_, sym, _∙_}
-use lib.Dec.{eqb}
 use lib.ListN.{length}
-use Rattle.definitions.specs.Bytes.{Got, onward, byte, past, body}
-use Rattle.definitions.specs.Limits.{blockWidth, pairLimit, depthLimit}
+use Rattle.definitions.specs.Bytes.{Got, byte, past, body}
+use Rattle.definitions.specs.Limits.{blockWidth, pairLimit}
 use Rattle.definitions.specs.Tree.{Expr, Cond, Query, Binder, Script}
-use Rattle.definitions.specs.Reading.{twoOf, withBody, withBinders, bindersAt, isEach, readScript, parsed}
+use Rattle.definitions.specs.Reading.{twoOf, withBody, withBinders, bindersAt, isEach}
 use Rattle.laws.proofs.Reading as R
-use Rattle.laws.proofs.ReadAnswers.{none-ends, one-ends, two-ends, two-fails, next-got, next-lost, is-none, is-some, provided-is}
+use Rattle.laws.proofs.ReadAnswers.{none-ends, one-ends, two-ends, two-fails, is-none, is-some}
 use Rattle.laws.specs.ReadAnswers.{isSome, nextOf}
 use Rattle.definitions.specs.declared.Read.{Read}
 use Rattle.definitions.specs.declared.Read.the-variants.{Next, Malformed}
@@ -57,14 +56,3 @@ module _ {g : Got Script} (s : List ℕ) (at : ℕ) (query : ℕ → Got Query) 
 
         pub block-ends : {k : ℕ} {r : Read} → o ≡ Next k → r ≡ nextOf (rest k) → r ≡ nextOf g
         block-ends n e₂ = two-ends (Script.block at (isEach s at) (read-as .0)) query rest (past at blockWidth) (read-as .1) e₁ n e₂
-
--- ── the whole script ────────────────────────────────────────────────────────────────────────
-
-module _ (terms : ℕ) (s : List ℕ) where
-  pub whole-fails : nextOf (readScript s terms depthLimit 0) ≡ Malformed → false ≡ isSome (parsed terms s)
-  unfolding parsed onward
-  whole-fails e = rw (next-lost (readScript s terms depthLimit 0) e)
-
-  pub whole-ends : {n : ℕ} → nextOf (readScript s terms depthLimit 0) ≡ Next n → eqb n (length s) ≡ isSome (parsed terms s)
-  unfolding parsed onward
-  whole-ends {n} e = let h = next-got (readScript s terms depthLimit 0) e in rw (h .1) (sym (provided-is (eqb n (length s)) (h .0)))

@@ -1,10 +1,7 @@
 // Reading the script in prefix order: each function takes the offset of a record and how many levels of records may
 // still be used, and gives the offset after the record and its children.
 use crate::pairs::pairs_ok;
-use crate::patterns::pattern_ok;
-use crate::patterns::range_ok;
 use definitions::COUNT_OFFSET;
-use definitions::DEPTH_LIMIT;
 use definitions::LANG_MATCHES_TEXT_OFFSET;
 use definitions::PAIRS_OFFSET;
 use definitions::QUERY_OFFSET;
@@ -12,10 +9,12 @@ use definitions::REGEX_TEXT_OFFSET;
 use definitions::Read;
 use definitions::VARIABLE_LIMIT;
 use fields::numbers::word_at;
+use patterns::pattern_ok;
+use patterns::range_ok;
 ghost use mathlib.Core.Path.{_≡_};
 ghost use Prim.Native.Nat.{_+_, _<_};
-ghost use Rattle.definitions.specs.Reading.{readName, readExpr, readCond, readQuery, readScript, parsed};
-ghost use Rattle.laws.specs.ReadAnswers.{isSome, nextOf};
+ghost use Rattle.definitions.specs.Reading.{readName, readExpr, readCond, readQuery, readScript};
+ghost use Rattle.laws.specs.ReadAnswers.{nextOf};
 
 // A name: 31 a variable, 32 a constant. Ruled out: a variable past the last taken; a term number past the table taken.
 pub fn read_name(script: &[u8], terms: usize, at: usize, left: u8) -> Read
@@ -213,15 +212,4 @@ pub fn read_script(script: &[u8], terms: usize, at: usize, left: u8) -> Read
         }
         _ => Read::Malformed,
     }
-}
-
-// Whether the whole script is well formed: its records not too deep, no bytes left over.
-// Ruled out: records one level too deep taken; a byte after the root's record taken.
-pub fn script_ok(script: &[u8], terms: usize) -> bool
-    ensures { λ r. ⌜ r ≡ isSome (parsed terms (now (script .entry))) ⌝ }
-{
-    let Read::Next(end) = read_script(script, terms, 0, DEPTH_LIMIT) else {
-        return false;
-    };
-    end == script.len()
 }

@@ -9,7 +9,7 @@ use definitions::TERM_LIMIT;
 use definitions::TERM_TWICE;
 use definitions::TEXT_WIDTH;
 use fields::Counted;
-use fields::reading::read_term;
+use record_reading::read_term;
 use table::Added;
 use table::slots::find_term;
 use table::slots::put_term;

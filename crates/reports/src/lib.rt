@@ -1,18 +1,14 @@
-// What a call hands back at the C interface: the number of its answer; the report of a run, of a page, of a total, of a suggestion, of a schema out of a page or
-// of a published page; the record of a number; and the saved run's bytes.
+// Parts of what a call hands back at the C interface: the number of its answer; the report of a page, of a total, of a schema out of a page or of a published
+// page; and the saved run's bytes.
 ghost use mathlib.Core.Path.{_≡_};
-ghost use mathlib.Core.List.{[], _∷_};
-ghost use Rattle.definitions.specs.Bytes.{littleBytes};
-ghost use Rattle.definitions.specs.Numbers.{loadNumber, runNumber, pageNumber, totalNumber, resultNumber, termRead, suggestNumber, stateNumber, wantedGraph, schemaNumber, publishNumber};
-ghost use Rattle.definitions.specs.Limits.{numberWidth, numberRecordWidth, runReportWidth, pageReportWidth, totalReportWidth, suggestReportWidth, schemaReportWidth, publishReportWidth, savedWidth};
-ghost use Rattle.definitions.specs.Exports.{runReport, pageReport, totalReport, recordAfter, suggestReport, schemaReport, publishReport, savedAfter};
+ghost use Rattle.definitions.specs.Numbers.{loadNumber, runNumber, pageNumber, totalNumber, resultNumber, termRead, suggestNumber, schemaNumber, publishNumber};
+ghost use Rattle.definitions.specs.Limits.{pageReportWidth, totalReportWidth, schemaReportWidth, publishReportWidth, savedWidth};
+ghost use Rattle.definitions.specs.Exports.{pageReport, totalReport, schemaReport, publishReport, savedAfter};
 use definitions::LoadAnswer;
-use definitions::NUMBER_RECORD_WIDTH;
 use definitions::NumberAnswer;
 use definitions::PageAnswer;
 use definitions::PublishAnswer;
 use definitions::RunAnswer;
-use definitions::RunState;
 use definitions::SavedRun;
 use definitions::SchemaAnswer;
 use definitions::SuggestAnswer;
@@ -95,43 +91,6 @@ pub fn schema_number(answer: SchemaAnswer) -> u32
     }
 }
 
-fn state_number(state: RunState) -> u8
-    ensures { λ r. ⌜ r ≡ stateNumber state ⌝ }
-{
-    match state {
-        RunState::Ended => 0,
-        RunState::Wanted(_) => 1,
-        RunState::Waiting => 2,
-        RunState::Spent => 3,
-    }
-}
-
-// The wanted graph's term number, or zero.
-fn wanted_graph(state: RunState) -> u16
-    ensures { λ r. ⌜ r ≡ wantedGraph state ⌝ }
-{
-    match state {
-        RunState::Wanted(graph) => graph,
-        RunState::Ended => 0,
-        RunState::Waiting => 0,
-        RunState::Spent => 0,
-    }
-}
-
-// Steps taken, state, zero, the wanted graph; a refused call leaves the report as it was.
-pub fn write_run_report(answer: RunAnswer, out: &mut [u8])
-    requires { do ⌜ (← ⟦out.len()⟧) ≡ runReportWidth ⌝ }
-    ensures { λ r. ⌜ now (out .exit) ≡ runReport (now (out .entry)) answer ⌝ }
-{
-    let RunAnswer::Ran(steps, state) = answer else {
-        return;
-    };
-    writing::write_number(steps as u64, &mut out[0..4]);
-    out[4] = state_number(state);
-    out[5] = 0;
-    writing::write_word(wanted_graph(state), &mut out[6..8]);
-}
-
 // The skipped count; a refused call leaves the report as it was.
 pub fn write_page_report(answer: PageAnswer, out: &mut [u8])
     requires { do ⌜ (← ⟦out.len()⟧) ≡ pageReportWidth ⌝ }
@@ -163,52 +122,6 @@ pub fn write_publish_report(answer: PublishAnswer, out: &mut [u8])
         return;
     };
     writing::write_number(length as u64, out);
-}
-
-// A number's record.
-fn write_record(kind: u8, n: u64, out: &mut [u8])
-    requires { do ⌜ (← ⟦out.len()⟧) ≡ numberRecordWidth ⌝ }
-    ensures { λ r. ⌜ now (out .exit) ≡ kind ∷ littleBytes numberWidth n ⌝ }
-{
-    out[0] = kind;
-    writing::write_number(n, &mut out[1..NUMBER_RECORD_WIDTH]);
-}
-
-// The record of the term that a text reads as; a refused call leaves the record as it was.
-pub fn write_term(answer: NumberAnswer, out: &mut [u8])
-    requires { do ⌜ (← ⟦out.len()⟧) ≡ numberRecordWidth ⌝ }
-    ensures { λ r. ⌜ now (out .exit) ≡ recordAfter (now (out .entry)) (termRead answer) ⌝ }
-{
-    match answer {
-        NumberAnswer::Integer(n) => write_record(0x13, n, out),
-        NumberAnswer::Decimal(n) => write_record(0x14, n, out),
-        NumberAnswer::Refused(_) => {}
-    }
-}
-
-// Three bytes and a zero.
-fn write_three(first: u8, second: u8, third: u8, out: &mut [u8])
-    requires { do ⌜ (← ⟦out.len()⟧) ≡ suggestReportWidth ⌝ }
-    ensures { λ r. ⌜ now (out .exit) ≡ first ∷ second ∷ third ∷ 0 ∷ [] ⌝ }
-{
-    out[0] = first;
-    out[1] = second;
-    out[2] = third;
-    out[3] = 0;
-}
-
-// 0 accepted as it is, 1 a type is named, 2 no single one would do; the variable and the code; zero. A refused call leaves the
-// report as it was.
-pub fn write_suggest_report(answer: SuggestAnswer, out: &mut [u8])
-    requires { do ⌜ (← ⟦out.len()⟧) ≡ suggestReportWidth ⌝ }
-    ensures { λ r. ⌜ now (out .exit) ≡ suggestReport (now (out .entry)) answer ⌝ }
-{
-    match answer {
-        SuggestAnswer::Accepted => write_three(0, 0, 0, out),
-        SuggestAnswer::Named(variable, code) => write_three(1, variable, code, out),
-        SuggestAnswer::NoSingle => write_three(2, 0, 0, out),
-        SuggestAnswer::Refused(_) => {}
-    }
 }
 
 // The number of entries, then the number of subjects left out; a refused call leaves the report as it was.

@@ -1,27 +1,20 @@
 // The run call: refusals 1, 21, 10 and 11 in this order, then the machine's steps.
 ghost use mathlib.Core.Path.{_≡_};
-ghost use mathlib.Core.Bool.{_&&_};
-ghost use lib.Dec.{leb};
-ghost use Rattle.definitions.specs.Limits.{budgetLimit};
-ghost use Rattle.definitions.specs.Bytes.{signed};
-ghost use Rattle.definitions.specs.Terms.{isDateTime};
 ghost use Rattle.definitions.specs.Outcome.{ok};
 ghost use Rattle.definitions.specs.Calls.{runCall};
 ghost use Rattle.lengths.specs.Lent.{lentOf};
 ghost use Rattle.running.specs.Refused.{refusedRan};
 use definitions::BAD_RUN;
-use definitions::BUDGET_LIMIT;
 use definitions::QUAD_LIMIT;
 use definitions::Ran;
 use definitions::RunAnswer;
-use definitions::SECONDS_AFTER;
-use definitions::SECONDS_BEFORE;
 use definitions::SavedRun;
 use definitions::TERM_LIMIT;
 use entry::enter;
-use fields::numbers::within;
 use machine::run::run_steps;
 use query::Context;
+use run_limits::bits;
+use run_limits::in_limits;
 use store::canonical::canonical_control;
 use store::canonical::canonical_store;
 
@@ -32,25 +25,6 @@ fn refused(saved: SavedRun, number: u8) -> Ran
         answer: RunAnswer::Refused(number),
         saved,
     }
-}
-
-// A signed number in two's complement.
-fn bits(n: i64) -> u64
-    ensures { λ r. ⌜ signed r ≡ n ⌝ }
-{
-    if 0 <= n {
-        return n as u64;
-    }
-    let below = -1 - n;
-    18446744073709551615 - (below as u64)
-}
-
-// Whether a budget and now, in two's complement, are within their limits.
-fn in_limits(budget: u64, clock: u64) -> bool
-    ensures { λ r. ⌜ r ≡ (leb budget budgetLimit && isDateTime (signed clock)) ⌝ }
-{
-    let few = budget <= BUDGET_LIMIT;
-    few & within(clock, SECONDS_BEFORE, SECONDS_AFTER)
 }
 
 // The run call. Ruled out: waiting or spent said without a step; a total of steps that were not taken.

@@ -15,6 +15,7 @@ use definitions::PAIR_LIMIT;
 use definitions::VARIABLE_LIMIT;
 use query::Context;
 use query::eval::eval_query;
+use seeking::NO_MARK;
 use seeking::by_parts::agree;
 use seeking::by_parts::seek_parts;
 
@@ -132,7 +133,7 @@ fn hope(
             &with,
             quads,
             v,
-            VARIABLE_LIMIT,
+            NO_MARK,
             number,
         ) {
             return true;

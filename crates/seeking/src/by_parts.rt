@@ -1,8 +1,8 @@
-// The seek part by part: those that name the variable sought, until all of them agree on a number.
+// The seek part by part: the patterns and unions that name the variable sought, until all of them agree on a number; filters are asked with a number.
 ghost use mathlib.Core.Path.{_≡_};
 ghost use mathlib.Core.Bool.{false};
 ghost use mathlib.Core.Option.{some};
-ghost use Prim.Native.Nat.{ℕ, _≤_, _<_};
+ghost use Prim.Native.Nat.{ℕ, _+_, _≤_, _<_};
 ghost use lib.ListN.{length};
 ghost use Rattle.definitions.specs.Limits.{depthLimit, variableLimit};
 ghost use Rattle.definitions.specs.Tree.{Query};
@@ -13,8 +13,8 @@ ghost use Rattle.query.specs.StoreLent.{Stored, rowsOf};
 ghost use Rattle.query.specs.Eval.{RanksLent};
 ghost use Rattle.seeking.specs.Seeking.{SeekOf, Denies};
 ghost use Rattle.seeking.specs.Parts.{partsWidth, PartsOf};
-use crate::listing::may_name;
-use crate::listing::names_but;
+use crate::listing::is_asked;
+use crate::listing::is_sought;
 use crate::seek::seek;
 use definitions::DEPTH_LIMIT;
 use keys::either;
@@ -68,7 +68,7 @@ fn seek_part(
     s.least
 }
 
-// The least number from lo on with which each part may hold that names the variable; of all parts, where it is told so. The count where there is none.
+// The least number from lo on with which each part may hold in which the variable is sought; of all parts, where it is told so. The count where there is none.
 // Ruled out: a number of the first part alone that another one has passed; the number after the one that is found.
 pub fn seek_parts(
     script: &[u8],
@@ -100,7 +100,7 @@ pub fn seek_parts(
     while agreed < n {
         let place = 2 * i;
         let second = place + 1;
-        let asked = all | may_name(parts[second], v);
+        let asked = all | is_sought(parts[second], v);
         let number = seek_part(
             script,
             ends,
@@ -126,7 +126,7 @@ pub fn seek_parts(
     found
 }
 
-// Whether the parts that name a variable, and are no patterns, may hold with the number that it has. Those that name the variable after it are left to the seek
+// Whether the parts that name a variable, and are no patterns, may hold with the number that it has. Unions that name the variable after it are left to the seek
 // of that one.
 // Ruled out: a number refused with which a filter holds; a filter asked with another number than the one that is known.
 pub fn agree(
@@ -148,7 +148,7 @@ pub fn agree(
     requires { ⌜ EndsLent (now script) (now ends) ⌝ }
     requires { ⌜ Stored (now quads) context ⌝ }
     requires { ⌜ v < variableLimit ⌝ }
-    requires { ⌜ after ≤ variableLimit ⌝ }
+    requires { ⌜ after ≤ variableLimit + 1 ⌝ }
     requires { ⌜ number < context .count ⌝ }
     ensures { λ r. ⌜ (r ≡ false → (q : Query) → PartsOf (now (script .entry)) (context .loaded) (now (parts .entry)) q →
         Denies (now (ranks .entry)) (now (table .entry)) (now (known .entry)) context (rowsOf (now (quads .entry)) context) v number q) ⌝ }
@@ -159,7 +159,7 @@ pub fn agree(
         let place = 2 * i;
         let second = place + 1;
         let at = parts[place];
-        if names_but(parts[second], v, after) & (script[at] != 0x61) {
+        if is_asked(parts[second], v, after) & (script[at] != 0x61) {
             let s = seek(
                 script,
                 ends,

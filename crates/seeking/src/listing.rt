@@ -1,7 +1,7 @@
 // A query taken apart below `both`: each part holds wherever the query holds.
 ghost use mathlib.Core.Path.{_≡_};
 ghost use mathlib.Core.Bool.{true};
-ghost use Prim.Native.Nat.{ℕ, _≤_, _<_};
+ghost use Prim.Native.Nat.{ℕ, _+_, _≤_, _<_};
 ghost use mathlib.Core.Option.{some};
 ghost use lib.ListN.{length, take};
 ghost use Rattle.definitions.specs.Limits.{depthLimit, variableLimit};
@@ -10,6 +10,7 @@ ghost use Rattle.definitions.specs.Reading.{readQuery};
 ghost use Rattle.laws.specs.Ends.{EndsLent};
 ghost use Rattle.laws.specs.Walks.{Loads};
 ghost use Rattle.seeking.specs.Parts.{partLimit, partsWidth, PartsOf};
+use crate::FILTER_MARK;
 use crate::PART_LIMIT;
 use crate::PARTS_WIDTH;
 use crate::Parts;
@@ -33,19 +34,38 @@ fn variables_in(script: &[u8], from: usize, to: usize) -> usize
     named
 }
 
-// Whether a part may name a variable, by the number beside it.
-pub fn may_name(named: usize, v: usize) -> bool
-    requires { ⌜ v ≤ variableLimit ⌝ }
+// The number of a part: its variables, and whether it is a filter.
+fn named_in(script: &[u8], from: usize, to: usize) -> usize
+    requires { ⌜ from < to ⌝ }
+    requires { ⌜ to ≤ length (now script) ⌝ }
 {
-    (named >> v) % 2 == 1
+    let named = variables_in(script, from, to);
+    if script[from] == 0x64 {
+        return named | (1usize << FILTER_MARK);
+    }
+    named
 }
 
-// Whether it may name a variable, and does not name another one.
-pub fn names_but(named: usize, v: usize, other: usize) -> bool
-    requires { ⌜ v ≤ variableLimit ⌝ }
-    requires { ⌜ other ≤ variableLimit ⌝ }
+// Whether a bit of a part's number is there.
+fn has_mark(named: usize, mark: usize) -> bool
+    requires { ⌜ mark ≤ variableLimit + 1 ⌝ }
 {
-    may_name(named, v) & !may_name(named, other)
+    (named >> mark) % 2 == 1
+}
+
+// Whether a variable is sought in a part: it may name it, and is no filter.
+pub fn is_sought(named: usize, v: usize) -> bool
+    requires { ⌜ v < variableLimit ⌝ }
+{
+    has_mark(named, v) & !has_mark(named, FILTER_MARK)
+}
+
+// Whether a part is asked with a number of a variable: it may name it, and is a filter or does not name the variable after it.
+pub fn is_asked(named: usize, v: usize, after: usize) -> bool
+    requires { ⌜ v < variableLimit ⌝ }
+    requires { ⌜ after ≤ variableLimit + 1 ⌝ }
+{
+    has_mark(named, v) & (has_mark(named, FILTER_MARK) | !has_mark(named, after))
 }
 
 // Whether a record is taken apart, where so many are listed or pending: it is `both`, and there is room for its halves.
@@ -80,7 +100,7 @@ pub fn parts_of(script: &[u8], ends: &[u16], loaded: usize, at: usize) -> Parts
             let place = 2 * count;
             let second = place + 1;
             list[place] = here;
-            list[second] = variables_in(script, here, next);
+            list[second] = named_in(script, here, next);
             count += 1;
             pending -= 1;
             here = next;

@@ -28,8 +28,9 @@ use Rattle.table.specs.Table.{HoldsTerms}
 use Rattle.laws.proofs.ReadAnswers.{provided-is}
 use Rattle.table.proofs.TableLaws.{terms, terms-length}
 use Rattle.keys.specs.Keys.{rowsFrom}
-use Rattle.soundness.specs.Store.{beginsIn, termsSound, uriNumber, quadNumbers, quadsTest, storeTest}
-use Rattle.soundness.proofs.TermTests.{uri-number, quad-numbers, every-same}
+use Rattle.soundness.specs.Store.{beginsIn, termsSound, quadsTest, storeTest}
+use Rattle.sound_quads.specs.TermNumbers.{uriNumber, quadNumbers}
+use Rattle.sound_quads.proofs.TermTests.{uri-number, quad-numbers, every-same}
 
 -- ── quads and graphs, one test after another ────────────────────────────────────────────────
 

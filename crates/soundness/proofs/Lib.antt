@@ -1,6 +1,3 @@
 pub mod BeginLaws
 pub mod LookLaws
-pub mod TermTests
-pub mod QuadLaws
-pub mod StoreLaws
 pub mod Clauses

@@ -2,12 +2,12 @@
 use Prim.Native.Nat.{ℕ, _-_}
 use mathlib.Core.List.{List}
 use mathlib.Core.Path.{_≡_}
-use mathlib.Core.Bool.{Bool, true, false, _&&_, _||_}
+use mathlib.Core.Bool.{Bool, true, false, _&&_}
 use mathlib.Core.Option.{Option, none, some}
-use lib.Dec.{eqb, leb, ltb}
-use lib.ListN.{getD, take}
+use lib.Dec.{eqb, leb}
+use lib.ListN.{take}
 use Rattle.definitions.specs.Limits.{graphLimit}
-use Rattle.definitions.specs.Lists.{every, distinct, isIn}
+use Rattle.definitions.specs.Lists.{every, distinct}
 use Rattle.definitions.specs.Terms.{Term, sameTerm}
 use Rattle.definitions.specs.Evaluate.{Quad}
 use Rattle.definitions.specs.Machine.{inOrder}
@@ -17,7 +17,7 @@ use Rattle.definitions.specs.declared.SavedStore.{SavedStore}
 use Rattle.laws.specs.ReadAnswers.{isSome}
 use Rattle.keys.specs.Keys.{keysFrom, rowsFrom, rising}
 use Rattle.fields.specs.Answers.{distinctIn}
-use Rattle.codes.specs.TypeCodes.{codeLeq}
+use Rattle.sound_quads.specs.TermNumbers.{uriNumber, quadNumbers}
 
 -- ── terms that tables hold ──────────────────────────────────────────────────────────────────
 
@@ -29,24 +29,6 @@ beginsIn (some ks) (some ts) = beginsWith ks ts
 -- different, and beginning as loading numbers them
 unfoldable pub termsSound : (loaded terms : Option (List Term)) → Bool
 termsSound ks ts = beginsIn ks ts && distinctIn sameTerm ts
-
--- ── terms by the codes of their least types ─────────────────────────────────────────────────
-
--- the number of a URI: 1 is anyURI, 9 to 13 are ranges
-unfoldable pub uriNumber : (leasts : List ℕ) → (count : ℕ) → ℕ → Bool
-uriNumber leasts count i = ltb i count && (eqb (getD leasts i 0) 1 || leb 9 (getD leasts i 0))
-
--- a property of the schema, and an object of its datatype
-unfoldable pub pairNumbers : (leasts : List ℕ) → (count property object : ℕ) → Bool
-pairNumbers leasts count p o =
-    ltb p count && (ltb o count && (leb 9 (getD leasts p 0) && codeLeq (getD leasts o 0) (getD leasts p 0 - 8)))
-
-unfoldable pub quadNumbers : (leasts : List ℕ) → (count : ℕ) → (fetched : List ℕ) → Quad → Bool
-quadNumbers leasts count fetched q =
-    isIn (q .graph) fetched
-    && (uriNumber leasts count (q .graph)
-    && (uriNumber leasts count (q .subject)
-    && pairNumbers leasts count (q .property) (q .object)))
 
 -- ── the tests together, in the order of the code ────────────────────────────────────────────
 

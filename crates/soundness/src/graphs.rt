@@ -1,11 +1,12 @@
-// Term numbers, by the codes of their terms' least types; and the list of fetched graphs.
+// The list of fetched graphs.
 ghost use mathlib.Core.Path.{_≡_};
 ghost use mathlib.Core.Bool.{_&&_};
 ghost use Prim.Native.Nat.{_≤_};
 ghost use lib.Dec.{eqb};
 ghost use lib.ListN.{length};
 ghost use Rattle.definitions.specs.Lists.{every, distinct};
-ghost use Rattle.soundness.specs.Store.{uriNumber};
+ghost use Rattle.sound_quads.specs.TermNumbers.{uriNumber};
+use sound_quads::is_uri;
 use table::hashes::is_in;
 
 // Whether the numbers of a list are all different.
@@ -21,19 +22,6 @@ fn numbers_distinct(list: &[u16]) -> bool
         }
     }
     true
-}
-
-// Whether a number is that of a URI. Ruled out: a number past the terms; a schema URI refused.
-pub fn is_uri(leasts: &[u8], count: usize, i: u16) -> bool
-    requires { ⌜ count ≤ length (now leasts) ⌝ }
-    ensures { λ r. ⌜ r ≡ uriNumber (now (leasts .entry)) count i ⌝ }
-{
-    let at = i as usize;
-    if count <= at {
-        return false;
-    }
-    let code = leasts[at];
-    (code == 1) | (9 <= code)
 }
 
 // Whether the numbers of a list are those of URIs.

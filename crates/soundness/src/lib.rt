@@ -1,5 +1,4 @@
 // The store's half of soundness (refusal 10): whether tables and saved store are sound.
 pub mod graphs; // graphs.rt: the fetched graphs
-pub mod quads; // quads.rt: the quad table
 pub mod tables; // tables.rt: the store's half
 pub mod terms; // terms.rt: the term table

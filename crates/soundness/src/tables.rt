@@ -7,12 +7,12 @@ ghost use Rattle.definitions.specs.Limits.{quadLimit, quadTableWidth};
 ghost use Rattle.definitions.specs.Saved.{quadsFrom};
 ghost use Rattle.soundness.specs.Store.{quadsTest, storeTest, InOrder};
 use crate::graphs::graphs_sound;
-use crate::quads::quads_held;
-use crate::quads::quads_in_order;
-use crate::quads::quads_sound;
 use definitions::GRAPH_LIMIT;
 use definitions::SavedStore;
-use store::quads::read_keys;
+use quad_table::read_keys;
+use sound_quads::quads_held;
+use sound_quads::quads_in_order;
+use sound_quads::quads_sound;
 
 // Whether quads and fetched graphs are sound; their keys are left in `keys`.
 fn quads_and_graphs(

@@ -2,5 +2,4 @@ pub mod ControlStates
 pub mod BindLaws
 pub mod FillLaws
 pub mod CanonicalLaws
-pub mod QuadLaws
 pub mod GraphLaws

@@ -2,4 +2,3 @@ pub mod Bare
 pub mod Stack
 pub mod Graphs
 pub mod Canonical
-pub mod Quads

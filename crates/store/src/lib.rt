@@ -1,5 +1,4 @@
-// The saved run and the quad table: operations on stack, bindings and quads, and the form without what means nothing.
-pub mod quads; // quads.rt: the quad table
+// The saved run: operations on stack, bindings and fetched graphs, and the form without what means nothing.
 pub mod stack; // stack.rt: stack and bindings
 pub mod graphs; // graphs.rt: the fetched list
 pub mod bare; // bare.rt: what stands where nothing does

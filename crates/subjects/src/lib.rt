@@ -26,7 +26,7 @@ use definitions::Read;
 use definitions::TEXT_WIDTH;
 use fields::numbers::number_index;
 use fields::numbers::same_bytes;
-use fields::reading::read_triple;
+use record_reading::read_triple;
 use table::hashes::hash_of;
 use table::hashes::place_of;
 use table::slots::slot_of;

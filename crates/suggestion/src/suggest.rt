@@ -13,8 +13,8 @@ use definitions::NO_TYPING;
 use definitions::SuggestAnswer;
 use lowest_type::lowest;
 use readoff::read_off;
+use typer::tables_of;
 use typing::pairs::written_types;
-use typing::typer::tables_of;
 
 // `leasts` has the code of each term's least type.
 // Ruled out: a type named for a script that is accepted as it is; a script of no typing told that no single type would do.

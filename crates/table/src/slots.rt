@@ -8,7 +8,7 @@ use definitions::TERM_LIMIT;
 use fields::Counted;
 use fields::numbers::is_zero;
 use fields::numbers::number_index;
-use fields::reading::read_term;
+use record_reading::read_term;
 ghost use mathlib.Core.Path.{_≡_};
 ghost use mathlib.Core.List.{_∷_};
 ghost use Prim.Native.Nat.{_+_, _<_};

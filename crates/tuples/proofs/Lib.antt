@@ -1,4 +1,3 @@
--- In this order: a line by what trying gives, the lines of tuples, and last those on a saved run.
+-- In this order: a line by what trying gives, then the lines of tuples.
 pub mod LineLaws
 pub mod TupleLaws
-pub mod EnteringLaws

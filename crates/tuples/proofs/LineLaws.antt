@@ -1,29 +1,15 @@
--- A line by what trying a tuple gives.
+-- A line by what trying a tuple gives is that of the definition.
 use Prim.Native.Nat.{ℕ}
 use mathlib.Core.Path.{_≡_, refl, sym, ap, ap₂, _∙_}
-use mathlib.Core.List.{List, [], _∷_, _++_}
-use mathlib.Core.Bool.{Bool, true, false, not, cond}
-use borrow.Author.Tests.{not-true, not-false}
+use mathlib.Core.List.{List, _++_}
+use mathlib.Core.Bool.{Bool, true, false, cond}
 use Rattle.definitions.specs.Ascii.{ascii}
 use Rattle.definitions.specs.Outcome.{Outcome, ok}
 use Rattle.definitions.specs.Values.{naturalText}
 use Rattle.definitions.specs.Printer.{line}
 use Rattle.search.specs.declared.Tried.{Tried}
 use Rattle.tuples.specs.Asking.{outcomeText}
-use Rattle.tuples.specs.Lines.{truthText, triedLine}
-
-pub truth-text : (b c : Bool) → b ≡ c → truthText c ≡ truthText b
-truth-text b c e = ap truthText (sym e)
-
-pub bad-line : (r : Tried) → not (r .fits) ≡ true → line (ascii "bad") ≡ triedLine r
-unfolding triedLine
-bad-line r e = sym (ap (λ (b : Bool). cond b (line (truthText (r .holds) ++ naturalText (r .records))) (line (ascii "bad"))) (not-true (r .fits) e))
-
-pub good-line : (r : Tried) → not (r .fits) ≡ false → (truthText (r .holds) ++ naturalText (r .records)) ++ (0x0A ∷ []) ≡ triedLine r
-unfolding triedLine line
-good-line r e = sym (ap (λ (b : Bool). cond b (line (truthText (r .holds) ++ naturalText (r .records))) (line (ascii "bad"))) (not-false (r .fits) e))
-
--- ── by the definition ───────────────────────────────────────────────────────────────────────
+use Rattle.tuple_lines.specs.TriedLine.{truthText, triedLine}
 
 outcome-text : (b : Bool) → truthText b ≡ outcomeText (ok b)
 outcome-text true = refl

@@ -3,13 +3,13 @@ use Prim.Native.Nat.{ℕ, zero, suc, _+_, _*_, _/_}
 use native.Mathlib.Omega.{arith}
 use native.Mathlib.Numerals.{add-one}
 use mathlib.Core.Path.{_≡_, refl, sym, ap, subst, _∙_}
-use mathlib.Core.List.{List, [], _∷_, _++_, append-assoc, append-nil}
+use mathlib.Core.List.{List, _++_, append-assoc, append-nil}
 use mathlib.Core.Bool.{Bool}
 use mathlib.Core.Option.{none}
 use lib.ListN.{length}
 use Rattle.definitions.specs.Limits.{pairLimit}
 use Rattle.definitions.specs.Ascii.{ascii}
-use Rattle.definitions.specs.Bytes.{byte, word, signed}
+use Rattle.definitions.specs.Bytes.{byte, signed}
 use Rattle.definitions.specs.Tree.{Script, success, fromNamed, block, sequence, Binder, Query}
 use Rattle.definitions.specs.Scope.{variablesOf}
 use Rattle.definitions.specs.Evaluate.{query}
@@ -28,19 +28,13 @@ use Rattle.acts.proofs.TopLaws.{no-item}
 use Rattle.answers.specs.Lends.{Lends, setting, typing, TriesNow}
 use Rattle.output.specs.Written.{Written}
 use Rattle.output.proofs.WritingLaws.{written-none, written-as, written-then}
-use Rattle.tuples.specs.Asking.{tupleWidth, tuplesFrom, tuplesIn, askedBy, askedOn, tupleLine, tupleLines, askedLines}
-use Rattle.tuples.specs.Lines.{triedLine, soundHere, TuplesWritten, linesHere}
+use Rattle.evaluator_input.specs.Input.{tupleWidth, tuplesFrom, tuplesIn}
+use Rattle.tuples.specs.Asking.{askedBy, askedOn, tupleLine, tupleLines, askedLines}
+use Rattle.tuple_lines.specs.TriedLine.{triedLine}
+use Rattle.tuples.specs.Lines.{soundHere, TuplesWritten, linesHere}
 use Rattle.tuples.proofs.LineLaws.{line-is}
 
 -- ── tuples in bytes ─────────────────────────────────────────────────────────────────────────
-
-pub four-words : (s : List ℕ) (at : ℕ) {a b c d : ℕ} → a ≡ word s at → b ≡ word s (at + 2) → c ≡ word s (at + 4) → d ≡ word s (at + 6)
-    → a ∷ b ∷ c ∷ d ∷ [] ≡ wordsFrom pairLimit s at
-unfolding wordsFrom
-four-words s at a b c d =
-    let third : at + 4 ≡ at + 2 + 2 = omega arith in
-    let fourth : at + 6 ≡ at + 2 + 2 + 2 = omega arith in
-    λ i. a i ∷ b i ∷ (c ∙ ap (word s) third) i ∷ (d ∙ ap (word s) fourth) i ∷ []
 
 -- one more
 tuples-more : (f : Tuple → List ℕ) (s : List ℕ) (k at : ℕ)

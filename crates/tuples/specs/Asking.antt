@@ -1,11 +1,9 @@
 -- Tuples for the block on top of a saved run, each with its line; or why there is none.
-use Prim.Native.Nat.{ℕ, zero, suc, _+_, _*_, _/_}
+use Prim.Native.Nat.{ℕ}
 use mathlib.Core.List.{List, [], _∷_, _++_}
 use mathlib.Core.Bool.{Bool, true, false}
 use mathlib.Core.Option.{Option, none, some}
 use lib.IntN.{ℤ}
-use lib.ListN.{length}
-use Rattle.definitions.specs.Limits.{pairLimit}
 use Rattle.definitions.specs.Ascii.{ascii}
 use Rattle.definitions.specs.Terms.{isDateTime}
 use Rattle.definitions.specs.Tree.{Script, success, fromNamed, block, sequence, Query}
@@ -20,23 +18,9 @@ use Rattle.definitions.specs.Machine.{Item}
 use Rattle.definitions.specs.Result.{Result, refused, passed, _>>=_, _>>_, require, given}
 use Rattle.definitions.specs.Calls.{Lent, Sound, settingOf, entryTests}
 use Rattle.definitions.specs.Alphabet.{isAlphabet}
-use Rattle.definitions.specs.Exports.{wordsFrom, savedFrom}
+use Rattle.definitions.specs.Exports.{savedFrom}
 use Rattle.definitions.specs.Printer.{line}
 use Rattle.search.specs.Trying.{tupleFits}
-
--- ── tuples in bytes ─────────────────────────────────────────────────────────────────────────
-
-abbrev pub tupleWidth : ℕ
-tupleWidth = 2 * pairLimit
-
--- so many tuples from an offset on
-unfoldable pub tuplesFrom : (count : ℕ) → List ℕ → ℕ → List Tuple
-tuplesFrom zero s at = []
-tuplesFrom (suc n) s at = wordsFrom pairLimit s at ∷ tuplesFrom n s (at + tupleWidth)
-
--- all that bytes have
-abbrev pub tuplesIn : List ℕ → List Tuple
-tuplesIn s = tuplesFrom (length s / tupleWidth) s 0
 
 -- ── a line for each tuple ───────────────────────────────────────────────────────────────────
 

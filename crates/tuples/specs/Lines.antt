@@ -1,32 +1,19 @@
--- The evaluator's lines by what trying a tuple gives, and the room that they take.
-use Prim.Native.Nat.{ℕ, _+_}
+-- The evaluator's lines of a state that was entered.
+use Prim.Native.Nat.{ℕ}
 use mathlib.Core.Path.{_≡_}
-use mathlib.Core.List.{List, _++_}
-use mathlib.Core.Bool.{Bool, true, false, cond}
-use Rattle.definitions.specs.Ascii.{ascii}
+use mathlib.Core.List.{List}
+use mathlib.Core.Bool.{Bool}
 use Rattle.definitions.specs.Bytes.{signed}
 use Rattle.definitions.specs.Tree.{Script, block, Binder, Query}
 use Rattle.definitions.specs.Scope.{variablesOf}
-use Rattle.definitions.specs.Values.{naturalText}
 use Rattle.definitions.specs.Calls.{Sound}
-use Rattle.definitions.specs.Printer.{line}
 use Rattle.definitions.specs.declared.SavedControl.{SavedControl}
 use Rattle.query.specs.declared.Context.{Context}
-use Rattle.search.specs.declared.Tried.{Tried}
 use Rattle.acts.specs.Steps.{Top}
 use Rattle.answers.specs.Lends.{Lends}
-use Rattle.output.specs.Written.{Written, numberRoom}
-use Rattle.tuples.specs.Asking.{tuplesFrom, tuplesIn, tupleLine, tupleLines, askedOn, askedLines}
-
--- the most bytes that a line takes
-abbrev pub lineRoom : ℕ
-lineRoom = 8 + numberRoom + 1
-
-abbrev pub truthText : Bool → List ℕ
-truthText b = cond b (ascii "true ") (ascii "false ")
-
-unfoldable pub triedLine : Tried → List ℕ
-triedLine r = cond (r .fits) (line (truthText (r .holds) ++ naturalText (r .records))) (line (ascii "bad"))
+use Rattle.output.specs.Written.{Written}
+use Rattle.evaluator_input.specs.Input.{tuplesFrom, tuplesIn}
+use Rattle.tuples.specs.Asking.{tupleLine, tupleLines, askedOn, askedLines}
 
 module _ {script ranks table quads leasts : List ℕ} {x : Context} {run : SavedControl} (w : Lends script ranks table quads leasts x run) where
   -- the state that the run is at

@@ -1,47 +1,26 @@
 // Tuples tried on the block on top, a line for each.
-pub mod entering; // entering.rt: on a saved run
-mod lines; // lines.rt: one line
-
 ghost use mathlib.Core.Path.{_≡_};
 ghost use Prim.Native.Nat.{_+_, _*_, _/_, _≤_};
 ghost use lib.ListN.{length};
-ghost use Rattle.definitions.specs.Limits.{pairLimit, scriptLimit};
+ghost use Rattle.definitions.specs.Limits.{scriptLimit};
 ghost use Rattle.definitions.specs.Bytes.{byte};
-ghost use Rattle.definitions.specs.Exports.{wordsFrom};
 ghost use Rattle.laws.specs.Ends.{EndsLent};
 ghost use Rattle.acts.specs.Steps.{Top};
 ghost use Rattle.answers.specs.Lends.{Lends};
 ghost use Rattle.output.specs.Written.{Written};
-ghost use Rattle.tuples.specs.Asking.{tupleWidth};
-ghost use Rattle.tuples.specs.Lines.{lineRoom, TuplesWritten, linesHere};
+ghost use Rattle.evaluator_input.specs.Input.{tupleWidth};
+ghost use Rattle.tuple_lines.specs.TriedLine.{lineRoom};
+ghost use Rattle.tuples.specs.Lines.{TuplesWritten, linesHere};
 use answers::try_top;
-use definitions::PAIR_LIMIT;
 use definitions::SCRIPT_LIMIT;
 use definitions::SavedControl;
 use ends::fill_ends;
-use fields::numbers::number_at;
-use lines::put_tried;
-use output::NUMBER_ROOM;
+use evaluator_input::TUPLE_WIDTH;
+use evaluator_input::tuple_at;
 use output::put_text;
 use query::Context;
 use store::stack::top;
-
-pub const TUPLE_WIDTH: usize = 2 * PAIR_LIMIT;
-
-// The most bytes that a line takes.
-pub const LINE_ROOM: usize = 8 + NUMBER_ROOM + 1;
-
-// The tuple at an offset.
-fn tuple_at(s: &[u8], at: usize) -> [u16; PAIR_LIMIT]
-    requires { ⌜ at + tupleWidth ≤ length (now s) ⌝ }
-    ensures { λ r. ⌜ r ≡ wordsFrom pairLimit (now (s .entry)) at ⌝ }
-{
-    let a = number_at(s, at);
-    let b = number_at(s, at + 2);
-    let c = number_at(s, at + 4);
-    let d = number_at(s, at + 6);
-    [a, b, c, d]
-}
+use tuple_lines::put_tried;
 
 // A line for each tuple, with the block on top.
 fn put_tuples(

@@ -1,7 +1,6 @@
-// Working out the types of a script's variables (refusals 8 and 9).
+// What a script asks of the types of its variables: the walk over its bytes that notes it, and the written types.
 pub mod names;
 pub mod pairs;
-pub mod typer;
 pub mod walk;
 
 use definitions::VARIABLE_LIMIT;

@@ -9,36 +9,29 @@ use Rattle.exports.proofs.willetcoffer_publish.Tie as tie
 returns : tie.Need-returns
 returns c =
     let c₁ = c .before in
-    λ ranks. publish-length _ _ _ _ _ (c₁ .saved-fits .ensures) (c .if1 .taken)
+    λ ranks. publish-length _ _ _ _ _ (c₁ .publish-fits .ensures) (c .if1 .taken)
 
 read-saved-requires : tie.Need-read-saved-requires
 read-saved-requires c κs =
     let c₁ = c .before in
-    saved-is _ _ _ _ _ (c₁ .saved-fits .ensures) (c .if1 .left)
+    saved-is _ _ _ _ _ (c₁ .publish-fits .ensures) (c .if1 .left)
 
 returns-2 : tie.Need-returns-2
 returns-2 c =
-    let c₁ = c .before .before in
-    let c₂ = c₁ .before in
-    let c₃ = c₂ .before in
-    λ ranks. publish-unread _ _ _ _ _ (c₃ .saved-fits .ensures) (c₂ .if1 .left) (read-none _ _ (c₁ .read-saved .ensures) (c .if2 .taken))
+    let c₁ = c .before .before in let c₂ = c₁ .before in let c₃ = c₂ .before in
+    λ ranks. publish-unread _ _ _ _ _ (c₃ .publish-fits .ensures) (c₂ .if1 .left) (read-none _ _ (c₁ .read-saved .ensures) (c .if2 .taken))
 
-write-publish-report-requires : tie.Need-write-publish-report-requires
-write-publish-report-requires c κs =
-    let c₁ = c .before .before .before .before .before .before .before .before .before in
-    let c₂ = c₁ .before in
-    report-is _ _ _ _ _ (c₂ .saved-fits .ensures) (c₁ .if1 .left)
+after-publish-requires : tie.Need-after-publish-requires
+after-publish-requires c κs =
+    let c₁ = c .before .before .before .before .before .before .before .before .before in let c₂ = c₁ .before in
+    report-is _ _ _ _ _ (c₂ .publish-fits .ensures) (c₁ .if1 .left)
 
 returns-3 : tie.Need-returns-3
 returns-3 c =
-    let c₁ = c .before .before .before in
-    let c₂ = c₁ .before .before .before .before in
-    let c₃ = c₂ .before .before .before in
-    let c₄ = c₃ .before .before in
-    let c₅ = c₄ .before in
+    let c₁ = c .before .before in let c₂ = c₁ .before .before .before .before in let c₃ = c₂ .before .before .before in let c₄ = c₃ .before .before in let c₅ = c₄ .before in
     let c₆ = c₅ .before in
-    λ ranks. publish-done _ _ _ _ _ (c₆ .saved-fits .ensures) (c₅ .if1 .left) (read-some _ _ (c₄ .read-saved .ensures) (c₃ .if2 .left)) (c₂ .publish .ensures ranks)
-    (c₁ .write-publish-report .ensures) (c .publish-number .ensures)
+    λ ranks. publish-done _ _ _ _ _ (c₆ .publish-fits .ensures) (c₅ .if1 .left) (read-some _ _ (c₄ .read-saved .ensures) (c₃ .if2 .left)) (c₂ .publish .ensures ranks)
+    (c₁ .after-publish .ensures .1) (c₁ .after-publish .ensures .0)
 
 pub willetcoffer-publish-spec : {M : Type 1} → statement M
 willetcoffer-publish-spec =
@@ -49,8 +42,7 @@ willetcoffer-publish-spec =
     (λ c. search needs)
     returns-2
     (λ c κs. search needs)
-    write-publish-report-requires
-    (λ c κs. search needs)
+    after-publish-requires
     (λ c. search needs)
     (λ c. search needs)
     returns-3)

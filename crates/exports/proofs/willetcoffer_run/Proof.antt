@@ -7,77 +7,50 @@ use borrow.Author.Needs.{needs}
 use Rattle.exports.proofs.willetcoffer_run.Statement.{statement}
 use Rattle.exports.proofs.willetcoffer_run.Tie as tie
 
-buffers-fit-requires : tie.Need-buffers-fit-requires
-buffers-fit-requires c κs = search needs
-
 returns : tie.Need-returns
-returns c = run-length _ _ _ _ _ (c .before .buffers-fit .ensures) (c .if1 .taken)
+returns c =
+    let c₁ = c .before in
+    run-length _ _ _ _ _ (c₁ .run-fits .ensures) (c .if1 .taken)
 
 read-saved-requires : tie.Need-read-saved-requires
 read-saved-requires c κs =
-    let c₁ = c .before in
-    saved-fits _ _ _ _ (c₁ .before .buffers-fit .ensures) (c₁ .if1 .left)
+    let c₁ = c .before in let c₂ = c₁ .before in
+    saved-fits _ _ _ _ (c₂ .run-fits .ensures) (c₁ .if1 .left)
 
 unread-number-requires : tie.Need-unread-number-requires
 unread-number-requires c κs =
-    let c₁ = c .before .before .before .before in
-    ranks-fit _ _ _ _ (c₁ .before .buffers-fit .ensures) (c₁ .if1 .left)
-
-cast-result : tie.Need-cast-result
-cast-result c = search needs
-
-same-length : tie.Need-same-length
-same-length c = search needs
+    let c₁ = c .before .before .before .before in let c₂ = c₁ .before in
+    ranks-fit _ _ _ _ (c₂ .run-fits .ensures) (c₁ .if1 .left)
 
 returns-2 : tie.Need-returns-2
 returns-2 c =
-    let c₁ = c .before in let c₂ = c₁ .before .before in let c₃ = c₂ .before .before in
-    run-unread _ _ _ _ _ (c₃ .before .buffers-fit .ensures) (c₃ .if1 .left) (read-none _ _ (c₂ .read-saved .ensures) (c₁ .if2 .taken)) (c .unread-number .ensures)
+    let c₁ = c .before in let c₂ = c₁ .before .before in let c₃ = c₂ .before .before in let c₄ = c₃ .before in
+    run-unread _ _ _ _ _ (c₄ .run-fits .ensures) (c₃ .if1 .left) (read-none _ _ (c₂ .read-saved .ensures) (c₁ .if2 .taken)) (c .unread-number .ensures)
 
-run-requires : tie.Need-run-requires
-run-requires c κs = search needs
-
-run-number-requires : tie.Need-run-number-requires
-run-number-requires c κs = search needs
-
-hand-back-requires : tie.Need-hand-back-requires
-hand-back-requires c κs =
-    let c₁ = c .before .before .before .before .before .before .before .before .before in
-    saved-fits _ _ _ _ (c₁ .before .buffers-fit .ensures) (c₁ .if1 .left)
-
-write-run-report-requires : tie.Need-write-run-report-requires
-write-run-report-requires c κs =
-    let c₁ = c .before .before .before .before .before .before .before .before .before .before .before .before .before in
-    report-fits _ _ _ _ (c₁ .before .buffers-fit .ensures) (c₁ .if1 .left)
-
-same-length-2 : tie.Need-same-length-2
-same-length-2 c = search needs
-
-same-length-3 : tie.Need-same-length-3
-same-length-3 c = search needs
+after-run-requires : tie.Need-after-run-requires
+after-run-requires c κs =
+    let c₁ = c .before .before .before .before .before .before .before .before .before in let c₂ = c₁ .before in
+    (saved-fits _ _ _ _ (c₂ .run-fits .ensures) (c₁ .if1 .left), report-fits _ _ _ _ (c₂ .run-fits .ensures) (c₁ .if1 .left))
 
 returns-3 : tie.Need-returns-3
 returns-3 c =
-    let c₁ = c .before .before in let c₂ = c₁ .before .before .before .before in let c₃ = c₂ .before .before in let c₄ = c₃ .before .before in let c₅ = c₄ .before .before in
-    let c₆ = c₅ .before .before in let c₇ = c₆ .before .before in let c₈ = c₇ .before in let c₉ = c₈ .before .before .before .before .before .before .before .before .before in
-    run-done _ _ _ _ _ (c₈ .buffers-fit .ensures) (c₇ .if1 .left) (read-some _ _ (c₆ .read-saved .ensures) (c₅ .if2 .left)) (toZ-ofZ (c₉ .fits .clock)) (c₄ .run .ensures)
-    (c₃ .run-number .ensures) (c₂ .hand-back .ensures) (c₁ .write-run-report .ensures)
+    let c₁ = c .before .before .before .before in let c₂ = c₁ .before .before .before .before in let c₃ = c₂ .before .before in let c₄ = c₃ .before .before in
+    let c₅ = c₄ .before .before in let c₆ = c₅ .before in let c₇ = c₆ .before .before .before .before .before .before .before .before .before in
+    run-done _ _ _ _ _ (c₆ .run-fits .ensures) (c₅ .if1 .left) (read-some _ _ (c₄ .read-saved .ensures) (c₃ .if2 .left)) (toZ-ofZ (c₇ .fits .clock)) (c₂ .run .ensures)
+    (c₁ .after-run .ensures .0) (c₁ .after-run .ensures .1 .0) (c₁ .after-run .ensures .1 .1)
 
 pub willetcoffer-run-spec : {M : Type 1} → statement M
 willetcoffer-run-spec =
     tie.close
-    (tie.spec
-    buffers-fit-requires
+    (tie.spec (λ c κs. search needs)
     returns
     read-saved-requires
     unread-number-requires
-    cast-result
-    same-length
+    (λ c. search needs)
+    (λ c. search needs)
     returns-2
-    run-requires
-    run-number-requires
-    hand-back-requires
-    write-run-report-requires
-    same-length-2
-    same-length-3
+    (λ c κs. search needs)
+    after-run-requires
+    (λ c. search needs)
+    (λ c. search needs)
     returns-3)

@@ -4,7 +4,7 @@ use native.Mathlib.Omega.{arith}
 use borrow.Author.Needs.{needs}
 use lib.ListN.{length}
 use Rattle.definitions.specs.Limits.{slotWidth}
-use Rattle.sorting.proofs.CompareLaws.{slot-fits}
+use Rattle.record_order.proofs.CompareLaws.{slot-fits}
 use Rattle.page_writing.proofs.WritingLaws.{body-room, body-put, body-end}
 use Rattle.page_writing.proofs.put_body.Statement.{statement}
 use Rattle.page_writing.proofs.put_body.Tie as tie

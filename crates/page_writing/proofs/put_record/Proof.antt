@@ -7,8 +7,8 @@ use Rattle.definitions.specs.Limits.{slotWidth, objectOffset}
 use Rattle.definitions.specs.Terms.{ofTermKind}
 use Rattle.fields.specs.Answers.{widthOf}
 use Rattle.keys.specs.Keys.{quadOf}
-use Rattle.sorting.specs.Records.{kindOf}
-use Rattle.sorting.proofs.CompareLaws.{subject-in, property-in, object-in, slot-named, kind-within, kind-named, width-named}
+use Rattle.record_order.specs.Records.{kindOf}
+use Rattle.record_order.proofs.CompareLaws.{subject-in, property-in, object-in, slot-named, kind-within, kind-named, width-named}
 use Rattle.page_writing.proofs.WritingLaws.{record-long, kind-small, width-kept, record-written}
 use Rattle.page_writing.proofs.put_record.Statement.{statement}
 use Rattle.page_writing.proofs.put_record.Tie as tie

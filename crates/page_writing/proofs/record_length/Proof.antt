@@ -8,8 +8,8 @@ use Rattle.definitions.specs.Limits.{slotWidth}
 use Rattle.definitions.specs.Terms.{ofTermKind}
 use Rattle.fields.specs.Answers.{widthOf}
 use Rattle.keys.specs.Keys.{quadOf}
-use Rattle.sorting.specs.Records.{kindOf}
-use Rattle.sorting.proofs.CompareLaws.{kind-within, kind-named, width-named}
+use Rattle.record_order.specs.Records.{kindOf}
+use Rattle.record_order.proofs.CompareLaws.{kind-within, kind-named, width-named}
 use Rattle.page_writing.proofs.WritingLaws.{record-long}
 use Rattle.page_writing.proofs.record_length.Statement.{statement}
 use Rattle.page_writing.proofs.record_length.Tie as tie

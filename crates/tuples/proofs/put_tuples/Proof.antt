@@ -5,8 +5,9 @@ use mathlib.Core.Path.{_≡_, refl}
 use lib.ListN.{length}
 use Rattle.acts.specs.Steps.{Top}
 use Rattle.answers.specs.Lends.{Lends}
-use Rattle.tuples.specs.Asking.{tupleWidth}
-use Rattle.tuples.specs.Lines.{lineRoom, TuplesWritten}
+use Rattle.evaluator_input.specs.Input.{tupleWidth}
+use Rattle.tuple_lines.specs.TriedLine.{lineRoom}
+use Rattle.tuples.specs.Lines.{TuplesWritten}
 use Rattle.tuples.proofs.TupleLaws.{tuples-none, tuples-next, tuples-all}
 use borrow.Author.Needs.{needs}
 use Rattle.tuples.proofs.put_tuples.Statement.{statement}

@@ -13,8 +13,8 @@ use borrow.Fn.PlainCycle.{Measures, is, falls, and}
 use Rattle.reader.proofs.script.read_cond.Reads as read-cond
 use Rattle.reader.proofs.script.read_cond.Kinds as read-cond-kinds
 use Rattle.reader.proofs.script.+read_cond.Lts-read_cond as lts
-use Rattle.reader.proofs.patterns.pattern_ok.Reads as pattern-ok
-use Rattle.reader.proofs.patterns.range_ok.Reads as range-ok
+use Rattle.patterns.proofs.pattern_ok.Reads as pattern-ok
+use Rattle.patterns.proofs.range_ok.Reads as range-ok
 use Rattle.reader.proofs.script.read_expr.Reads as read-expr
 use Rattle.reader.proofs.script.+read_cond.{statement}
 use Rattle.reader.proofs.script.+read_cond.Tie.{close}

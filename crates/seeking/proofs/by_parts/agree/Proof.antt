@@ -27,16 +27,16 @@ mul-at c = omega (arith, c .loop-test .taken, c .before .before .before .before 
 shared-slice-read-at : tie.Need-shared-slice-read-at Inv-loop μ-loop
 shared-slice-read-at c = omega (arith, c .before .loop-test .taken)
 
-mul-names-but : tie.Need-mul-names-but Inv-loop μ-loop
-mul-names-but c = omega (arith, c .before .loop-test .taken, c .before .before .before .before .before .before .before .before .before .before .pre .0)
+mul-is-asked : tie.Need-mul-is-asked Inv-loop μ-loop
+mul-is-asked c = omega (arith, c .before .loop-test .taken, c .before .before .before .before .before .before .before .before .before .before .pre .0)
 
-shared-slice-read-names-but : tie.Need-shared-slice-read-names-but Inv-loop μ-loop
-shared-slice-read-names-but c = omega (arith, c .before .before .loop-test .taken)
+shared-slice-read-is-asked : tie.Need-shared-slice-read-is-asked Inv-loop μ-loop
+shared-slice-read-is-asked c = omega (arith, c .before .before .loop-test .taken)
 
-names-but-requires : tie.Need-names-but-requires Inv-loop μ-loop
-names-but-requires c κs =
+is-asked-requires : tie.Need-is-asked-requires Inv-loop μ-loop
+is-asked-requires c κs =
     let c₁ = c .before .before .before .before .before .before .before .before .before .before .before in
-    let p = c₁ .pre .1 .1 .1 .1 .1 in (omega (arith, p .0), p .1 .0)
+    let p = c₁ .pre .1 .1 .1 .1 .1 in (p .0, p .1 .0)
 
 shared-slice-read-if1 : tie.Need-shared-slice-read-if1 Inv-loop μ-loop
 shared-slice-read-if1 c =
@@ -77,5 +77,5 @@ returns-2 c = λ f. absurd (true≢false f)
 pub agree-spec : {M : Type 1} → statement M
 agree-spec =
     tie.close
-    (tie.spec Inv-loop μ-loop loop-holds mul-place add-second mul-at shared-slice-read-at mul-names-but shared-slice-read-names-but names-but-requires shared-slice-read-if1 seek-requires
+    (tie.spec Inv-loop μ-loop loop-holds mul-place add-second mul-at shared-slice-read-at mul-is-asked shared-slice-read-is-asked is-asked-requires shared-slice-read-if1 seek-requires
     returns add-i loop-less loop-again returns-2)

@@ -14,7 +14,7 @@ use Rattle.seeking.proofs.by_parts.seek_parts.Lts as lts
 use Rattle.seeking.proofs.by_parts.seek_parts.Reads as seek-parts
 use Rattle.keys.proofs.either.Reads as either
 use Rattle.seeking.proofs.by_parts.seek_part.Reads as seek-part
-use Rattle.seeking.proofs.listing.may_name.Reads as may-name
+use Rattle.seeking.proofs.listing.is_sought.Reads as is-sought
 
 abbrev Inv-loop : tie.InvT-loop
 Inv-loop script ends context parts ranks table known quads v lo all count n found₀ agreed₀ i₀ found agreed i =
@@ -24,7 +24,7 @@ abbrev μ-loop : tie.MeasureT-loop
 μ-loop script ends context parts ranks table known quads v lo all count n found₀ agreed₀ i₀ found agreed i = 17 * (count - found) + (n - agreed)
 
 abbrev calls : lts.Claims
-calls = (may-name.Asked, may-name.Learnt, seek-part.Asked, seek-part.Learnt, either.Asked, either.Learnt)
+calls = (is-sought.Asked, is-sought.Learnt, seek-part.Asked, seek-part.Learnt, either.Asked, either.Learnt)
 
 loop-holds : tie.Need-loop-holds Inv-loop μ-loop
 loop-holds c = (λ h. h, λ q p. stays _ _ _ _ _ _ _ _)
@@ -39,16 +39,16 @@ add-second c =
     let c₁ = c .before .before .before .before .before .before .before .before .before in
     omega (arith, c .before .loop .inv .0 (omega (arith, c .loop-test .taken)), c₁ .pre .0)
 
-mul-may-name : tie.Need-mul-may-name Inv-loop μ-loop
-mul-may-name c =
+mul-is-sought : tie.Need-mul-is-sought Inv-loop μ-loop
+mul-is-sought c =
     let c₁ = c .before .before .before .before .before .before .before .before .before in
     omega (arith, c .before .loop .inv .0 (omega (arith, c .loop-test .taken)), c₁ .pre .0)
 
-shared-slice-read-may-name : tie.Need-shared-slice-read-may-name Inv-loop μ-loop
-shared-slice-read-may-name c = omega (arith, c .before .before .loop .inv .0 (omega (arith, c .before .loop-test .taken)))
+shared-slice-read-is-sought : tie.Need-shared-slice-read-is-sought Inv-loop μ-loop
+shared-slice-read-is-sought c = omega (arith, c .before .before .loop .inv .0 (omega (arith, c .before .loop-test .taken)))
 
-may-name-requires : tie.Need-may-name-requires Inv-loop μ-loop
-may-name-requires c κs = omega (arith, c .before .before .before .before .before .before .before .before .before .before .pre .1 .1 .1 .1 .1)
+is-sought-requires : tie.Need-is-sought-requires Inv-loop μ-loop
+is-sought-requires c κs = c .before .before .before .before .before .before .before .before .before .before .pre .1 .1 .1 .1 .1
 
 mul-seek-part : tie.Need-mul-seek-part Inv-loop μ-loop
 mul-seek-part c =
@@ -129,5 +129,5 @@ returns-2 c = c .before .loop .inv .1
 pub seek-parts-spec : {M : Type 1} → statement M
 seek-parts-spec =
     tie.close
-    (tie.spec Inv-loop μ-loop loop-holds mul-place add-second mul-may-name shared-slice-read-may-name may-name-requires mul-seek-part shared-slice-read-seek-part seek-part-requires
+    (tie.spec Inv-loop μ-loop loop-holds mul-place add-second mul-is-sought shared-slice-read-is-sought is-sought-requires mul-seek-part shared-slice-read-seek-part seek-part-requires
     returns either-requires add-agreed add-next either-requires-2 loop-less loop-again returns-2)

@@ -67,8 +67,8 @@ mul-list c = omega (arith, c .before .before .before .before .before .loop .inv 
 array-write-list : tie.Need-array-write-list Inv-loop μ-loop
 array-write-list c = omega (arith, c .before .before .before .before .before .loop .inv .0, c .before .before .before .before .loop-test .taken)
 
-variables-in-requires : tie.Need-variables-in-requires Inv-loop μ-loop
-variables-in-requires c κs =
+named-in-requires : tie.Need-named-in-requires Inv-loop μ-loop
+named-in-requires c κs =
     let c₁ = c .before .before .before .before in
     let c₂ = c₁ .before in
     let c₃ = c₂ .before .before .before in
@@ -113,4 +113,4 @@ pub parts-of-spec : {M : Type 1} → statement M
 parts-of-spec =
     tie.close
     (tie.spec Inv-loop μ-loop loop-holds shared-slice-read-splits add-splits splits-requires add-here add-pending loop-less loop-again after-requires mul-place add-second mul-list
-    array-write-list variables-in-requires mul-list-2 array-write-list-2 add-count sub-pending loop-less-2 loop-again-2 mul-size returns)
+    array-write-list named-in-requires mul-list-2 array-write-list-2 add-count sub-pending loop-less-2 loop-again-2 mul-size returns)

@@ -7,7 +7,7 @@ use mathlib.Core.Path.{_≡_, refl, sym, _∙_}
 use lib.ListN.{length, drop}
 use Rattle.definitions.specs.Lists.{every}
 use Rattle.laws.proofs.EveryFrom.{every-next, every-stop, every-none}
-use Rattle.soundness.specs.Store.{uriNumber}
+use Rattle.sound_quads.specs.TermNumbers.{uriNumber}
 use Rattle.soundness.proofs.graphs.all_uris.Statement.{statement}
 use Rattle.soundness.proofs.graphs.all_uris.Tie as tie
 

@@ -4,7 +4,7 @@ use mathlib.Core.Bool.{false≢true}
 use mathlib.Core.Path.{sym, _∙_}
 use borrow.Author.Tests.{not-false}
 use Rattle.keys.proofs.Quads.{table-order}
-use Rattle.soundness.proofs.QuadLaws.{held-few, rows-of}
+use Rattle.sound_quads.proofs.QuadLaws.{held-few, rows-of}
 use Rattle.soundness.proofs.Clauses.{not-held, bad-graphs, quads-out, quads-all}
 use borrow.Author.Needs.{needs}
 use Rattle.soundness.proofs.tables.quads_and_graphs.Statement.{statement}
