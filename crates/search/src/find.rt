@@ -15,7 +15,7 @@ use definitions::PAIR_LIMIT;
 use definitions::VARIABLE_LIMIT;
 use query::Context;
 use query::eval::eval_query;
-use seeking::NO_MARK;
+use seeking::NO_BIT;
 use seeking::by_parts::agree;
 use seeking::by_parts::seek_parts;
 
@@ -133,7 +133,7 @@ fn hope(
             &with,
             quads,
             v,
-            NO_MARK,
+            NO_BIT,
             number,
         ) {
             return true;

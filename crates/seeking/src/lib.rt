@@ -13,9 +13,9 @@ pub const PART_LIMIT: usize = 16;
 pub const PARTS_WIDTH: usize = 2 * PART_LIMIT;
 
 // In the number of a part's variables a bit above theirs says that it is a filter, and the one above that is none.
-pub const FILTER_MARK: usize = VARIABLE_LIMIT;
+pub const FILTER_BIT: usize = VARIABLE_LIMIT;
 
-pub const NO_MARK: usize = VARIABLE_LIMIT + 1;
+pub const NO_BIT: usize = VARIABLE_LIMIT + 1;
 
 // What the seek finds at a query's record: the offset after it, and the least number.
 pub struct Sought {

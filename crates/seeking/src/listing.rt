@@ -10,7 +10,7 @@ ghost use Rattle.definitions.specs.Reading.{readQuery};
 ghost use Rattle.laws.specs.Ends.{EndsLent};
 ghost use Rattle.laws.specs.Walks.{Loads};
 ghost use Rattle.seeking.specs.Parts.{partLimit, partsWidth, PartsOf};
-use crate::FILTER_MARK;
+use crate::FILTER_BIT;
 use crate::PART_LIMIT;
 use crate::PARTS_WIDTH;
 use crate::Parts;
@@ -41,23 +41,23 @@ fn named_in(script: &[u8], from: usize, to: usize) -> usize
 {
     let named = variables_in(script, from, to);
     if script[from] == 0x64 {
-        return named | (1usize << FILTER_MARK);
+        return named | (1usize << FILTER_BIT);
     }
     named
 }
 
 // Whether a bit of a part's number is there.
-fn has_mark(named: usize, mark: usize) -> bool
-    requires { ⌜ mark ≤ variableLimit + 1 ⌝ }
+fn has_bit(named: usize, bit: usize) -> bool
+    requires { ⌜ bit ≤ variableLimit + 1 ⌝ }
 {
-    (named >> mark) % 2 == 1
+    (named >> bit) % 2 == 1
 }
 
 // Whether a variable is sought in a part: it may name it, and is no filter.
 pub fn is_sought(named: usize, v: usize) -> bool
     requires { ⌜ v < variableLimit ⌝ }
 {
-    has_mark(named, v) & !has_mark(named, FILTER_MARK)
+    has_bit(named, v) & !has_bit(named, FILTER_BIT)
 }
 
 // Whether a part is asked with a number of a variable: it may name it, and is a filter or does not name the variable after it.
@@ -65,7 +65,7 @@ pub fn is_asked(named: usize, v: usize, after: usize) -> bool
     requires { ⌜ v < variableLimit ⌝ }
     requires { ⌜ after ≤ variableLimit + 1 ⌝ }
 {
-    has_mark(named, v) & (has_mark(named, FILTER_MARK) | !has_mark(named, after))
+    has_bit(named, v) & (has_bit(named, FILTER_BIT) | !has_bit(named, after))
 }
 
 // Whether a record is taken apart, where so many are listed or pending: it is `both`, and there is room for its halves.
