@@ -10,7 +10,7 @@ use lib.Dec.{T, eqb, eqb→eq, eqb-refl, lt→ltb}
 use lib.ListN.{length, getD, set}
 use lib.Seq.{getD-set-same, getD-set-other}
 use borrow.Author.Tests.{lt-ltb}
-use Rattle.definitions.specs.Limits.{depthLimit, variableLimit}
+use Rattle.definitions.specs.Limits.{depthLimit, termLimit, variableLimit}
 use Rattle.definitions.specs.Lists.{isIn}
 use Rattle.definitions.specs.Tree.{Query}
 use Rattle.definitions.specs.Reading.{readQuery}
@@ -86,7 +86,7 @@ module _ {script ranks table quads leasts : List ℕ} {x : Context} {block : Blo
   counted : x .count ≡ length (w .terms)
   counted = sym (w .lent .tabled .counted)
 
-  pub few-terms : x .count ≤ 512
+  pub few-terms : x .count ≤ termLimit
   few-terms = few table x (w .terms) (w .lent .tabled)
 
   abbrev vars : List ℕ

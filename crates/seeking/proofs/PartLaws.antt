@@ -166,22 +166,26 @@ module _ (s : List ℕ) (ranks table known : List ℕ) (x : Context) (rows : Lis
 
 -- ── a turn of the loop ──────────────────────────────────────────────────────────────────────
 
+-- what a number weighs against the parts: more than there are at most
+abbrev pub numberWeight : ℕ
+numberWeight = 17
+
 moved-up : (count found number : ℕ) → number < count → min found count ≤ number → (number ≡ found → ⊥) → found < number
 moved-up count found number small low other = omega arith
 
 -- a number that the part leaves as it was brings the end nearer, another one the count
 pub turn-falls : (count n found number agreed alike : ℕ) → n ≤ partLimit → agreed < n → number < count → min found count ≤ number → alike ≡ cond (eqb number found) agreed 0
-    → (alike < n) × (17 * (count - number) + (n - (alike + 1)) < 17 * (count - found) + (n - agreed))
+    → (alike < n) × (numberWeight * (count - number) + (n - (alike + 1)) < numberWeight * (count - found) + (n - agreed))
 turn-falls count n found number agreed alike few more small low e =
     go (eqb number found) (eqb→eq number found) (λ d. moved-up count found number small low (λ (s : number ≡ found). d (subst⁻¹ (λ y. T (eqb y found)) s (eqb-refl found)))) e
   where
     Falls : Type 0
-    Falls = (alike < n) × (17 * (count - number) + (n - (alike + 1)) < 17 * (count - found) + (n - agreed))
+    Falls = (alike < n) × (numberWeight * (count - number) + (n - (alike + 1)) < numberWeight * (count - found) + (n - agreed))
 
     up : found < number → alike ≡ 0 → Falls
     up h z = rw z (omega (arith, more), falls h)
       where
-        falls : found < number → 17 * (count - number) + (n - 1) < 17 * (count - found) + (n - agreed)
+        falls : found < number → numberWeight * (count - number) + (n - 1) < numberWeight * (count - found) + (n - agreed)
         falls h = omega (arith, h, small, few, more)
 
     go : (b : Bool) → (T b → number ≡ found) → ((T b → ⊥) → found < number) → alike ≡ cond b agreed 0 → Falls

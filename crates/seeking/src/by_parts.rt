@@ -69,7 +69,7 @@ fn seek_part(
 }
 
 // The least number from lo on with which each part may hold in which the variable is sought; of all parts, where it is told so. The count where there is none.
-// Ruled out: a number of the first part alone that another one has passed; the number after the one that is found.
+// Ruled out: every number passed over for a part that is not asked; the number after the one that is found.
 pub fn seek_parts(
     script: &[u8],
     ends: &[u16],

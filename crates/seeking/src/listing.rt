@@ -14,6 +14,7 @@ use crate::FILTER_BIT;
 use crate::PART_LIMIT;
 use crate::PARTS_WIDTH;
 use crate::Parts;
+use definitions::VARIABLE_LIMIT;
 use ends::after;
 
 // The variables that the bytes before an offset may name, a bit for each. A byte of a text may look like a name: then there is one too many, which costs
@@ -26,7 +27,7 @@ fn variables_in(script: &[u8], from: usize, to: usize) -> usize
     let mut i = from + 1;
     while i < to {
         if script[i - 1] == 0x31 {
-            let v = script[i] % 16;
+            let v = script[i] % (VARIABLE_LIMIT as u8);
             named = named | (1usize << (v as usize));
         }
         i += 1;
@@ -79,7 +80,7 @@ fn splits(kind: u8, records: usize) -> bool
 }
 
 // The parts of the query at an offset.
-// Ruled out: the parts of a union; a part at the offset of the query's second half alone.
+// Ruled out: the parts of a union taken for parts of the query; an offset at which none of them stands.
 pub fn parts_of(script: &[u8], ends: &[u16], loaded: usize, at: usize) -> Parts
     requires { ⌜ Loads (readQuery (now script) loaded depthLimit at) ⌝ }
     requires { ⌜ EndsLent (now script) (now ends) ⌝ }

@@ -7,7 +7,7 @@ use Rattle.query.specs.StoreLent.{rowsOf}
 use Rattle.seeking.specs.Seeking.{SeekOf}
 use Rattle.seeking.specs.Parts.{PartsOf}
 use Rattle.seeking.proofs.SeekLaws.{stays, ended}
-use Rattle.seeking.proofs.PartLaws.{part-loads, part-seeks, turn-falls, turn-within}
+use Rattle.seeking.proofs.PartLaws.{part-loads, part-seeks, numberWeight, turn-falls, turn-within}
 use Rattle.seeking.proofs.by_parts.seek_parts.Statement.{statement}
 use Rattle.seeking.proofs.by_parts.seek_parts.Tie as tie
 use Rattle.seeking.proofs.by_parts.seek_parts.Lts as lts
@@ -21,7 +21,7 @@ Inv-loop script ends context parts ranks table known quads v lo all count n foun
     (0 < n → i < n) × ((q : Query) → PartsOf script (context .loaded) parts q → SeekOf ranks table known context (rowsOf quads context) v lo found q)
 
 abbrev μ-loop : tie.MeasureT-loop
-μ-loop script ends context parts ranks table known quads v lo all count n found₀ agreed₀ i₀ found agreed i = 17 * (count - found) + (n - agreed)
+μ-loop script ends context parts ranks table known quads v lo all count n found₀ agreed₀ i₀ found agreed i = numberWeight * (count - found) + (n - agreed)
 
 abbrev calls : lts.Claims
 calls = (is-sought.Asked, is-sought.Learnt, seek-part.Asked, seek-part.Learnt, either.Asked, either.Learnt)
@@ -84,7 +84,7 @@ falls : (c : lts.After-either calls seek-parts.Pre seek-parts.Post Inv-loop μ-l
     let c₂ = c₁ .before .before .before .before .before .before .before .before in
     let n = length (c₂ .args .parts .now) / 2 in
     let count = c₂ .args .context .count in
-    (c .either .result < n) × (17 * (count - c .before .before .seek-part .result) + (n - (c .either .result + 1)) < 17 * (count - c₁ .loop .found) + (n - c₁ .loop .agreed))
+    (c .either .result < n) × (numberWeight * (count - c .before .before .seek-part .result) + (n - (c .either .result + 1)) < numberWeight * (count - c₁ .loop .found) + (n - c₁ .loop .agreed))
 falls c =
     let c₁ = c .before .before in
     let c₂ = c₁ .before .before .before .before in

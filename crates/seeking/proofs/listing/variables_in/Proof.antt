@@ -25,6 +25,12 @@ shared-slice-read-if1 c = omega arith
 shared-slice-read-v : tie.Need-shared-slice-read-v Inv-loop μ-loop
 shared-slice-read-v c = omega arith
 
+cast-v : tie.Need-cast-v Inv-loop μ-loop
+cast-v c = omega arith
+
+rem-v : tie.Need-rem-v Inv-loop μ-loop
+rem-v c = omega arith
+
 cast-named : tie.Need-cast-named Inv-loop μ-loop
 cast-named c = omega arith
 
@@ -54,6 +60,8 @@ variables-in-spec =
     sub-if1
     shared-slice-read-if1
     shared-slice-read-v
+    cast-v
+    rem-v
     cast-named
     shl-named
     add-i-2
