@@ -1,17 +1,16 @@
 -- The search over bytes and arrays: one law for each way through the code.
-use Prim.Native.Nat.{ℕ, zero, suc, _+_, _-_, _≤_, _<_, min}
+use Prim.Native.Nat.{ℕ, zero, _+_, _-_, _≤_, _<_, min}
 use native.Mathlib.Omega.{arith}
 use mathlib.Core.Path.{_≡_, refl, sym, _∙_, ap, subst, subst⁻¹, fun-ext}
 use mathlib.Core.Logic.{⊎-elim}
 use mathlib.Core.List.{List, [], _∷_}
 use mathlib.Core.Bool.{Bool, true, false, cond, true≢false}
-use mathlib.Core.Option.{Option, none, some}
+use mathlib.Core.Option.{none, some}
 use lib.Dec.{T, eqb, eqb→eq, eqb-refl, lt→ltb}
 use lib.ListN.{length, getD, set}
 use lib.Seq.{getD-set-same, getD-set-other}
 use borrow.Author.Tests.{lt-ltb}
 use Rattle.definitions.specs.Limits.{depthLimit, termLimit, variableLimit}
-use Rattle.definitions.specs.Lists.{isIn}
 use Rattle.definitions.specs.Tree.{Query}
 use Rattle.definitions.specs.Reading.{readQuery}
 use Rattle.definitions.specs.Evaluate.{Bindings, Quad, query}
@@ -37,7 +36,7 @@ use Rattle.query.proofs.TermLaws.{few}
 use Rattle.seeking.specs.Seeking.{Keeps, holds, Reaches, SeekOf, Denies}
 use Rattle.seeking.specs.Parts.{PartsOf}
 use Rattle.search.specs.Ready.{Ready}
-use Rattle.search.specs.Finding.{numbersFrom, tupleOf, lastOf, skipTypes, skip, bindTo, World, Parted, later, First, From, Once, Cleared, setting, Has, ReadyFor, Passes, PassedTo, NextOf}
+use Rattle.search.specs.Finding.{numbersFrom, tupleOf, skipTypes, skip, bindTo, World, Parted, later, First, From, Once, Cleared, setting, Has, ReadyFor, Passes, PassedTo, NextOf}
 use Rattle.search.specs.Finding.{HopeAt, HopeOf, WorthOf, Good, FirstOf, FindOf, AfterOf, isAfter}
 use Rattle.search.specs.declared.Block.{Block}
 use Rattle.search.specs.declared.Found.{Found}

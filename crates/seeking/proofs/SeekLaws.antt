@@ -6,10 +6,9 @@ use mathlib.Core.List.{List}
 use mathlib.Core.Bool.{Bool, true, false, cond, _&&_, _||_}
 use mathlib.Core.Option.{Option, none, some}
 use lib.Dec.{T, eqb, eqb→eq}
-use Rattle.definitions.specs.Terms.{Term}
 use Rattle.definitions.specs.Tree.{Name, var, const, Cond, Query}
 use Rattle.definitions.specs.Outcome.{Outcome, ok, fault, _>>=_}
-use Rattle.definitions.specs.Evaluate.{Setting, Bindings, Quad, stored, numberOf, condition, query}
+use Rattle.definitions.specs.Evaluate.{Bindings, Quad, stored, numberOf, condition, query}
 use Rattle.definitions.specs.Evaluated.{gives}
 use Rattle.definitions.specs.Truth.{isTrue}
 use Rattle.definitions.specs.declared.Truth.{Truth}

@@ -1,5 +1,4 @@
 -- `search::answer::answer` meets its contract: the search from the first level on, with the block's variables not known. Assumes nothing.
-use native.Mathlib.Omega.{arith}
 use borrow.Author.Needs.{needs}
 use Rattle.search.proofs.FindLaws.{loads-here}
 use Rattle.search.proofs.AnswerLaws.{parted, answer-begins, answer-goes-on}

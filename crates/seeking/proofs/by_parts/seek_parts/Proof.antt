@@ -1,6 +1,6 @@
 -- `seeking::by_parts::seek_parts` meets its contract. The loop's invariant: what is found passes over no number of the whole query. Assumes nothing.
 use native.Mathlib.Omega.{arith}
-use Prim.Native.Nat.{ℕ, _+_, _*_, _-_, _/_, _≤_, _<_}
+use Prim.Native.Nat.{_+_, _*_, _-_, _/_, _<_}
 use lib.ListN.{length}
 use Rattle.definitions.specs.Tree.{Query}
 use Rattle.query.specs.StoreLent.{rowsOf}
