@@ -96,7 +96,7 @@ fn text_field(text: &[u8]) -> [u8; TEXT_WIDTH]
     ensures { result ≡ filled text_width text.now }
 {
     let mut field = [0u8; TEXT_WIDTH];
-    bytes::copy(text, &mut field);
+    field[..text.len()].copy_from_slice(text);
     field
 }
 
@@ -106,7 +106,7 @@ pub fn pattern_field(pattern: &[u8]) -> [u8; PATTERN_WIDTH]
     ensures { result ≡ filled pattern_width pattern.now }
 {
     let mut field = [0u8; PATTERN_WIDTH];
-    bytes::copy(pattern, &mut field);
+    field[..pattern.len()].copy_from_slice(pattern);
     field
 }
 
@@ -116,7 +116,7 @@ pub fn tag_field(tag: &[u8]) -> [u8; TAG_WIDTH]
     ensures { result ≡ filled tag_width tag.now }
 {
     let mut field = [0u8; TAG_WIDTH];
-    bytes::copy(tag, &mut field);
+    field[..tag.len()].copy_from_slice(tag);
     field
 }
 

@@ -8,6 +8,21 @@ fn at_most(n: usize, limit: usize) -> usize
     if n < limit { n } else { limit }
 }
 
+// Where a byte stands first, from an offset to another; the second offset where it does not.
+pub fn find(rows: &[u8], at: usize, last: usize, ending: u8) -> usize
+    requires at_le_last { at ≤ last }
+    requires last_in_bounds { last ≤ length rows.now }
+    ensures from { at ≤ result }
+    ensures to { result ≤ last }
+{
+    for i in at..last {
+        if rows[i] == ending {
+            return i;
+        }
+    }
+    last
+}
+
 // The end of the word at an offset: where its ending byte stands, and at most so many bytes on.
 // Ruled out: the ending byte in the word; a word wider than its field.
 pub fn word_end(rows: &[u8], at: usize, ending: u8, width: usize) -> usize
@@ -15,7 +30,7 @@ pub fn word_end(rows: &[u8], at: usize, ending: u8, width: usize) -> usize
     ensures { (at ≤ result) × (result ≤ at + width) × (result ≤ length rows.now) }
 {
     let last = rows.len();
-    let found = bytes::scan::find(rows, at, last, ending);
+    let found = find(rows, at, last, ending);
     at + at_most(found - at, width)
 }
 

@@ -110,7 +110,7 @@ fn read_control(b: &[u8]) -> SavedControl
     ensures { result ≡ control_in b.now }
 {
     let mut types = [0u8; VARIABLE_LIMIT];
-    bytes::copy(&b[TYPES_OFFSET..BOUND_OFFSET], &mut types);
+    types.copy_from_slice(&b[TYPES_OFFSET..BOUND_OFFSET]);
     let mut bound = [false; VARIABLE_LIMIT];
     read_marks(&b[BOUND_OFFSET..BINDINGS_OFFSET], &mut bound);
     let mut bindings = [0u16; VARIABLE_LIMIT];

@@ -102,7 +102,7 @@ pub fn write_saved(run: SavedRun, out: &mut [u8])
     let fetched = store.fetched;
     let items = control.items;
     write_words(&counts, &mut out[0..TYPES_OFFSET]);
-    bytes::copy(&types, &mut out[TYPES_OFFSET..BOUND_OFFSET]);
+    out[TYPES_OFFSET..BOUND_OFFSET].copy_from_slice(&types);
     write_marks(&bound, &mut out[BOUND_OFFSET..BINDINGS_OFFSET]);
     write_words(&bindings, &mut out[BINDINGS_OFFSET..FETCHED_OFFSET]);
     write_words(&fetched, &mut out[FETCHED_OFFSET..ITEMS_OFFSET]);

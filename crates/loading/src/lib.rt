@@ -62,8 +62,8 @@ pub fn load(
         return refused(card.refusal);
     }
     let empty = [0u8; QUAD_TABLE_WIDTH];
-    bytes::copy(&work, table);
-    bytes::copy(&empty, store);
+    table.copy_from_slice(&work);
+    store.copy_from_slice(&empty);
     let types = card.types;
     accepted(types)
 }

@@ -12,7 +12,7 @@ pub fn put_text(text: &[u8], out: &mut [u8], at: usize) -> usize
     ensures { Written text.now out.old out.new at result }
 {
     let end = at + text.len();
-    bytes::copy(text, &mut out[at..end]);
+    out[at..end].copy_from_slice(text);
     end
 }
 

@@ -54,7 +54,7 @@ fn take_copies(
         → Took terms.new keys.new others result (take_all S graph rs (start_of ts others)) }
     ensures keys_le_record_limit { result.keys ≤ record_limit }
 {
-    bytes::copy(lent, terms);
+    terms.copy_from_slice(lent);
     let start = Counts {
         terms: n,
         keys: 0,
@@ -122,8 +122,8 @@ pub fn take_in(
     }
     let mut quads = [0u8; QUAD_TABLE_WIDTH];
     write_keys(&keys, count, &mut quads);
-    bytes::copy(&terms, lent);
-    bytes::copy(&quads, stored);
+    lent.copy_from_slice(&terms);
+    stored.copy_from_slice(&quads);
     let after = with_page(store, graph, count as u16);
     AfterPage {
         answer: PageAnswer::Taken(end.skipped),

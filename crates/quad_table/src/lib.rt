@@ -50,7 +50,7 @@ fn put_key(table: &mut [u8], n: usize, key: u64)
     let property = property_of(key) as u16;
     let object = object_of(key) as u16;
     let content = quad_bytes(graph, subject, property, object);
-    bytes::copy(&content, &mut table[at..end]);
+    table[at..end].copy_from_slice(&content);
 }
 
 // Writes the quads of the first keys into an empty table.

@@ -2,6 +2,7 @@
 ghost use Rattle.std.specs.Prelude.{◌≡◌, nat_abs};
 ghost use Rattle.values.specs.Meaning.{Good};
 
+use cases::rows;
 use definitions::Truth;
 use values::Value;
 
@@ -19,7 +20,7 @@ pub fn byte(b: u8) {
 // The text of a field, without the zeros after it.
 fn field(text: &[u8]) {
     let width = text.len();
-    let end = bytes::scan::find(text, 0, width, 0);
+    let end = rows::find(text, 0, width, 0);
     io::write_all(1, &text[0..end]);
 }
 

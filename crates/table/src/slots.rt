@@ -96,7 +96,8 @@ pub fn slot_of(kind: u8, body: &[u8]) -> [u8; SLOT_WIDTH]
 {
     let mut slot = [0u8; SLOT_WIDTH];
     slot[0] = kind;
-    bytes::copy(body, &mut slot[1..]);
+    let end = 1 + body.len();
+    slot[1..end].copy_from_slice(body);
     slot
 }
 
@@ -109,7 +110,7 @@ pub fn put_slot(table: &mut [u8], n: usize, slot: &[u8])
 {
     let at = n * SLOT_WIDTH;
     let end = at + SLOT_WIDTH;
-    bytes::copy(slot, &mut table[at..end]);
+    table[at..end].copy_from_slice(slot);
 }
 
 // Writes a slot and its hash. Ruled out: another slot's hash changed; the hash of the slot that was there.

@@ -24,7 +24,7 @@ fn text_at(slot: &[u8], at: usize) -> [u8; TEXT_WIDTH]
 {
     let mut text = [0u8; TEXT_WIDTH];
     let end = at + TEXT_WIDTH;
-    bytes::copy(&slot[at..end], &mut text);
+    text.copy_from_slice(&slot[at..end]);
     text
 }
 
@@ -35,7 +35,7 @@ fn tag_at(slot: &[u8], at: usize) -> [u8; TAG_WIDTH]
 {
     let mut tag = [0u8; TAG_WIDTH];
     let end = at + TAG_WIDTH;
-    bytes::copy(&slot[at..end], &mut tag);
+    tag.copy_from_slice(&slot[at..end]);
     tag
 }
 
