@@ -1,4 +1,6 @@
 // What the item on top of the stack does: success, a sequence, from named, and a block with its answer.
+#![tactic(auto)]
+
 ghost use Rattle.std.specs.Prelude.{◌≡◌, ◌+◌, ◌≤◌};
 ghost use Rattle.definitions.specs.Limits.{graph_limit};
 ghost use Rattle.definitions.specs.Bytes.{byte};
@@ -17,7 +19,7 @@ use store::graphs::is_fetched;
 use store::stack::{bind_tuple, fresh_item, pop, replace, replace_and_push};
 
 // A step's result: whether it moved, why it stands where it did not, and the saved control after it.
-#[derive(Drop)]
+#[derive(Clone, Copy)]
 pub struct Stepped {
     pub moved: bool,
     pub ending: RunState,

@@ -1,4 +1,6 @@
 // A club's own alphabet: whether 95 bytes hold each rank 0 to 94 once (21), which comes before the saved run (10).
+#![tactic(auto)]
+
 ghost use Rattle.std.specs.Prelude.{◌≡◌, length};
 ghost use Rattle.definitions.specs.Limits.{ranks_width};
 ghost use Rattle.definitions.specs.Alphabet.{is_alphabet};

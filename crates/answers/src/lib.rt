@@ -1,4 +1,6 @@
 // A block's answer: what the search is given, and what it finds; and one tuple tried on a block's query.
+#![tactic(auto)]
+
 ghost use Rattle.std.specs.Prelude.{◌≡◌, cond, ℕ, ◌+◌, ◌≤◌, ◌<◌, length, get_or};
 ghost use Rattle.laws.specs.Ends.{EndsLent};
 ghost use Rattle.definitions.specs.Bytes.{byte, past};
@@ -17,7 +19,7 @@ use search::{Block, Tried};
 use store::stack::top;
 
 // A block's answer: whether there is one, and its term numbers.
-#[derive(Drop)]
+#[derive(Clone, Copy)]
 pub struct Answered {
     pub found: bool,
     pub tuple: [u16; PAIR_LIMIT],

@@ -1,4 +1,6 @@
 // What a page record asks of its subject (document 02, Ask 7): at least a datatype, or nothing.
+#![tactic(auto)]
+
 ghost use Rattle.std.specs.Prelude.{◌≡◌, ℕ, ◌≤◌, length};
 ghost use Rattle.std.proofs.Math.Option.{some};
 ghost use Rattle.definitions.specs.Limits.{text_width};

@@ -1,4 +1,6 @@
 // The calls on bytes that are lent no saved run: total, number, suggest and schema.
+#![tactic(auto)]
+
 ghost use Rattle.std.specs.Prelude.{◌≡◌};
 ghost use Rattle.definitions.specs.Exports.{total_export, number_export, suggest_export, schema_export};
 

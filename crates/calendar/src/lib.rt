@@ -1,9 +1,11 @@
 // Dates in the Gregorian calendar, by cycles of 400, 100 and 4 years.
+#![tactic(auto)]
+
 ghost use Rattle.std.specs.Prelude.{◌≡◌, cond, ◌<◌, min};
 ghost use Rattle.definitions.specs.Calendar.{is_leap, month_lengths, month_from, date_of};
 ghost use Rattle.calendar.specs.Dates.{DateIs};
 
-#[derive(Drop)]
+#[derive(Clone, Copy)]
 pub struct Date {
     pub year: u64,
     pub month: u64,
@@ -11,7 +13,7 @@ pub struct Date {
 }
 
 // A year, and a day of it, counted from 0.
-#[derive(Drop)]
+#[derive(Clone, Copy)]
 struct YearDay {
     year: u64,
     day: u64,

@@ -7,7 +7,7 @@ use mathlib.Core.Path.{◌≡◌, sym, ap, ◌∙◌}
 use native.Mathlib.Omega.{arith}
 use native.Mathlib.Numerals.{add-one}
 use lib.ListN.{length, take, drop, set, get_or, length-map, take-append-drop}
-use lib.Seq.{take_all_lem, take-suc, length-take-le}
+use lib.Seq.{take_all, take-suc, length-take-le}
 use Rattle.definitions.specs.Limits.{slot_width}
 use Rattle.definitions.specs.Bytes.{part}
 use Rattle.definitions.specs.Terms.{Term, Schema, read_schema}
@@ -68,4 +68,4 @@ module _ (table schema : List ℕ) (count : ℕ) (g : is_some (read_schema schem
     unfolding codes
     least-done a b =
         let q : i ≡ count = omega arith in
-        e ∙ ap (λ (m : List ℕ). m ++ drop i old) (take_all_lem i codes (omega (arith, codes-length))) ∙ ap (λ (n : ℕ). codes ++ drop n old) q
+        e ∙ ap (λ (m : List ℕ). m ++ drop i old) (take_all i codes (omega (arith, codes-length))) ∙ ap (λ (n : ℕ). codes ++ drop n old) q

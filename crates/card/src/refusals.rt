@@ -26,7 +26,7 @@ use whole_script::script_ok;
 
 // What a check finds: a refusal's number and zeros, or the number of terms and the reported type of each variable; and the hashes of the
 // schema's URIs, where nothing is refused.
-#[derive(Drop)]
+#[derive(Clone, Copy)]
 pub struct Card {
     pub refusal: u8,
     pub count: usize,
@@ -35,7 +35,7 @@ pub struct Card {
 }
 
 // A refusal's number, or 0 and how many terms loading numbers; with the hashes of the schema's URIs.
-#[derive(Drop)]
+#[derive(Clone, Copy)]
 pub struct Ready {
     pub refusal: u8,
     pub count: usize,
@@ -43,7 +43,7 @@ pub struct Ready {
 }
 
 // A refusal's number, or 0; with the hashes of the schema's URIs, where it has no more than it may.
-#[derive(Drop)]
+#[derive(Clone, Copy)]
 pub struct Records {
     pub refusal: u8,
     pub entries: [u16; ENTRY_LIMIT],

@@ -1,4 +1,6 @@
 // Types by their codes: 1 to 5 a datatype, 9 to 13 range of datatype 1 to 5.
+#![tactic(auto)]
+
 ghost use Rattle.std.specs.Prelude.{◌≡◌, ◌<◌};
 ghost use Rattle.definitions.specs.Types.{leq_datatype, datatype_code, type_code};
 ghost use Rattle.codes.specs.Family.{family, own_datatype};

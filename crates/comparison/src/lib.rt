@@ -1,4 +1,6 @@
 // Equal and less: numbers by amount, date_times by seconds, strings by text and tag, URIs by bytes.
+#![tactic(auto)]
+
 ghost use Rattle.std.specs.Prelude.{◌≡◌, ◌&&◌, length};
 ghost use Rattle.definitions.specs.Limits.{ranks_width};
 ghost use Rattle.definitions.specs.Bytes.{same_bytes, unfilled};

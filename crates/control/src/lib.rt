@@ -1,4 +1,6 @@
 // The control's half of soundness (refusal 10): whether stack and bindings of a saved control are sound.
+#![tactic(auto)]
+
 ghost use Rattle.std.specs.Prelude.{◌≡◌, true, ◌≤◌, length};
 ghost use Rattle.definitions.specs.Reading.{read_script, parsed};
 ghost use Rattle.laws.specs.Walks.{Loads};

@@ -1,4 +1,5 @@
 // The data that all crates share: limits and widths, the saved run, and the answers of the calls.
+#![tactic(auto)]
 
 // Widths of fields and records, in bytes. `Limits` in specs/ has the same names and numbers.
 pub const TEXT_WIDTH: usize = 96;
@@ -164,14 +165,14 @@ pub const NOT_FETCHED: u8 = 22;
 pub const SHORT_BUFFER: u8 = 23;
 
 // What reading a record gives: the offset after it, or that it is malformed.
-#[derive(Drop)]
+#[derive(Clone, Copy)]
 pub enum Read {
     Next(usize),
     Malformed,
 }
 
 // A script item on the stack: the offset of its record in the script, and the tuple that an each block last used.
-#[derive(Drop)]
+#[derive(Clone, Copy)]
 pub struct SavedItem {
     pub at: u16,
     pub started: bool,
@@ -180,7 +181,7 @@ pub struct SavedItem {
 
 // The saved run (document 01's term), in the parts of the machine's state. The control: the stack from the bottom and the
 // bindings, with the reported types by document 01's codes.
-#[derive(Drop)]
+#[derive(Clone, Copy)]
 pub struct SavedControl {
     pub height: u16,
     pub types: [u8; VARIABLE_LIMIT],
@@ -190,21 +191,21 @@ pub struct SavedControl {
 }
 
 // The store, beside its tables: the number of quads in use, and the fetched list.
-#[derive(Drop)]
+#[derive(Clone, Copy)]
 pub struct SavedStore {
     pub quads: u16,
     pub graphs: u16,
     pub fetched: [u16; GRAPH_LIMIT],
 }
 
-#[derive(Drop)]
+#[derive(Clone, Copy)]
 pub struct SavedRun {
     pub control: SavedControl,
     pub store: SavedStore,
 }
 
 // A boolean of a script.
-#[derive(Drop)]
+#[derive(Clone, Copy)]
 pub enum Truth {
     True,
     False,
@@ -212,7 +213,7 @@ pub enum Truth {
 }
 
 // How a run call ends; the wanted graph goes by its term number.
-#[derive(Drop)]
+#[derive(Clone, Copy)]
 pub enum RunState {
     Ended,
     Wanted(u16),
@@ -223,38 +224,38 @@ pub enum RunState {
 // The answers of the calls: a refusal's number, or the result: steps and state of a run, the skipped count of a page, the total of
 // a script, the integer or the millionths that a text reads as, in two's complement, a variable and the code of the type to write at
 // it, the entries of a schema out of a page and the subjects left out, the length of a published page.
-#[derive(Drop)]
+#[derive(Clone, Copy)]
 pub enum LoadAnswer {
     Accepted,
     Refused(u8),
 }
 
-#[derive(Drop)]
+#[derive(Clone, Copy)]
 pub enum RunAnswer {
     Ran(u32, RunState),
     Refused(u8),
 }
 
-#[derive(Drop)]
+#[derive(Clone, Copy)]
 pub enum PageAnswer {
     Taken(u32),
     Refused(u8),
 }
 
-#[derive(Drop)]
+#[derive(Clone, Copy)]
 pub enum TotalAnswer {
     Total(u32),
     Refused(u8),
 }
 
-#[derive(Drop)]
+#[derive(Clone, Copy)]
 pub enum NumberAnswer {
     Integer(u64),
     Decimal(u64),
     Refused(u8),
 }
 
-#[derive(Drop)]
+#[derive(Clone, Copy)]
 pub enum SuggestAnswer {
     Accepted,
     Named(u8, u8),
@@ -262,32 +263,32 @@ pub enum SuggestAnswer {
     Refused(u8),
 }
 
-#[derive(Drop)]
+#[derive(Clone, Copy)]
 pub enum SchemaAnswer {
     Gathered(u32, u32),
     Refused(u8),
 }
 
-#[derive(Drop)]
+#[derive(Clone, Copy)]
 pub enum PublishAnswer {
     Published(u32),
     Refused(u8),
 }
 
 // An enum holds no array, so the saved run stands beside its answer.
-#[derive(Drop)]
+#[derive(Clone, Copy)]
 pub struct Loaded {
     pub answer: LoadAnswer,
     pub saved: SavedRun,
 }
 
-#[derive(Drop)]
+#[derive(Clone, Copy)]
 pub struct Ran {
     pub answer: RunAnswer,
     pub saved: SavedRun,
 }
 
-#[derive(Drop)]
+#[derive(Clone, Copy)]
 pub struct Paged {
     pub answer: PageAnswer,
     pub saved: SavedRun,

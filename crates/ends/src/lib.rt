@@ -1,4 +1,6 @@
 // Where the records of a script end, in one table for a call, so that a record is stepped over by one look.
+#![tactic(auto)]
+
 ghost use Rattle.std.specs.Prelude.{◌≡◌, ◌≤◌, ◌<◌, length};
 ghost use Rattle.definitions.specs.Limits.{script_limit};
 ghost use Rattle.laws.specs.Ends.{extent_of, after_in, end_at, EndsLent};

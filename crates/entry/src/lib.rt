@@ -1,4 +1,6 @@
 // What a call on a saved run begins with: refusals 1, 21 and 10, and what is found where none comes.
+#![tactic(auto)]
+
 ghost use Rattle.std.specs.Prelude.{◌≡◌, List, ℕ, length};
 ghost use Rattle.definitions.specs.Limits.{term_limit, quad_limit, term_table_width, quad_table_width};
 ghost use Rattle.definitions.specs.Saved.{terms_in};
@@ -24,7 +26,7 @@ use soundness::terms::terms_sound;
 use table::slots::used_terms;
 
 // A refusal's number and zeros; or 0, how many terms loading numbers, how many are in use, and the hashes of the schema's URIs.
-#[derive(Drop)]
+#[derive(Clone, Copy)]
 pub struct Entered {
     pub refusal: u8,
     pub loaded: usize,

@@ -1,4 +1,6 @@
 // The evaluator of tuples: what a run call is lent, and tuples for the block on top, from standard input; a line for each to standard output.
+#![tactic(auto)]
+
 mod evaluation;
 
 fn main() {

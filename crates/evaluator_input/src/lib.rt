@@ -1,4 +1,6 @@
 // The evaluator's input: what a run call is lent, then tuples. Ranks; the lengths of terms, schema and script; these three, both tables, the saved run and now.
+#![tactic(auto)]
+
 ghost use Rattle.std.specs.Prelude.{◌≡◌, ◌+◌, ◌≤◌, ◌<◌, length};
 ghost use Rattle.definitions.specs.Limits.{pair_limit};
 ghost use Rattle.definitions.specs.Exports.{words_from};
@@ -25,7 +27,7 @@ const STATION_WIDTH: usize = TERM_TABLE_WIDTH + QUAD_TABLE_WIDTH + SAVED_WIDTH +
 pub const INPUT_LIMIT: usize = CARD_LIMIT + STATION_WIDTH + TUPLE_LIMIT * TUPLE_WIDTH;
 
 // Whether an input may be evaluated.
-#[derive(Drop)]
+#[derive(Clone, Copy)]
 pub enum Shape {
     Whole,
     CutOff,
@@ -33,7 +35,7 @@ pub enum Shape {
 }
 
 // Where schema, script and term table begin.
-#[derive(Drop)]
+#[derive(Clone, Copy)]
 pub struct Starts {
     pub schema: usize,
     pub script: usize,

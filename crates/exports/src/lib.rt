@@ -1,4 +1,6 @@
 // The C interface: the calls as other programs link them, over the saved run as bytes and back.
+#![tactic(auto)]
+
 ghost use Rattle.std.specs.Prelude.{◌≡◌, List, ℕ};
 ghost use Rattle.definitions.specs.Outcome.{ok};
 ghost use Rattle.definitions.specs.Exports.{load_export, run_export, page_export, total_export, number_export, suggest_export, schema_export, publish_export};

@@ -8,7 +8,7 @@ ghost use Rattle.laws.specs.Lists.{up_from};
 use crate::NODES;
 
 // The parent of each node, which is not above it; a root is its own.
-#[derive(Drop)]
+#[derive(Clone, Copy)]
 pub struct Families {
     pub parents: [u8; NODES],
 }

@@ -1,11 +1,13 @@
 // The facts that a script's rules ask for: a union-find of type families, and the tables of facts.
+#![tactic(auto)]
+
 pub mod families;
 pub mod noting;
 
 use definitions::VARIABLE_LIMIT;
 
 // What a term of the script stands for: an open variable, or what has a least type that is known, by its code.
-#[derive(Drop)]
+#[derive(Clone, Copy)]
 pub enum Place {
     Variable(usize),
     Known(u8),
@@ -26,7 +28,7 @@ pub const EDGES: usize = VARIABLE_LIMIT * VARIABLE_LIMIT;
 pub const UNBOUND: u8 = 255;
 
 // What the typer answers: a refusal's number and zeros, or 0 and the reported type of each variable, 0 where no pair binds it.
-#[derive(Drop)]
+#[derive(Clone, Copy)]
 pub struct Answer {
     pub refusal: u8,
     pub types: [u8; VARIABLE_LIMIT],

@@ -12,7 +12,7 @@ use definitions::VARIABLE_LIMIT;
 
 // What a script's demands come to. Flags, for each variable: its datatype has to be integer; its range has to be decimal;
 // its type has to be a range. For each pair of variables: the first one is a property, and the second one its object.
-#[derive(Drop)]
+#[derive(Clone, Copy)]
 pub struct Tables {
     pub families: Families,
     pub low: [bool; VARIABLE_LIMIT],

@@ -5,13 +5,13 @@ use mathlib.Core.Path.{◌≡◌, ap, ◌∙◌}
 use native.Mathlib.Nat.{suc-sub-suc, sub-zero}
 use native.Mathlib.Omega.{arith}
 use lib.ListN.{length, drop, replicate, length-drop}
-use lib.Seq.{take_all_lem}
+use lib.Seq.{take_all}
 use Rattle.definitions.specs.Bytes.{part}
 use Rattle.laws.proofs.Bytes.{part_length}
 
 -- `&s[at..]`
 pub rest_part : (s : List ℕ) (at : ℕ) → part s at (length s - at) ≡ drop at s
-rest_part s at = take_all_lem (length s - at) (drop at s) (omega (arith, length-drop at s))
+rest_part s at = take_all (length s - at) (drop at s) (omega (arith, length-drop at s))
 
 -- `&s[at..at + n]`
 pub some-part : (s : List ℕ) (at n : ℕ) → part s at (at + n - at) ≡ part s at n

@@ -7,7 +7,7 @@ use mathlib.Core.Path.{◌≡◌, refl, sym, ap, ◌∙◌}
 use mathlib.Core.List.{List, [], ◌∷◌, ◌++◌, append_assoc, append-nil}
 use mathlib.Core.Option.{Option, none, some}
 use lib.ListN.{length, get_or, take, drop, length-append, drop_of_length-le}
-use lib.Seq.{take-suc, take_all_lem, drop-cons}
+use lib.Seq.{take-suc, take_all, drop-cons}
 use borrow.Author.Tests.{ne_eqb}
 use Rattle.definitions.specs.Limits.{text_width, entry_width, entry_limit}
 use Rattle.definitions.specs.Bytes.{part, filled}
@@ -219,7 +219,7 @@ module _ (page : List ℕ) (all : List Asking) (s : Subjects) (h : Noted page al
     pub putting-end : s.count ≤ i → new ≡ written (entries_of all) old
     unfolding written
     putting-end l =
-        let whole = ap (λ (us : List Text). schema_records (gathered_of all us).entries) (take_all_lem i (subjects_after [] all) (omega (arith, h.count))) in
+        let whole = ap (λ (us : List Text). schema_records (gathered_of all us).entries) (take_all i (subjects_after [] all) (omega (arith, h.count))) in
         let w = written_as p.list whole in
         let end : at ≡ length (schema_records (entries_of all)) = omega (arith, w.end) in
         w.list ∙ ap (λ (n : ℕ). schema_records (entries_of all) ++ drop n old) end

@@ -1,4 +1,6 @@
 // A schema out of a page (document 02, Ask 7): an entry for each subject that has a least datatype.
+#![tactic(auto)]
+
 pub mod entries; // entries.rt: the schema records of subjects
 
 ghost use Rattle.std.specs.Prelude.{◌≡◌};

@@ -1,4 +1,6 @@
 // Whether a number that a call is told is that of a graph: of a URI for a page (12), of a fetched one for a publish (22).
+#![tactic(auto)]
+
 ghost use Rattle.std.specs.Prelude.{◌≡◌, ◌&&◌, List, ◌≤◌, ltb, length, take};
 ghost use Rattle.std.proofs.Math.ListN.{get_elem?};
 ghost use Rattle.definitions.specs.Limits.{term_limit, graph_limit};

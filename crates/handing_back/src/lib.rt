@@ -1,5 +1,7 @@
 // What a call hands back at the C interface, all together: its number, and saved run, report or record where it takes them.
-ghost use Rattle.std.specs.Prelude.{◌≡◌};
+#![tactic(auto)]
+
+ghost use Rattle.std.specs.Prelude.{◌≡◌, length};
 ghost use Rattle.definitions.specs.Limits.{saved_width, run_report_width, page_report_width, total_report_width, number_record_width, suggest_report_width, schema_report_width, publish_report_width};
 ghost use Rattle.definitions.specs.Numbers.{load_number, run_number, page_number, total_number, result_number, term_read, suggest_number, schema_number, publish_number};
 ghost use Rattle.definitions.specs.Exports.{saved_after, run_report, page_report, total_report, record_after, suggest_report, schema_report, publish_report};
@@ -20,7 +22,7 @@ use suggest_report::write_suggest_report;
 // After a load: its number, and the saved run where nothing was refused.
 // Ruled out: a refused load that writes the saved run of zeros; one that returns 0 for a refused card.
 pub fn after_load(answer: LoadAnswer, first: SavedRun, saved: &mut [u8]) -> u32
-    requires* { do ⌜ (← ⟦saved.len()⟧) ≡ saved_width ⌝ }
+    requires { length saved.old ≡ saved_width }
     ensures value { result ≡ load_number answer }
     ensures saved_after { saved.new ≡ saved_after result first saved.old }
 {
@@ -32,8 +34,8 @@ pub fn after_load(answer: LoadAnswer, first: SavedRun, saved: &mut [u8]) -> u32
 // After a run: its number, the saved run where nothing was refused, and the report.
 // Ruled out: a run that writes the report on a refusal; one that leaves the saved run as it was.
 pub fn after_run(answer: RunAnswer, after: SavedRun, saved: &mut [u8], report: &mut [u8]) -> u32
-    requires* do_value { do ⌜ (← ⟦saved.len()⟧) ≡ saved_width ⌝ }
-    requires* do_value_2 { do ⌜ (← ⟦report.len()⟧) ≡ run_report_width ⌝ }
+    requires saved_len { length saved.old ≡ saved_width }
+    requires report_len { length report.old ≡ run_report_width }
     ensures value { result ≡ run_number answer }
     ensures saved_after { saved.new ≡ saved_after result after saved.old }
     ensures report_after { report.new ≡ run_report report.old answer }
@@ -47,8 +49,8 @@ pub fn after_run(answer: RunAnswer, after: SavedRun, saved: &mut [u8], report: &
 // After a page: its number, the saved run where nothing was refused, and the report.
 // Ruled out: a page that writes the saved run on a refusal; one that counts the skipped records of a refused page.
 pub fn after_page(answer: PageAnswer, kept: SavedRun, saved: &mut [u8], report: &mut [u8]) -> u32
-    requires* do_value { do ⌜ (← ⟦saved.len()⟧) ≡ saved_width ⌝ }
-    requires* do_value_2 { do ⌜ (← ⟦report.len()⟧) ≡ page_report_width ⌝ }
+    requires saved_len { length saved.old ≡ saved_width }
+    requires report_len { length report.old ≡ page_report_width }
     ensures value { result ≡ page_number answer }
     ensures saved_after { saved.new ≡ saved_after result kept saved.old }
     ensures report_after { report.new ≡ page_report report.old answer }
@@ -62,7 +64,7 @@ pub fn after_page(answer: PageAnswer, kept: SavedRun, saved: &mut [u8], report: 
 // After a total: its number and the report.
 // Ruled out: a total that returns 0 for a refused card; one that reports a refused card.
 pub fn after_total(answer: TotalAnswer, report: &mut [u8]) -> u32
-    requires* { do ⌜ (← ⟦report.len()⟧) ≡ total_report_width ⌝ }
+    requires { length report.old ≡ total_report_width }
     ensures value { result ≡ total_number answer }
     ensures report_after { report.new ≡ total_report report.old answer }
 {
@@ -73,7 +75,7 @@ pub fn after_total(answer: TotalAnswer, report: &mut [u8]) -> u32
 // After a number: the refusal and the record.
 // Ruled out: a record of a text that is refused; 0 for such a text.
 pub fn after_number(answer: NumberAnswer, record: &mut [u8]) -> u32
-    requires* { do ⌜ (← ⟦record.len()⟧) ≡ number_record_width ⌝ }
+    requires { length «record».old ≡ number_record_width }
     ensures value { result ≡ result_number (term_read answer) }
     ensures record_after { «record».new ≡ record_after «record».old (term_read answer) }
 {
@@ -84,7 +86,7 @@ pub fn after_number(answer: NumberAnswer, record: &mut [u8]) -> u32
 // After a suggestion: its number and the report.
 // Ruled out: a suggestion that returns 0 for a refused card; one that reports a refused card.
 pub fn after_suggest(answer: SuggestAnswer, report: &mut [u8]) -> u32
-    requires* { do ⌜ (← ⟦report.len()⟧) ≡ suggest_report_width ⌝ }
+    requires { length report.old ≡ suggest_report_width }
     ensures value { result ≡ suggest_number answer }
     ensures report_after { report.new ≡ suggest_report report.old answer }
 {
@@ -95,7 +97,7 @@ pub fn after_suggest(answer: SuggestAnswer, report: &mut [u8]) -> u32
 // After a schema out of a page: its number and the report.
 // Ruled out: a schema call that reports a refused page; one that returns 0 for such a page.
 pub fn after_schema(answer: SchemaAnswer, report: &mut [u8]) -> u32
-    requires* { do ⌜ (← ⟦report.len()⟧) ≡ schema_report_width ⌝ }
+    requires { length report.old ≡ schema_report_width }
     ensures value { result ≡ schema_number answer }
     ensures report_after { report.new ≡ schema_report report.old answer }
 {
@@ -106,7 +108,7 @@ pub fn after_schema(answer: SchemaAnswer, report: &mut [u8]) -> u32
 // After a publish: its number and the report.
 // Ruled out: a refused publish that returns 0; one that reports the length of a page that it does not write.
 pub fn after_publish(answer: PublishAnswer, report: &mut [u8]) -> u32
-    requires* { do ⌜ (← ⟦report.len()⟧) ≡ publish_report_width ⌝ }
+    requires { length report.old ≡ publish_report_width }
     ensures value { result ≡ publish_number answer }
     ensures report_after { report.new ≡ publish_report report.old answer }
 {

@@ -1,4 +1,6 @@
 // The joined input: where its terms and its schema end.
+#![tactic(auto)]
+
 ghost use Rattle.std.specs.Prelude.{◌≡◌, ◌+◌, ◌≤◌, length};
 ghost use Rattle.definitions.specs.Limits.{tag_width, text_width, printer_limit};
 ghost use Rattle.definitions.specs.Printer.{entry_body, end_from, terms_end};

@@ -1,4 +1,6 @@
 // A quad held as one number, its graph weighing most; keys in rising order, and the place of a number among them.
+#![tactic(auto)]
+
 ghost use Rattle.std.specs.Prelude.{◌≡◌, true, cond, ◌+◌, ◌≤◌, ◌<◌, length};
 ghost use Rattle.laws.specs.Quads.{place_limit};
 ghost use Rattle.keys.specs.Keys.{key_of, quad_of, keys_from, rising as is_rising, count_below, Splits};

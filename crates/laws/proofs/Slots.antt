@@ -7,7 +7,7 @@ use mathlib.Core.Path.{◌≡◌, refl, sym, ap, ap₂, subst, ◌∙◌}
 use native.Mathlib.Omega.{arith}
 use lib.Dec.{T, leb, eqb, le→leb}
 use lib.ListN.{length, take, drop, replicate, length-append, length-take, length-drop, take-append-drop}
-use lib.Seq.{take_at, drop_at, take_all_lem, drop-drop, drop-cons}
+use lib.Seq.{take_at, drop_at, take_all, drop-drop, drop-cons}
 use lib.IntN.{ℤ}
 use lib.Signed.{mag}
 use borrow.Author.Tests.{le-leb}
@@ -68,7 +68,7 @@ body-of (Term.string g t) v =
     let l = filled-length tag_width g v.0.fits in
     let e₀ : part (tag ++ text) 0 tag_width ≡ tag = take_at tag text tag_width l in
     let e₁ : part (tag ++ text) tag_width text_width ≡ text =
-    ap (take text_width) (drop_at tag text tag_width l) ∙ take_all_lem text_width text (omega (arith, filled-length text_width t v.1.fits)) in
+    ap (take text_width) (drop_at tag text tag_width l) ∙ take_all text_width text (omega (arith, filled-length text_width t v.1.fits)) in
     rw (e₀, e₁, field_of tag_byte (no_zero tag_byte tt) tag_width g v.0.good, field_of text_byte (no_zero text_byte tt) text_width t v.1.good)
 body-of (Term.integer n) v = number_of is_integer Term.integer n (within-limits integer_limit integer_limit n (omega arith) (omega arith) v) v
 body-of (Term.decimal n) v = number_of is_decimal Term.decimal n (within-limits decimal_limit decimal_limit n (omega arith) (omega arith) v) v
@@ -91,7 +91,7 @@ module _ (b : List ℕ) (t : Term) where
   unfolding body_of
   string-body l e =
       let s = string-inv b t e in
-      let rest : part b tag_width text_width ≡ drop tag_width b = take_all_lem text_width (drop tag_width b) (omega (arith, length-drop tag_width b)) in
+      let rest : part b tag_width text_width ≡ drop tag_width b = take_all text_width (drop tag_width b) (omega (arith, length-drop tag_width b)) in
       let whole : filled tag_width s.0 ++ filled text_width s.1 ≡ b = ap₂ ◌++◌ s.3.whole (s.4.whole ∙ rest) ∙ take-append-drop tag_width b in
       rw s.2 (refl, whole)
 

@@ -2,7 +2,6 @@
 use Prim.Native.Nat.{ℕ, zero, suc, ◌+◌, ◌<◌}
 use native.Mathlib.Omega.{arith}
 use native.Mathlib.Nat.{add-zero}
-use borrow.Author.Rules.{zero≤}
 use mathlib.Core.Path.{◌≡◌, refl, sym, ap, ◌∙◌}
 use mathlib.Core.List.{List, map}
 use mathlib.Core.Bool.{Bool}
@@ -35,4 +34,4 @@ made-same f g h = made-is (f 0) f (map g variables) refl (λ v k. h v k ∙ sym 
 
 -- a test of the variables
 pub every-variable : (p : ℕ → Bool) → T (every p variables) → (v : ℕ) → v < variable_limit → T (p v)
-every-variable p h v l = every_in p 0 variable_limit h v zero≤ l
+every-variable p h v l = every_in p 0 variable_limit h v (omega arith) l

@@ -5,7 +5,7 @@ use native.Mathlib.Numerals.{add-one}
 use mathlib.Core.Path.{◌≡◌, refl, ap, sym, ◌∙◌}
 use mathlib.Core.List.{List, [], ◌∷◌, ◌++◌, map, append_assoc, append-nil}
 use lib.ListN.{length, set, get_or, take, drop, length-map, length-append, length-drop}
-use lib.Seq.{take-suc, take_all_lem, take-length, take_at, drop_at, drop-drop, length-take-le}
+use lib.Seq.{take-suc, take_all, take-length, take_at, drop_at, drop-drop, length-take-le}
 use Rattle.laws.proofs.Fill.{write-next, write_done}
 
 -- ── element by element: what a function makes of each of a list's ───────────────────────────
@@ -30,7 +30,7 @@ module _ {A B : Type 0} (f : A → B) (from : List A) (old : List B) where
 
   -- all are
   pub map-all : (array : List B) (i : ℕ) → length from ≤ i → length old ≤ i → array ≡ mapped i → array ≡ map f from
-  map-all array i h k e = write_done old array (map f (take i from)) i k e ∙ ap (map f) (take_all_lem i from h)
+  map-all array i h k e = write_done old array (map f (take i from)) i k e ∙ ap (map f) (take_all i from h)
 
 -- a list copied over one of the same length
 pub copied : {A : Type 0} (from old : List A) → length from ≡ length old → take (length from) from ++ drop (length from) old ≡ from
@@ -103,7 +103,7 @@ module _ {A B : Type 0} (f : A → List B) where
   -- all parts are
   pub put-joined-all : {old array : List B} {at : ℕ} (l : List A) (i : ℕ) → Put old array (joined (take i l)) at → length l ≤ i → length old ≤ at
       → array ≡ joined l
-  put-joined-all l i p h k = put_all p k ∙ ap joined (take_all_lem i l h)
+  put-joined-all l i p h k = put_all p k ∙ ap joined (take_all i l h)
 
 -- two elements between two lists
 pub two-between : {A : Type 0} (l m : List A) (x y : A) → ((l ++ (x ∷ [])) ++ (y ∷ [])) ++ m ≡ l ++ (x ∷ y ∷ m)

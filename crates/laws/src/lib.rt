@@ -1,1 +1,2 @@
 // Laws about the definitions that several crates cite. No code.
+#![tactic(auto)]

@@ -1,11 +1,13 @@
 // The saved run as bytes and back.
+#![tactic(auto)]
+
 pub mod reading;
 pub mod writing;
 
 use definitions::SavedRun;
 
 // What reading a saved run's bytes gives; an enum holds no array.
-#[derive(Drop)]
+#[derive(Clone, Copy)]
 pub struct SavedRead {
     pub ok: bool,
     pub saved: SavedRun,

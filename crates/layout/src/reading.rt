@@ -18,7 +18,7 @@ use store::bare::{bare_run, zero_item};
 
 // As many 2-byte numbers from an offset on as there are places for them.
 fn read_words(b: &[u8], at: usize, out: &mut [u16])
-    requires* { do ⌜ at + 2 * (← ⟦out.len()⟧) ≤ (← ⟦b.len()⟧) ⌝ }
+    requires { at + 2 * length out.old ≤ length b.now }
     ensures { out.new ≡ words_from (length out.old) b.now at }
 {
     let mut i = 0;
@@ -44,7 +44,7 @@ fn marks_good(marks: &[u8]) -> bool
 }
 
 fn read_marks(marks: &[u8], out: &mut [bool])
-    requires* { do ⌜ (← ⟦out.len()⟧) ≡ (← ⟦marks.len()⟧) ⌝ }
+    requires { length out.old ≡ length marks.now }
     ensures { out.new ≡ map (eqb 1) marks.now }
 {
     let mut i = 0;

@@ -25,7 +25,7 @@ pub fn write_number(n: u64, out: &mut [u8])
 
 // A number in two bytes.
 pub fn write_word(n: u16, out: &mut [u8])
-    requires* { do ⌜ (← ⟦out.len()⟧) ≡ 2 ⌝ }
+    requires { length out.old ≡ 2 }
     ensures { out.new ≡ little_bytes 2 n }
 {
     write_number(n as u64, out);
@@ -33,7 +33,7 @@ pub fn write_word(n: u16, out: &mut [u8])
 
 // Numbers one after the other.
 fn write_words(numbers: &[u16], out: &mut [u8])
-    requires* { do ⌜ (← ⟦out.len()⟧) ≡ 2 * (← ⟦numbers.len()⟧) ⌝ }
+    requires { length out.old ≡ 2 * length numbers.now }
     ensures { out.new ≡ words numbers.now }
 {
     let mut at = 0;
@@ -53,7 +53,7 @@ fn mark(b: bool) -> u8
 }
 
 fn write_marks(marks: &[bool], out: &mut [u8])
-    requires* { do ⌜ (← ⟦out.len()⟧) ≡ (← ⟦marks.len()⟧) ⌝ }
+    requires { length out.old ≡ length marks.now }
     ensures { out.new ≡ map mark_of marks.now }
 {
     let mut i = 0;
@@ -64,7 +64,7 @@ fn write_marks(marks: &[bool], out: &mut [u8])
 }
 
 fn write_item(item: SavedItem, out: &mut [u8])
-    requires* { do ⌜ (← ⟦out.len()⟧) ≡ item_width ⌝ }
+    requires { length out.old ≡ item_width }
     ensures { out.new ≡ item_bytes item }
 {
     let last = item.last;
@@ -75,7 +75,7 @@ fn write_item(item: SavedItem, out: &mut [u8])
 }
 
 fn write_items(items: [SavedItem; ITEM_LIMIT], out: &mut [u8])
-    requires* { do ⌜ (← ⟦out.len()⟧) ≡ depth_limit * item_width ⌝ }
+    requires { length out.old ≡ depth_limit * item_width }
     ensures { out.new ≡ items_bytes items }
 {
     let mut at = 0;
@@ -90,7 +90,7 @@ fn write_items(items: [SavedItem; ITEM_LIMIT], out: &mut [u8])
 
 // The saved run's bytes.
 pub fn write_saved(run: SavedRun, out: &mut [u8])
-    requires* { do ⌜ (← ⟦out.len()⟧) ≡ saved_width ⌝ }
+    requires { length out.old ≡ saved_width }
     ensures { out.new ≡ saved_bytes run }
 {
     let control = run.control;

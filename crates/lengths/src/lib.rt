@@ -1,4 +1,6 @@
 // The lengths of what is lent: refusal 1.
+#![tactic(auto)]
+
 ghost use Rattle.std.specs.Prelude.{◌≡◌, ◌&&◌, eqb, length};
 ghost use Rattle.definitions.specs.Limits.{term_table_width, quad_table_width, saved_width, run_report_width, page_report_width};
 ghost use Rattle.definitions.specs.Limits.{total_report_width, number_record_width, suggest_report_width, schema_report_width, publish_report_width};

@@ -1,4 +1,6 @@
 // The load call: refusals 1, 21 and 2 to 9, or both tables and the saved run.
+#![tactic(auto)]
+
 ghost use Rattle.std.specs.Prelude.{◌≡◌};
 ghost use Rattle.definitions.specs.Calls as Calls;
 ghost use Rattle.lengths.specs.Lent.{lent_of};

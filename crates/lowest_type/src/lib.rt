@@ -1,4 +1,6 @@
 // The lowest open variable at which a type does, and the lowest type that does there.
+#![tactic(auto)]
+
 ghost use Rattle.std.specs.Prelude.{◌≡◌, length, get_or, ◌<◌};
 ghost use Rattle.definitions.specs.Limits.{variable_limit};
 ghost use Rattle.definitions.specs.Types.{type_code, plain, any_uri, all_types};

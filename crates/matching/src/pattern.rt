@@ -96,7 +96,7 @@ fn next_row(pattern: &[u8], size: usize, b: u8, later: [bool; PLACES]) -> [bool;
 }
 
 // What a pattern finds in a text: whether it fits from the text's start on, and whether it fits anywhere.
-#[derive(Drop)]
+#[derive(Clone, Copy)]
 struct Found {
     front: bool,
     anywhere: bool,

@@ -1,4 +1,6 @@
 // The parts of a number's text: sign, digits, fraction and exponent.
+#![tactic(auto)]
+
 ghost use Rattle.std.specs.Prelude.{◌≡◌, ◌+◌, ◌-◌, ◌<◌, ◌≤◌, T, length, drop};
 ghost use Rattle.definitions.specs.Bytes.{byte};
 ghost use Rattle.definitions.specs.Numerals.{exponent_digits, is_digit, leading, after_sign, digits_at, fraction_at, exponent_at, natural_of};
@@ -11,7 +13,7 @@ use definitions::{NUMBER_TEXT_LIMIT, Read};
 const EXPONENT_DIGITS: usize = 2;
 
 // By how many places an exponent moves the point to the right and to the left, with the offset after it.
-#[derive(Drop)]
+#[derive(Clone, Copy)]
 pub enum Shift {
     By(usize, usize, usize),
     Malformed,

@@ -1,5 +1,7 @@
 // The record of the term that a number's text reads as.
-ghost use Rattle.std.specs.Prelude.{◌≡◌, ◌∷◌};
+#![tactic(auto)]
+
+ghost use Rattle.std.specs.Prelude.{◌≡◌, ◌∷◌, length};
 ghost use Rattle.definitions.specs.Bytes.{little_bytes};
 ghost use Rattle.definitions.specs.Numbers.{term_read};
 ghost use Rattle.definitions.specs.Limits.{number_width, number_record_width};
@@ -10,7 +12,7 @@ use layout::writing;
 
 // A number's record.
 fn write_record(kind: u8, n: u64, out: &mut [u8])
-    requires* { do ⌜ (← ⟦out.len()⟧) ≡ number_record_width ⌝ }
+    requires { length out.old ≡ number_record_width }
     ensures { out.new ≡ kind ∷ little_bytes number_width n }
 {
     out[0] = kind;
@@ -19,7 +21,7 @@ fn write_record(kind: u8, n: u64, out: &mut [u8])
 
 // The record of the term that a text reads as; a refused call leaves the record as it was.
 pub fn write_term(answer: NumberAnswer, out: &mut [u8])
-    requires* { do ⌜ (← ⟦out.len()⟧) ≡ number_record_width ⌝ }
+    requires { length out.old ≡ number_record_width }
     ensures { out.new ≡ record_after out.old (term_read answer) }
 {
     match answer {

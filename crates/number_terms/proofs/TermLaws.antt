@@ -10,7 +10,7 @@ use lib.Dec.{T, leb, leb→le, leb-suc-suc}
 use lib.IntN.{ℤ, pos, negsuc, neg_ℤ}
 use lib.ListN.{length, take, drop, length-append, length-replicate}
 use lib.Pow.{pow-add}
-use lib.Seq.{take_all_lem}
+use lib.Seq.{take_all}
 use borrow.Author.Tests.{lt-ltb, le-ltb, ne_eqb}
 use Rattle.definitions.specs.Limits.{integer_limit, decimal_limit}
 use Rattle.definitions.specs.Lists.{every}
@@ -83,7 +83,7 @@ module _ (minus : Bool) (ds : Text) (h : T (every is_digit ds)) where
   unfolding whole_amount integer_term
   integer-amount =
       let p = append-nil ds in
-      let e : front ds (length ds) ≡ natural_of ds = front-take 0 ds (length ds) (omega (arith, ap length p)) ∙ ap natural_of (ap (take (length ds)) p ∙ take_all_lem (length ds) ds (omega arith)) in
+      let e : front ds (length ds) ≡ natural_of ds = front-take 0 ds (length ds) (omega (arith, ap length p)) ∙ ap natural_of (ap (take (length ds)) p ∙ take_all (length ds) ds (omega arith)) in
       rw (← rest_end ds (length ds) (omega arith), e) (limited 999999999999 Term.integer minus (natural_of ds))
 
   module _ (up down keep : ℕ) (k : keep ≡ length ds + (6 + up) - down) where

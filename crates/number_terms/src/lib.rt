@@ -1,5 +1,7 @@
 // The term of a numeral. Its digits, before the point and after it, are lent as two texts. Nothing here wraps: a number is at most 10^18 before it
 // is multiplied by ten.
+#![tactic(auto)]
+
 ghost use Rattle.std.specs.Prelude.{◌≡◌, ◌++◌, ◌+◌, ◌-◌, ◌≤◌, ◌<◌, length};
 ghost use Rattle.definitions.specs.Limits.{number_text_limit, decimal_limit};
 ghost use Rattle.definitions.specs.Bytes.{signed};
@@ -13,7 +15,7 @@ use definitions::{DECIMAL_LIMIT, INTEGER_LIMIT, NO_SUCH_NUMBER, NumberAnswer};
 use number_parts::digit;
 
 // A number, if it is within a limit.
-#[derive(Drop)]
+#[derive(Clone, Copy)]
 pub enum Amount {
     Within(u64),
     Outside,

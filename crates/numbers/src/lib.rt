@@ -1,4 +1,6 @@
 // Numbers as makers print them: a text of 1 to 40 bytes read as an integer or a decimal.
+#![tactic(auto)]
+
 ghost use Rattle.std.specs.Prelude.{◌≡◌};
 ghost use Rattle.definitions.specs.Calls.{number_call};
 ghost use Rattle.definitions.specs.Numbers.{term_read};

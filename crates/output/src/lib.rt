@@ -1,4 +1,6 @@
 // Texts one after the other, into the bytes that a program puts out.
+#![tactic(auto)]
+
 ghost use Rattle.std.specs.Prelude.{[], ◌∷◌, ◌+◌, ◌≤◌, length};
 ghost use Rattle.definitions.specs.Values.{short_digits, natural_text};
 ghost use Rattle.output.specs.Written.{Written, number_room};

@@ -1,4 +1,6 @@
 // Reading a page: its records one by one, each beginning where the last one ended.
+#![tactic(auto)]
+
 ghost use Rattle.std.specs.Prelude.{true, ◌≡◌};
 ghost use Rattle.definitions.specs.Terms.{read_triple};
 ghost use Rattle.laws.specs.ReadAnswers.{is_some, next_of};
@@ -8,7 +10,7 @@ use definitions::OBJECT_OFFSET;
 use term_bodies::bodies::body_width;
 
 // A page from an offset on: the record there is the next one to be read.
-#[derive(Drop)]
+#[derive(Clone, Copy)]
 pub struct PageReader<'a> {
     pub page: &'a [u8],
     pub at: usize,

@@ -1,4 +1,6 @@
 // Whether a page record is well typed: its object by the schema entry of its property.
+#![tactic(auto)]
+
 ghost use Rattle.std.specs.Prelude.{◌≡◌, true};
 ghost use Rattle.std.proofs.Math.Option.{some};
 ghost use Rattle.definitions.specs.Types.{Datatype, datatype_code};

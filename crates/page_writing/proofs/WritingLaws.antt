@@ -9,7 +9,7 @@ use native.Mathlib.Numerals.{add-one}
 use borrow.Author.Tests.{lt-leb}
 use lib.Dec.{leb, le→leb}
 use lib.ListN.{length, get_or, take, drop, length-append, take-append-drop}
-use lib.Seq.{take-suc, take_all_lem}
+use lib.Seq.{take-suc, take_all}
 use Rattle.definitions.specs.Limits.{text_width, slot_width, object_offset}
 use Rattle.definitions.specs.Types.{Datatype}
 use Rattle.definitions.specs.Terms.{term_kind, of_term_kind}
@@ -172,7 +172,7 @@ unfolding keys_page page_of
 none_written t ks old = written_none old 0
 
 pub all-taken : (t ks : List ℕ) (i : ℕ) → length ks ≤ i → keys_page t (take i ks) ≡ keys_page t ks
-all-taken t ks i h = ap (keys_page t) (take_all_lem i ks h)
+all-taken t ks i h = ap (keys_page t) (take_all i ks h)
 
 pub page-written : (t ks : List ℕ) (i : ℕ) → length ks ≤ i → {old new : List ℕ} {at : ℕ} → Written (keys_page t (take i ks)) old new 0 at
     → new ≡ keys_page t ks ++ drop (length (keys_page t ks)) old

@@ -1,4 +1,6 @@
 // The page of keys: their records put into order, and written one after the other.
+#![tactic(auto)]
+
 ghost use Rattle.std.specs.Prelude.{◌≡◌, true, ◌++◌, ◌+◌, ◌≤◌, ◌<◌, length, drop};
 ghost use Rattle.definitions.specs.Limits.{slot_width, quad_limit};
 ghost use Rattle.output.specs.Written.{Written};

@@ -1,4 +1,6 @@
 // Taking in pages: a page's records one by one, their terms numbered, their quads put in order.
+#![tactic(auto)]
+
 pub mod triples; // triples.rt: taking in a page
 pub mod intake; // intake.rt: a page call on copies of both tables
 
@@ -14,7 +16,7 @@ pub const RECORD_LIMIT: usize = PAGE_LIMIT / LEAST_RECORD_WIDTH;
 pub const GATHERED_LIMIT: usize = QUAD_LIMIT + RECORD_LIMIT;
 
 // The numbers of a triple's terms, and how many terms there then are.
-#[derive(Drop)]
+#[derive(Clone, Copy)]
 pub struct Numbers {
     pub subject: u16,
     pub property: u16,
@@ -23,7 +25,7 @@ pub struct Numbers {
 }
 
 // Terms, keys of the page's quads, and skipped records so far.
-#[derive(Drop)]
+#[derive(Clone, Copy)]
 pub struct Counts {
     pub terms: usize,
     pub keys: usize,
@@ -31,7 +33,7 @@ pub struct Counts {
 }
 
 // What a page call gives: its answer, and the saved store after it.
-#[derive(Drop)]
+#[derive(Clone, Copy)]
 pub struct AfterPage {
     pub answer: PageAnswer,
     pub store: SavedStore,

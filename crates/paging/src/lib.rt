@@ -1,4 +1,6 @@
 // The page call: refusals 1, 10, 12, 13 and 14 in this order, then the page taken in on copies of both tables.
+#![tactic(auto)]
+
 ghost use Rattle.std.specs.Prelude.{◌≡◌, List, ℕ};
 ghost use Rattle.definitions.specs.Calls.{page_in, page_call};
 ghost use Rattle.laws.specs.ReadAnswers.{is_some};

@@ -1,4 +1,6 @@
 // Patterns and language ranges: text fields filled with zeros, checked byte by byte.
+#![tactic(auto)]
+
 ghost use Rattle.std.specs.Prelude.{◌≡◌, ◌+◌, ◌-◌, ◌≤◌, length};
 ghost use Rattle.definitions.specs.Limits.{pattern_width, language_range_width};
 ghost use Rattle.definitions.specs.Bytes.{part, all_zero};

@@ -1,4 +1,6 @@
 // The place of a record of kinds 71 to 74 in a script that reads well.
+#![tactic(auto)]
+
 ghost use Rattle.std.specs.Prelude.{◌≡◌, true, ◌+◌, ◌<◌};
 ghost use Rattle.definitions.specs.Reading.{read_script, parsed};
 ghost use Rattle.definitions.specs.Saved.{place_from};
@@ -10,14 +12,14 @@ use definitions::{DEPTH_LIMIT, QUERY_OFFSET};
 use walks::{after_name, after_query};
 
 // The depth of a record, the root's being 1, or that there is none.
-#[derive(Drop)]
+#[derive(Clone, Copy)]
 pub enum Place {
     At(u8),
     Nowhere,
 }
 
 // The offset after what was walked, and the place.
-#[derive(Drop)]
+#[derive(Clone, Copy)]
 pub struct Placed {
     pub next: usize,
     pub place: Place,

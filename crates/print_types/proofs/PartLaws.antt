@@ -5,7 +5,7 @@ use mathlib.Core.Path.{◌≡◌, refl, sym, ap, ◌∙◌}
 use mathlib.Core.Logic.{⊎_elim}
 use mathlib.Core.List.{List, [], ◌∷◌}
 use lib.ListN.{length, take, drop, length-drop}
-use lib.Seq.{take_all_lem, take-nil}
+use lib.Seq.{take_all, take-nil}
 use Rattle.laws.proofs.Ranges.{split}
 use Rattle.type_lines.proofs.Texts.{drop-out}
 
@@ -22,7 +22,7 @@ module _ (s : List ℕ) where
   take_min n =
       ⊎_elim
       (λ l. let e : min n (length s) ≡ length s = omega arith in
-      ap (λ (k : ℕ). take k s) e ∙ (take_all_lem (length s) s (omega arith) ∙ sym (take_all_lem n s l)))
+      ap (λ (k : ℕ). take k s) e ∙ (take_all (length s) s (omega arith) ∙ sym (take_all n s l)))
       (λ l. let e : min n (length s) ≡ n = omega arith in ap (λ (k : ℕ). take k s) e)
       (split (length s) n)
 
@@ -50,5 +50,5 @@ module _ (s : List ℕ) where
 
     pub last-part : take (length s - b) (drop b s) ≡ drop second s
     last-part =
-        take_all_lem (length s - b) (drop b s) (omega (arith, length-drop b s))
+        take_all (length s - b) (drop b s) (omega (arith, length-drop b s))
         ∙ (ap (λ (n : ℕ). drop n s) end ∙ drop_min second)

@@ -1,4 +1,6 @@
 // Document 01's type printer: terms, schema and script joined from standard input, their types to standard output.
+#![tactic(auto)]
+
 mod printing;
 
 fn main() {

@@ -1,4 +1,6 @@
 // The publish call: refusals 1, 10, 22 and 23 in this order, then the page of a graph.
+#![tactic(auto)]
+
 ghost use Rattle.std.specs.Prelude.{◌≡◌, List, ℕ};
 ghost use Rattle.definitions.specs.Calls.{publish_call};
 ghost use Rattle.lengths.specs.Lent.{lent_of};

@@ -1,4 +1,6 @@
 // The quad table: four 2-byte numbers for each quad, zeros after the last. In a call its quads are held as keys.
+#![tactic(auto)]
+
 ghost use Rattle.std.specs.Prelude.{◌≡◌, [], ◌∷◌, ◌+◌, ◌/◌, ◌%◌, ◌≤◌, ◌<◌, length};
 ghost use Rattle.definitions.specs.Limits.{quad_width, quad_limit, quad_table_width};
 ghost use Rattle.definitions.specs.Saved.{quad_bytes, quad_table, quad_at, quads_from};

@@ -1,4 +1,6 @@
 // Evaluating a query for one tuple; what a boolean may come to before all its variables are chosen; one pattern over the quads.
+#![tactic(auto)]
+
 pub mod eval;
 pub mod may; // may.rt: what a boolean may come to
 pub mod names;
@@ -8,7 +10,7 @@ use scan::Four;
 use values::Value;
 
 // What a search is told: how many terms loading numbers, how many are in use, how many quads are stored, and now in two's complement.
-#[derive(Drop)]
+#[derive(Clone, Copy)]
 pub struct Context {
     pub loaded: usize,
     pub count: usize,
@@ -17,28 +19,28 @@ pub struct Context {
 }
 
 // A name read from the script: the offset after it, and its code.
-#[derive(Drop)]
+#[derive(Clone, Copy)]
 pub struct NameRead {
     pub next: usize,
     pub code: usize,
 }
 
 // A pattern's four names.
-#[derive(Drop)]
+#[derive(Clone, Copy)]
 pub struct NamesRead {
     pub next: usize,
     pub codes: Four,
 }
 
 // A test on what stands in the script: the offset after it, and its answer.
-#[derive(Drop)]
+#[derive(Clone, Copy)]
 pub struct Test {
     pub next: usize,
     pub holds: bool,
 }
 
 // A boolean's truth, and how many records were evaluated for it.
-#[derive(Drop)]
+#[derive(Clone, Copy)]
 pub struct Judged {
     pub next: usize,
     pub truth: Truth,
@@ -46,7 +48,7 @@ pub struct Judged {
 }
 
 // Whether a query holds, and how many records were evaluated for it.
-#[derive(Drop)]
+#[derive(Clone, Copy)]
 pub struct Held {
     pub next: usize,
     pub holds: bool,
@@ -54,7 +56,7 @@ pub struct Held {
 }
 
 // An expression's value, and whether all its variables are known.
-#[derive(Drop)]
+#[derive(Clone, Copy)]
 pub struct Valued {
     pub next: usize,
     pub value: Value,

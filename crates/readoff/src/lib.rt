@@ -1,5 +1,7 @@
 // The verdict, read off the tables: no typing where two families are one, no greatest typing where something is left open,
 // else the greatest type of each variable.
+#![tactic(auto)]
+
 ghost use Rattle.std.specs.Prelude.{◌≡◌, length, get_or, ◌<◌, ◌||◌, not};
 ghost use Rattle.definitions.specs.Limits.{variable_limit};
 ghost use Rattle.definitions.specs.Types.{datatype_code, type_code};

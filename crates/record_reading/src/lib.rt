@@ -1,4 +1,6 @@
 // Records at an offset: the offset after one, or that it is malformed.
+#![tactic(auto)]
+
 ghost use Rattle.std.specs.Prelude.{◌≡◌};
 ghost use Rattle.definitions.specs.Terms.{of_term_kind, uri_at, read_term, read_entry, read_triple};
 ghost use Rattle.fields.specs.Answers.{has_room, body_from};

@@ -8,7 +8,7 @@ use mathlib.Core.Path.{◌≡◌, refl, sym, ap, ap₂, ◌∙◌, subst}
 use native.Mathlib.Omega.{arith}
 use lib.Dec.{leb}
 use lib.ListN.{length, take, drop, replicate, length-append, length-replicate, length-take}
-use lib.Seq.{take_all_lem, take_at, drop_at, take-append-le}
+use lib.Seq.{take_all, take_at, drop_at, take-append-le}
 use borrow.Author.Tests.{le-leb, lt-leb, leb-true}
 use Rattle.definitions.specs.Limits.{text_width, slot_width, entry_width, term_limit, term_table_width}
 use Rattle.definitions.specs.Lists.{distinct}
@@ -71,7 +71,7 @@ module _ (table : List ℕ) (n : ℕ) (ts : List Term) (h : HeldTerms table n ts
   -- all of them are there
   all_there : table ≡ table_of ts
   unfolding table_of
-  all_there = h.is ∙ ap term_table (sym (take_all_lem term_limit ts (omega (arith, h.count, h.few))))
+  all_there = h.is ∙ ap term_table (sym (take_all term_limit ts (omega (arith, h.count, h.few))))
 
   added-all : (Count n ≡ added_of ts) × (table ≡ table_of ts)
   unfolding added_of
@@ -196,7 +196,7 @@ full-more ts more l =
 module _ (ts : List Term) (v : All Valid ts) (m : ℕ) {table : List ℕ} where
   pub held-joined : m ≡ length ts → m ≤ term_limit → table ≡ table_of ts → HeldTerms table m ts
   unfolding table_of
-  held-joined e l f = record { is = f ∙ ap term_table (take_all_lem term_limit ts (omega (arith, e))); valid = v; count = sym e; few = l }
+  held-joined e l f = record { is = f ∙ ap term_table (take_all term_limit ts (omega (arith, e))); valid = v; count = sym e; few = l }
 
   pub held-added : Count m ≡ added_of ts → table ≡ table_of ts → HeldTerms table m ts
   held-added e f = let c = count-inv ts m e in held-joined c.0 (omega (arith, c.0, c.1)) f

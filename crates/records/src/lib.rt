@@ -1,17 +1,19 @@
 // Lists of term, schema and page records: how many there are, whether one is there twice, and the table that loading numbers.
+#![tactic(auto)]
+
 pub mod lists;
 pub mod numbering;
 pub mod schema;
 
 // Listed terms: a refusal's number and zero, or 0 and how many they are.
-#[derive(Drop)]
+#[derive(Clone, Copy)]
 pub struct Listed {
     pub refusal: u8,
     pub count: usize,
 }
 
 // A term's number, and how many terms there then are; above the limit where the table had no room.
-#[derive(Drop)]
+#[derive(Clone, Copy)]
 pub struct Joined {
     pub number: u16,
     pub terms: usize,

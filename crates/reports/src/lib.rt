@@ -1,6 +1,8 @@
 // Parts of what a call hands back at the C interface: the number of its answer; the report of a page, of a total, of a schema out of a page or of a published
 // page; and the saved run's bytes.
-ghost use Rattle.std.specs.Prelude.{◌≡◌};
+#![tactic(auto)]
+
+ghost use Rattle.std.specs.Prelude.{◌≡◌, length};
 ghost use Rattle.definitions.specs.Numbers.{load_number, run_number, page_number, total_number, result_number, term_read, suggest_number, schema_number, publish_number};
 ghost use Rattle.definitions.specs.Limits.{page_report_width, total_report_width, schema_report_width, publish_report_width, saved_width};
 ghost use Rattle.definitions.specs.Exports.{page_report, total_report, schema_report, publish_report, saved_after};
@@ -89,7 +91,7 @@ pub fn schema_number(answer: SchemaAnswer) -> u32
 
 // The skipped count; a refused call leaves the report as it was.
 pub fn write_page_report(answer: PageAnswer, out: &mut [u8])
-    requires* { do ⌜ (← ⟦out.len()⟧) ≡ page_report_width ⌝ }
+    requires { length out.old ≡ page_report_width }
     ensures { out.new ≡ page_report out.old answer }
 {
     let PageAnswer::Taken(skipped) = answer else {
@@ -100,7 +102,7 @@ pub fn write_page_report(answer: PageAnswer, out: &mut [u8])
 
 // The total; a refused call leaves the report as it was.
 pub fn write_total_report(answer: TotalAnswer, out: &mut [u8])
-    requires* { do ⌜ (← ⟦out.len()⟧) ≡ total_report_width ⌝ }
+    requires { length out.old ≡ total_report_width }
     ensures { out.new ≡ total_report out.old answer }
 {
     let TotalAnswer::Total(steps) = answer else {
@@ -111,7 +113,7 @@ pub fn write_total_report(answer: TotalAnswer, out: &mut [u8])
 
 // The published page's length; a refused call leaves the report as it was.
 pub fn write_publish_report(answer: PublishAnswer, out: &mut [u8])
-    requires* { do ⌜ (← ⟦out.len()⟧) ≡ publish_report_width ⌝ }
+    requires { length out.old ≡ publish_report_width }
     ensures { out.new ≡ publish_report out.old answer }
 {
     let PublishAnswer::Published(length) = answer else {
@@ -122,7 +124,7 @@ pub fn write_publish_report(answer: PublishAnswer, out: &mut [u8])
 
 // The number of entries, then the number of subjects left out; a refused call leaves the report as it was.
 pub fn write_schema_report(answer: SchemaAnswer, out: &mut [u8])
-    requires* { do ⌜ (← ⟦out.len()⟧) ≡ schema_report_width ⌝ }
+    requires { length out.old ≡ schema_report_width }
     ensures { out.new ≡ schema_report out.old answer }
 {
     let SchemaAnswer::Gathered(entries, left_out) = answer else {
@@ -135,7 +137,7 @@ pub fn write_schema_report(answer: SchemaAnswer, out: &mut [u8])
 // The saved run's bytes where nothing was refused, else those that were lent.
 // Ruled out: a refused call that writes its saved run; a call that leaves the bytes it was lent.
 pub fn hand_back(number: u32, run: SavedRun, saved: &mut [u8])
-    requires* { do ⌜ (← ⟦saved.len()⟧) ≡ saved_width ⌝ }
+    requires { length saved.old ≡ saved_width }
     ensures { saved.new ≡ saved_after number run saved.old }
 {
     if number == 0 {

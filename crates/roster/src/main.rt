@@ -1,4 +1,6 @@
 // The roster: cases of document 01's values, a line of output for each. docs/ROSTER.md says where the expected lines come from.
+#![tactic(auto)]
+
 mod arithmetic;
 mod comparisons;
 mod dates;

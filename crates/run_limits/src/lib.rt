@@ -1,4 +1,6 @@
 // The limits of what a run call is told (11): its budget, and now.
+#![tactic(auto)]
+
 ghost use Rattle.std.specs.Prelude.{◌≡◌, ◌&&◌, leb};
 ghost use Rattle.definitions.specs.Limits.{budget_limit};
 ghost use Rattle.definitions.specs.Bytes.{signed};

@@ -1,5 +1,7 @@
 // The report of a run: steps taken, state, the wanted graph.
-ghost use Rattle.std.specs.Prelude.{◌≡◌};
+#![tactic(auto)]
+
+ghost use Rattle.std.specs.Prelude.{◌≡◌, length};
 ghost use Rattle.definitions.specs.Numbers.{state_number, wanted_graph};
 ghost use Rattle.definitions.specs.Limits.{run_report_width};
 ghost use Rattle.definitions.specs.Exports.{run_report};
@@ -32,7 +34,7 @@ fn wanted_graph(state: RunState) -> u16
 
 // Steps taken, state, zero, the wanted graph; a refused call leaves the report as it was.
 pub fn write_run_report(answer: RunAnswer, out: &mut [u8])
-    requires* { do ⌜ (← ⟦out.len()⟧) ≡ run_report_width ⌝ }
+    requires { length out.old ≡ run_report_width }
     ensures { out.new ≡ run_report out.old answer }
 {
     let RunAnswer::Ran(steps, state) = answer else {

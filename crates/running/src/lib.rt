@@ -1,4 +1,6 @@
 // The run call: refusals 1, 21, 10 and 11 in this order, then the machine's steps.
+#![tactic(auto)]
+
 ghost use Rattle.std.specs.Prelude.{◌≡◌};
 ghost use Rattle.definitions.specs.Outcome.{ok};
 ghost use Rattle.definitions.specs.Calls.{run_call};

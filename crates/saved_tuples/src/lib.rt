@@ -1,4 +1,6 @@
 // Tuples on a saved run: what a run call begins with, then a line for each.
+#![tactic(auto)]
+
 ghost use Rattle.std.specs.Prelude.{◌≡◌, ◌*◌, ◌/◌, ◌≤◌, T, length};
 ghost use Rattle.definitions.specs.Limits.{saved_width};
 ghost use Rattle.definitions.specs.Bytes.{signed};

@@ -1,4 +1,6 @@
 // One pattern over the quads of rising keys: the least number that a quad gives the variable sought, from the stretch of keys where the pattern can fit.
+#![tactic(auto)]
+
 ghost use Rattle.std.specs.Prelude.{◌≡◌, ◌&&◌, true, ℕ, ◌+◌, ◌-◌, ◌≤◌, ◌<◌, length, get_or};
 ghost use Rattle.keys.specs.Keys.{quad_of, keys_from, rows_from, rising as is_rising, Splits};
 ghost use Rattle.scan.specs.Scan.{agrees, better as is_better, scan as is_scan};
@@ -25,7 +27,7 @@ const SUBJECT_SHIFT: u64 = 2 * PROPERTY_SHIFT;
 const GRAPH_SHIFT: u64 = 3 * PROPERTY_SHIFT;
 
 // Four numbers: a quad's, or the codes of a pattern's places.
-#[derive(Drop)]
+#[derive(Clone, Copy)]
 pub struct Four {
     pub graph: usize,
     pub subject: usize,
@@ -35,7 +37,7 @@ pub struct Four {
 
 // Where the keys lie that a pattern can fit, both ends within, so that no end is beyond the last key; rises: what their quads give rises with them;
 // whole: all of them fit.
-#[derive(Drop)]
+#[derive(Clone, Copy)]
 pub struct Stretch {
     pub low: u64,
     pub top: u64,
@@ -44,7 +46,7 @@ pub struct Stretch {
 }
 
 // The place sought, if there is one, by how many bits from the right its number stands.
-#[derive(Drop)]
+#[derive(Clone, Copy)]
 pub struct Given {
     pub sought: bool,
     pub shift: u64,

@@ -16,14 +16,14 @@ use definitions::{COUNT_OFFSET, DEPTH_LIMIT, PAIRS_OFFSET, QUERY_OFFSET, VARIABL
 use walks::{after_name, after_query};
 
 // Flags for the variables bound so far, and whether one was bound by two pairs.
-#[derive(Drop)]
+#[derive(Clone, Copy)]
 pub struct Bound {
     pub flags: [bool; VARIABLE_LIMIT],
     pub twice: bool,
 }
 
 // The offset after what was walked, and what is bound there.
-#[derive(Drop)]
+#[derive(Clone, Copy)]
 pub struct BoundAfter {
     pub next: usize,
     pub bound: Bound,

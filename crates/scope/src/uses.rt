@@ -9,7 +9,7 @@ ghost use Rattle.scope.specs.Uses.{with_uses};
 use definitions::{LANG_MATCHES_TEXT_OFFSET, REGEX_TEXT_OFFSET, VARIABLE_LIMIT};
 
 // The offset after what was walked, and the flags.
-#[derive(Drop)]
+#[derive(Clone, Copy)]
 pub struct Uses {
     pub next: usize,
     pub free: [bool; VARIABLE_LIMIT],

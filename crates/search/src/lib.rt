@@ -1,4 +1,6 @@
 // The search for answers, variable by variable.
+#![tactic(auto)]
+
 use definitions::PAIR_LIMIT;
 
 pub mod answer;
@@ -8,7 +10,7 @@ mod types;
 
 // A block as the search sees it: its query's offset, its variables with their types' codes, and the last
 // tuple, which counts where the search is told so.
-#[derive(Drop)]
+#[derive(Clone, Copy)]
 pub struct Block {
     pub at: usize,
     pub size: usize,
@@ -18,7 +20,7 @@ pub struct Block {
 }
 
 // A tuple, where there is one.
-#[derive(Drop)]
+#[derive(Clone, Copy)]
 pub struct Found {
     pub found: bool,
     pub tuple: [usize; PAIR_LIMIT],
@@ -26,7 +28,7 @@ pub struct Found {
 
 // One tuple tried: whether its terms have the variables' types, and then whether the query holds, and how many records were
 // evaluated for it.
-#[derive(Drop)]
+#[derive(Clone, Copy)]
 pub struct Tried {
     pub fits: bool,
     pub holds: bool,
@@ -34,7 +36,7 @@ pub struct Tried {
 }
 
 // The codes below a type's: its own, one other, and with ranges all of range(d).
-#[derive(Drop)]
+#[derive(Clone, Copy)]
 pub struct Under {
     pub own: u8,
     pub other: u8,

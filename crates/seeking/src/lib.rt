@@ -1,4 +1,5 @@
 // The seek: the least number of a variable with which a query may still hold, over the query as a whole and part by part.
+#![tactic(auto)]
 
 use definitions::VARIABLE_LIMIT;
 
@@ -18,14 +19,14 @@ pub const FILTER_BIT: usize = VARIABLE_LIMIT;
 pub const NO_BIT: usize = VARIABLE_LIMIT + 1;
 
 // What the seek finds at a query's record: the offset after it, and the least number.
-#[derive(Drop)]
+#[derive(Clone, Copy)]
 pub struct Sought {
     pub next: usize,
     pub least: usize,
 }
 
 // The parts of a query, and how many numbers they take.
-#[derive(Drop)]
+#[derive(Clone, Copy)]
 pub struct Parts {
     pub size: usize,
     pub list: [usize; PARTS_WIDTH],

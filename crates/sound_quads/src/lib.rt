@@ -1,4 +1,6 @@
 // The quads of a sound store: as many as the table holds, in order, and each well typed, by the codes of the least types of its terms.
+#![tactic(auto)]
+
 ghost use Rattle.std.specs.Prelude.{◌≡◌, ◌≤◌, length};
 ghost use Rattle.definitions.specs.Limits.{quad_table_width};
 ghost use Rattle.definitions.specs.Lists.{every};

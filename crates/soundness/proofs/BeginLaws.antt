@@ -7,7 +7,7 @@ use mathlib.Core.Bool.{Bool, true, false, not, ◌&&◌}
 use mathlib.Core.Option.{Option}
 use lib.Dec.{T}
 use lib.ListN.{length, take, drop, replicate}
-use lib.Seq.{take_all_lem, take_at, drop_at, take-append-le, take-length, take-append-add}
+use lib.Seq.{take_all, take_at, drop_at, take-append-le, take-length, take-append-add}
 use borrow.Author.Tests.{not-true, not-false}
 use Rattle.definitions.specs.Limits.{slot_width, term_table_width}
 use Rattle.definitions.specs.Bytes.{filled}
@@ -152,7 +152,7 @@ module _ (loading table : List ℕ) (loaded count : ℕ) (hl : HoldsTerms loadin
       let ks = terms loading loaded hl in
       let ts = terms table count ht in
       let b : begins_with ks.0 ts.0 ≡ true = rw (ks.1, ts.1) at (sym ea ∙ not-false a t) in
-      let all = take_all_lem (length ks.0) ts.0 (omega (arith, terms-length loading loaded hl, terms-length table count ht, e)) in
+      let all = take_all (length ks.0) ts.0 (omega (arith, terms-length loading loaded hl, terms-length table count ht, e)) in
       let same : ks.0 ≡ ts.0 = sym (begins-take ks.0 ts.0 (true_is (begins_with ks.0 ts.0) b)) ∙ all in
       let apart : distinct same_term ks.0 ≡ true = rw ks.1 at d in
       rw (ks.1, ts.1) (sym (ap₂ ◌&&◌ b (ap (distinct same_term) (sym same) ∙ apart)))

@@ -6,7 +6,7 @@ use mathlib.Core.Path.{◌≡◌, ap, sym, ◌∙◌}
 use mathlib.Core.List.{List}
 use mathlib.Core.Bool.{Bool, true, false, not, ◌&&◌}
 use lib.ListN.{length, get_or, take, drop, length-drop, drop_of_length-le}
-use lib.Seq.{drop-cons, take_all_lem}
+use lib.Seq.{drop-cons, take_all}
 use Rattle.definitions.specs.Lists.{every, some?, distinct}
 use Rattle.table.proofs.CountLaws.{none_of}
 
@@ -17,7 +17,7 @@ module _ {A : Type 0} (same : A → A → Bool) (l : List A) (i : ℕ) (d : A) (
 
   module _ (h : i < length l) {b : Bool} (e : b ≡ some? (same (get_or l i d)) (take (length l - (i + 1)) (drop (i + 1) l))) where
     again : some? (same (get_or l i d)) (drop (i + 1) l) ≡ b
-    again = sym (e ∙ ap (some? (same (get_or l i d))) (take_all_lem (length l - (i + 1)) (drop (i + 1) l) (omega (arith, length-drop (i + 1) l))))
+    again = sym (e ∙ ap (some? (same (get_or l i d))) (take_all (length l - (i + 1)) (drop (i + 1) l) (omega (arith, length-drop (i + 1) l))))
 
     distinct_from : distinct same (drop i l) ≡ not b && distinct same (drop (i + 1) l)
     distinct_from =

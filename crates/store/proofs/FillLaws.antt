@@ -6,7 +6,7 @@ use mathlib.Core.Path.{◌≡◌, refl, ap, sym, ◌∙◌}
 use mathlib.Core.List.{List, [], ◌∷◌, ◌++◌, map, map-append, map-id}
 use mathlib.Core.Bool.{Bool, true, false, ◌||◌}
 use lib.ListN.{length, set, get_or, take, drop, replicate, length-take, length-map, drop_of_length-le}
-use lib.Seq.{take-suc, take_all_lem, drop-cons, get_or-take}
+use lib.Seq.{take-suc, take_all, drop-cons, get_or-take}
 use Rattle.definitions.specs.Bytes.{filled}
 use Rattle.definitions.specs.Lists.{some?}
 use Rattle.definitions.specs.Scope.{variables}
@@ -60,7 +60,7 @@ pub copied-whole : (old : List ℕ) (n i count : ℕ) (array : List ℕ) → arr
     → array ≡ filled n (take count old)
 copied-whole old n i count array e h k l =
     copied_all old n i i array e refl (omega arith) (omega arith)
-    ∙ ap (filled n) (take_all_lem i old (omega arith) ∙ sym (take_all_lem count old (omega arith)))
+    ∙ ap (filled n) (take_all i old (omega arith) ∙ sym (take_all count old (omega arith)))
 
 -- a look through the first n of a list
 module _ {A : Type 0} (p : A → Bool) (l : List A) (n i : ℕ) (d : A) (size : n ≤ length l) where

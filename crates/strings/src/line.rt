@@ -7,7 +7,7 @@ ghost use Rattle.strings.specs.Lines.{Puts, last_digit};
 
 use definitions::TEXT_WIDTH;
 
-#[derive(Drop)]
+#[derive(Clone, Copy)]
 pub struct Line {
     pub bytes: [u8; TEXT_WIDTH],
     pub len: usize,

@@ -1,4 +1,6 @@
 // The subjects of a page of which something is asked (document 02, Ask 7), and the least datatype that meets it: noted record by record.
+#![tactic(auto)]
+
 ghost use Rattle.std.specs.Prelude.{◌≡◌, true, List, ℕ, ◌+◌, ◌≤◌, ◌<◌, length};
 ghost use Rattle.std.proofs.Math.Option.{Option, some};
 ghost use Rattle.definitions.specs.Limits.{text_width, page_limit};
@@ -30,7 +32,7 @@ pub const SUBJECT_LIMIT: usize = PAGE_LIMIT / ASKING_WIDTH;
 
 // Subjects in the order of their first asking record: where the URI of each stands in the page, its slot's hash, and the code of the least
 // datatype that meets what is asked so far, 0 where there is none.
-#[derive(Drop)]
+#[derive(Clone, Copy)]
 pub struct Subjects {
     pub count: usize,
     pub offsets: [u16; SUBJECT_LIMIT],
@@ -39,7 +41,7 @@ pub struct Subjects {
 }
 
 // Whether all records of a page are good, and the subjects of which they ask something.
-#[derive(Drop)]
+#[derive(Clone, Copy)]
 pub struct Noting {
     pub good: bool,
     pub subjects: Subjects,

@@ -1,5 +1,7 @@
 // The report of a suggestion: accepted, a type named, or that no single one would do.
-ghost use Rattle.std.specs.Prelude.{◌≡◌, [], ◌∷◌};
+#![tactic(auto)]
+
+ghost use Rattle.std.specs.Prelude.{◌≡◌, [], ◌∷◌, length};
 ghost use Rattle.definitions.specs.Limits.{suggest_report_width};
 ghost use Rattle.definitions.specs.Exports.{suggest_report};
 
@@ -7,7 +9,7 @@ use definitions::SuggestAnswer;
 
 // Three bytes and a zero.
 fn write_three(first: u8, second: u8, third: u8, out: &mut [u8])
-    requires* { do ⌜ (← ⟦out.len()⟧) ≡ suggest_report_width ⌝ }
+    requires { length out.old ≡ suggest_report_width }
     ensures { out.new ≡ first ∷ second ∷ third ∷ 0 ∷ [] }
 {
     out[0] = first;
@@ -19,7 +21,7 @@ fn write_three(first: u8, second: u8, third: u8, out: &mut [u8])
 // 0 accepted as it is, 1 a type is named, 2 no single one would do; the variable and the code; zero. A refused call leaves the
 // report as it was.
 pub fn write_suggest_report(answer: SuggestAnswer, out: &mut [u8])
-    requires* { do ⌜ (← ⟦out.len()⟧) ≡ suggest_report_width ⌝ }
+    requires { length out.old ≡ suggest_report_width }
     ensures { out.new ≡ suggest_report out.old answer }
 {
     match answer {

@@ -8,7 +8,7 @@ use native.Mathlib.Omega.{arith}
 use lib.Dec.{eqb, eqb→eq}
 use lib.IntN.{ℤ}
 use lib.ListN.{length, take}
-use lib.Seq.{take_all_lem}
+use lib.Seq.{take_all}
 use borrow.Author.Tests.{ne_eqb, not-true, not-false}
 use Rattle.definitions.specs.Limits.{text_width, tag_width, number_width}
 use Rattle.definitions.specs.Bytes.{part, little, signed, onward}
@@ -79,7 +79,7 @@ module _ (k : ℕ) (b : List ℕ) (l : length b ≡ width_of (of_term_kind k)) w
     pub number_is : {r : Bool} (low high v : ℕ) (make : ℤ → Term) → body_term (of_term_kind n) b ≡ number_term (within_limits low high) make b
         → v ≡ little (part b 0 number_width) → r ≡ within_limits low high (signed v) → r ≡ is_some (body_term (of_term_kind k) b)
     number_is low high v make m e f =
-        let all : part b 0 number_width ≡ b = take_all_lem number_width b (omega (arith, number-long)) in
+        let all : part b 0 number_width ≡ b = take_all number_width b (omega (arith, number-long)) in
         let v-is : v ≡ little b = e ∙ ap little all in
         let z : ℤ = signed (little b) in
         f ∙ ap (λ (v : ℕ). within_limits low high (signed v)) v-is ∙ sym (rw (q, m) (provided-is (within_limits low high z) (make z)))

@@ -8,7 +8,7 @@ use native.Mathlib.Omega.{arith}
 use lib.Dec.{T, eqb, leb}
 use lib.IntN.{ℤ, pos}
 use lib.ListN.{length, take, drop, replicate, length-drop, drop_of_length-le}
-use lib.Seq.{take-take, take-length, drop-drop, take_all_lem}
+use lib.Seq.{take-take, take-length, drop-drop, take_all}
 use mir.Syntax.{w64}
 use mir.Val.{SFits, to_z, of_z}
 use mir.Facts.{to_z-of_z}
@@ -120,7 +120,7 @@ module _ (f : List ℕ) (size : length f ≡ slot_width) where
   tag-part = take-take tag_width (tag_width + text_width) (drop 1 f) (omega arith)
 
   text-part : part (part f 1 (tag_width + text_width)) tag_width text_width ≡ part f (1 + tag_width) text_width
-  text-part = ap (λ l. take text_width (drop tag_width l)) (take_all_lem (tag_width + text_width) (drop 1 f) (omega (arith, length-drop 1 f))) ∙ ap (take text_width) (drop-drop tag_width 1 f)
+  text-part = ap (λ l. take text_width (drop tag_width l)) (take_all (tag_width + text_width) (drop 1 f) (omega (arith, length-drop 1 f))) ∙ ap (take text_width) (drop-drop tag_width 1 f)
 
   pub string-holds : byte f 0 ≡ 18 → (x y : List ℕ) → x ≡ part f 1 tag_width → y ≡ part f (1 + tag_width) text_width → (t : Term) → slot_term f ≡ some t
       → Holds (record { kind = 2; present = true; number = pos 0; tag = x; text = y }) (value_of t)

@@ -1,4 +1,6 @@
 // The order of texts: by a rank of their bytes, the end first.
+#![tactic(auto)]
+
 ghost use Rattle.std.specs.Prelude.{◌≡◌, T, length};
 ghost use Rattle.definitions.specs.Limits.{ranks_width};
 ghost use Rattle.definitions.specs.Lists.{every};

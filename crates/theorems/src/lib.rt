@@ -1,1 +1,2 @@
 // The demands and what they rest on, as theorems. No code.
+#![tactic(auto)]

@@ -1,4 +1,6 @@
 // How long a script takes: its records of kinds 71 to 74, where no each block is among them.
+#![tactic(auto)]
+
 ghost use Rattle.std.specs.Prelude.{◌≡◌, true};
 ghost use Rattle.definitions.specs.Reading.{read_script, parsed};
 ghost use Rattle.definitions.specs.Total.{script_records, has_each};
@@ -10,7 +12,7 @@ use definitions::{DEPTH_LIMIT, QUERY_OFFSET};
 use walks::{after_name, after_query};
 
 // The offset after what was walked, how many records of kinds 71 to 74 it has, and whether an each block is among them.
-#[derive(Drop)]
+#[derive(Clone, Copy)]
 pub struct Counts {
     pub next: usize,
     pub records: usize,

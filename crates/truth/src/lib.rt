@@ -1,4 +1,6 @@
 // Booleans of a script: true, false or unknown.
+#![tactic(auto)]
+
 ghost use Rattle.std.specs.Prelude.{◌≡◌, cond};
 ghost use Rattle.definitions.specs.Truth.{not_truth, and_truth, or_truth, is_true};
 ghost use Rattle.truth.specs.Told.{told_of};

@@ -1,4 +1,6 @@
 // The evaluator's lines, each after the other.
+#![tactic(auto)]
+
 ghost use Rattle.std.specs.Prelude.{◌++◌, ◌+◌, ◌≤◌, length};
 ghost use Rattle.definitions.specs.Ascii.{ascii};
 ghost use Rattle.definitions.specs.Values.{natural_text};

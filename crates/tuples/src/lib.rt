@@ -1,4 +1,6 @@
 // Tuples tried on the block on top, a line for each.
+#![tactic(auto)]
+
 ghost use Rattle.std.specs.Prelude.{◌≡◌, ◌+◌, ◌*◌, ◌/◌, ◌≤◌, length};
 ghost use Rattle.definitions.specs.Limits.{script_limit};
 ghost use Rattle.definitions.specs.Bytes.{byte};

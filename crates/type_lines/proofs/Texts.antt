@@ -5,7 +5,7 @@ use native.Mathlib.Numerals.{add-one}
 use mathlib.Core.Path.{◌≡◌, refl, sym, ap, ◌∙◌}
 use mathlib.Core.List.{List, [], ◌∷◌, ◌++◌, append_assoc, append-nil}
 use lib.ListN.{length, take, drop, get_or}
-use lib.Seq.{take-suc, take_all_lem, drop-cons, length-take-le}
+use lib.Seq.{take-suc, take_all, drop-cons, length-take-le}
 use borrow.Author.Tests.{lt-ltb, le-ltb, ne_eqb}
 use Rattle.definitions.specs.Ascii.{ascii}
 use Rattle.definitions.specs.Values.{short_digits, natural_text}
@@ -93,7 +93,7 @@ lines_next codes i h =
 
 -- all
 pub lines-all : (codes : List ℕ) (i : ℕ) → length codes ≤ i → bound_lines 0 (take i codes) ≡ bound_lines 0 codes
-lines-all codes i h = ap (bound_lines 0) (take_all_lem i codes h)
+lines-all codes i h = ap (bound_lines 0) (take_all i codes h)
 
 -- none yet
 pub lines_none : (codes : List ℕ) → [] ≡ bound_lines 0 (take 0 codes)

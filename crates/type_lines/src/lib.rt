@@ -1,4 +1,6 @@
 // The printer's lines, written one after the other.
+#![tactic(auto)]
+
 ghost use Rattle.std.specs.Prelude.{◌≡◌, [], ◌∷◌, ◌+◌, ◌*◌, ◌≤◌, ◌<◌, length};
 ghost use Rattle.definitions.specs.Limits.{variable_limit};
 ghost use Rattle.definitions.specs.Values.{natural_text};

@@ -1,4 +1,6 @@
 // The typer: the types of a script's variables, or that there is no typing, or no greatest one.
+#![tactic(auto)]
+
 ghost use Rattle.std.specs.Prelude.{◌≡◌, true, length};
 ghost use Rattle.std.proofs.Math.Option.{some};
 ghost use Rattle.definitions.specs.Limits.{variable_limit};

@@ -1,4 +1,6 @@
 // Document 01, "Values": what expressions give, and arithmetic.
+#![tactic(auto)]
+
 ghost use Rattle.std.specs.Prelude.{T};
 ghost use Rattle.definitions.specs.Terms.{is_date_time};
 ghost use Rattle.definitions.specs.Values.{Value as Meant};
@@ -22,7 +24,7 @@ pub const INTEGER: u8 = 5;
 
 // What an expression gives: a value of a kind, or "no value" of that kind where present is false. A URI has a text, a
 // string tag and text, each filled with zeros; a decimal counts millionths, a date_time seconds.
-#[derive(Drop)]
+#[derive(Clone, Copy)]
 pub struct Value {
     pub kind: u8,
     pub present: bool,

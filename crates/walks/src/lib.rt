@@ -1,4 +1,6 @@
 // The offset after a name or a query that reads well.
+#![tactic(auto)]
+
 ghost use Rattle.definitions.specs.Reading.{read_name, read_query};
 ghost use Rattle.laws.specs.Walks.{Loads};
 ghost use Rattle.laws.specs.ReadAnswers.{Ends};

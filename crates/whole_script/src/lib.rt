@@ -1,4 +1,6 @@
 // A script as a whole (refusal 6): its records from the first byte to the last.
+#![tactic(auto)]
+
 ghost use Rattle.std.specs.Prelude.{◌≡◌};
 ghost use Rattle.definitions.specs.Reading.{parsed};
 ghost use Rattle.laws.specs.ReadAnswers.{is_some};

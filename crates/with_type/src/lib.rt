@@ -1,4 +1,6 @@
 // The tables of a script, as they would be with a type written at a variable that is open in them.
+#![tactic(auto)]
+
 ghost use Rattle.std.specs.Prelude.{◌≡◌, ◌<◌};
 ghost use Rattle.definitions.specs.Limits.{variable_limit};
 ghost use Rattle.codes.specs.TypeCodes.{type_of};
