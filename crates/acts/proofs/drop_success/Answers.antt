@@ -1,0 +1,10 @@
+use native.Mathlib.Omega.{arith}
+use Rattle.acts.proofs.StepLaws.{height-is, room, success-acts}
+use borrow.Author.Rules.{rules}
+use Rattle.acts.proofs.drop_success.Goals as goal
+
+pub pop-requires : goal.pop-requires
+pop-requires c = let x = c.requires.on_top in record { height_nonzero = omega (arith, height-is x); height_le_depth_limit = omega (arith, height-is x, room x) }
+
+pub returns : goal.returns
+returns c = λ x. success-acts x c.requires.at_value _ _ c.moved.ensures c.pop.ensures

@@ -1,0 +1,49 @@
+use native.Mathlib.Omega.{arith}
+use borrow.Author.Tests.{not-true, not-false}
+use Rattle.acts.proofs.StepLaws.{height-is, room, blocked, bound_by, bound-height, each-drops, each-enters}
+use borrow.Author.Rules.{rules}
+use Rattle.acts.proofs.enter_each.Goals as goal
+
+pub pop-requires : goal.pop-requires
+pop-requires c = let x = c.requires.on_top in record { height_nonzero = omega (arith, height-is x); height_le_depth_limit = omega (arith, height-is x, room x) }
+
+pub returns-then-not-found : goal.returns-then-not-found
+returns-then-not-found c =
+    λ x. each-drops x c.args.tuple _ c.pop.ensures _ c.moved.ensures c.args.found (not-true c.args.found c.if-not-found.true)
+
+pub overflow_add-second : goal.overflow_add-second
+overflow_add-second c = let b = blocked c.requires.on_top c.requires.at_value in omega (arith, b.reads.reads.room)
+
+pub overflow_add-pairs : goal.overflow_add-pairs
+overflow_add-pairs c = let b = blocked c.requires.on_top c.requires.at_value in omega (arith, b.reads.reads.room)
+
+pub bounds-script-second : goal.bounds-script-second
+bounds-script-second c = let b = blocked c.requires.on_top c.requires.at_value in omega (arith, b.reads.reads.room)
+
+pub bind_tuple-bound-requires : goal.bind_tuple-bound-requires
+bind_tuple-bound-requires c =
+    let b = blocked c.requires.on_top c.requires.at_value in record { count_in_bounds = omega (arith, b.reads.reads.room, b.four, c.index-count.ensures); count_le_pair_limit = omega (arith, b.four, c.index-count.ensures); by_index = λ k l. b.pairs16 k (omega (arith, c.index-count.ensures)) }
+
+pub overflow_cast-place : goal.overflow_cast-place
+overflow_cast-place c =
+    let x = c.requires.on_top in
+    let b = blocked x c.requires.at_value in
+    omega (arith, b.reads.reads.room, x.here.short)
+
+pub overflow_cast-body : goal.overflow_cast-body
+overflow_cast-body c =
+    let x = c.requires.on_top in
+    let b = blocked x c.requires.at_value in
+    omega (arith, c.requires.body_at b.reads, b.low, x.here.short)
+
+pub replace_and_push-requires : goal.replace_and_push-requires
+replace_and_push-requires c =
+    let x = c.requires.on_top in
+    let b = blocked x c.requires.at_value in
+    let h = bound-height x b c.args.tuple _ (bound_by x b c.args.tuple _ c.index-count.ensures _ c.bind_tuple-bound.ensures) in record { height_nonzero = omega arith; height_lt_depth_limit = omega (arith, b.room2) }
+
+pub returns : goal.returns
+returns c =
+    λ x. let b = blocked x c.requires.at_value in
+    each-enters x b c.args.tuple _ c.requires.body_at _ (bound_by x b c.args.tuple _ c.index-count.ensures _ c.bind_tuple-bound.ensures) _ c.first_numbers-last.ensures _
+    c.fresh_item-item.ensures _ c.replace_and_push.ensures _ c.moved-2.ensures c.args.found (not-false c.args.found c.if-not-found.false)

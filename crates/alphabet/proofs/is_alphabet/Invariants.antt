@@ -1,0 +1,12 @@
+use Prim.Native.Nat.{◌-◌}
+use native.Mathlib.Omega.{arith}
+use borrow.Author.Rules.{rules}
+use Rattle.definitions.specs.Limits.{ranks_width}
+use Rattle.alphabet.proofs.Pass.{Passed, pass-start, pass-ends, pass-large, pass-twice, pass-turn}
+use Rattle.alphabet.proofs.is_alphabet.Given as goal
+
+abbrev pub invariant-loop-i : goal.invariant-loop-i
+invariant-loop-i l = Passed l.ranks l.met l.i
+
+abbrev pub decreases-loop-i : goal.decreases-loop-i
+decreases-loop-i l = ranks_width - l.i

@@ -1,0 +1,22 @@
+use native.Mathlib.Omega.{arith}
+use mathlib.Core.Path.{refl}
+use Rattle.acts.specs.Steps.{on_top}
+use Rattle.acts.proofs.StepLaws.{height-is, room}
+use Rattle.answers.proofs.AnswerLaws.{block_room, block-small, world-given, answers-given}
+use borrow.Author.Rules.{rules}
+use Rattle.answers.proofs.block_answer.Goals as goal
+
+pub top-item-requires : goal.top-item-requires
+top-item-requires c =
+    let x = on_top c.requires.top.0.here c.requires.top.1 in record { height_nonzero = omega (arith, height-is x); height_le_depth_limit = omega (arith, height-is x, room x) }
+
+pub block_of-block-requires : goal.block_of-block-requires
+block_of-block-requires c = record { block_width_in_bounds = block_room c.requires.top.0 c.requires.top.1 c.requires.at_value; by_index = block-small c.requires.top.0 c.requires.top.1 c.requires.at_value }
+
+pub answer-found-requires : goal.answer-found-requires
+answer-found-requires c = record { world = world-given c.requires.top.0 c.requires.top.1 c.requires.at_value c.top-item.result.last _ c.block_of-block.ensures; ends_lent = c.requires.ends_lent }
+
+pub returns : goal.returns
+returns c =
+    λ w t. answers-given w t c.requires.at_value c.top-item.result.last _ c.block_of-block.ensures _ c.known_of-free.ensures c.top-item.result.started c.top-item.result
+    c.top-item.ensures refl refl c.answer-found.result c.answer-found.ensures _ c.short_numbers-tuple.ensures

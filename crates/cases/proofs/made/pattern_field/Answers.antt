@@ -1,0 +1,8 @@
+-- `cases::made::pattern_field` meets its contract, by the law of a copy.
+use Rattle.cases.proofs.MadeLaws.{field-filled}
+use borrow.Author.Rules.{rules}
+use Rattle.definitions.specs.Limits.{pattern_width}
+use Rattle.cases.proofs.made.pattern_field.Goals as goal
+
+pub returns : goal.returns
+returns c = field-filled pattern_width c.args.pattern.now c.copy_from_slice.new.self c.copy_from_slice.ensures.after

@@ -1,0 +1,6 @@
+-- `cases::made::uri` meets its contract, by the contract of the field.
+use borrow.Author.Rules.{rules}
+use Rattle.cases.proofs.made.uri.Goals as goal
+
+pub returns : goal.returns
+returns c = rw (← c.text_field-bytes.ensures) c.uri_in.ensures

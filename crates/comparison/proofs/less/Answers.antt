@@ -1,0 +1,22 @@
+-- `comparison::less` meets its contract, by the laws of ComparisonLaws and OrderLaws.
+use Rattle.comparison.proofs.ComparisonLaws.{less-strings, less-numbers, less-date_times, less-uris}
+use mathlib.Core.Logic.{inl, inr}
+use borrow.Author.Rules.{rules}
+use Rattle.comparison.proofs.less.Goals as goal
+
+pub returns-in-2 : goal.returns-in-2
+returns-in-2 c =
+    less-strings c.args.a c.args.b _ c.told.ensures _ c.in-2.is c.string_before.ensures
+
+pub returns-in-3 : goal.returns-in-3
+returns-in-3 c =
+    less-numbers c.args.a c.args.b _ c.told-in-3.ensures c.in-3.is _ _ ⟪c₂.counted.ensures⟫ ⟪c₁.counted2.ensures⟫ _ c.is_less.ensures
+
+pub returns-in-4 : goal.returns-in-4
+returns-in-4 c =
+    less-date_times c.args.a c.args.b _ c.told-in-4.ensures c.requires.good c.requires.good_2 c.in-4.is _ c.is_less-in-4.ensures
+
+pub returns-in_default : goal.returns-in_default
+returns-in_default c =
+    less-uris c.args.a c.args.b _ c.told-in_default.ensures (λ k. c.in_default.in_default-own.rest.0.1 (inr k)) (λ k. c.in_default.in_default-own.rest.0.1 (inl k)) c.in_default.in_default-own.rest.1 c.in_default.in_default-own.rest.0.0.1 _
+    c.uri_before.ensures

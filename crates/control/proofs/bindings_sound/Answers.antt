@@ -1,0 +1,34 @@
+-- `control::bindings_sound` meets its contract.
+use Prim.Native.Nat.{◌-◌, ◌≤◌}
+use native.Mathlib.Omega.{arith}
+use borrow.Author.Rules.{rules}
+use borrow.Author.Tests.{not-true, not-false}
+use mathlib.Core.Path.{◌≡◌, refl, sym, ◌∙◌}
+use lib.ListN.{drop}
+use Rattle.definitions.specs.Lists.{every}
+use Rattle.definitions.specs.Scope.{variables}
+use Rattle.control.specs.Control.{binding_at, bindings_fit}
+use Rattle.control.proofs.BindingLaws.{variables-next, variables-stop, variables-done}
+use Rattle.control.proofs.bindings_sound.Goals as goal
+
+pub loop-v-init : goal.loop-v-init
+loop-v-init c = (refl, omega arith)
+
+pub returns-then-not-binding_sound : goal.returns-then-not-binding_sound
+unfolding bindings_fit
+returns-then-not-binding_sound c =
+    let a = c.args in
+    variables-stop (binding_at a.leasts.now a.count a.t3 a.t4 a.t5) c.loop-v.v c.loop-v.invariant.0 (omega arith)
+    (sym c.binding_sound.ensures ∙ not-true _ c.if-not-binding_sound.true)
+
+pub loop-v-preserved : goal.loop-v-preserved
+loop-v-preserved c =
+    let a = c.args in (
+      variables-next (binding_at a.leasts.now a.count a.t3 a.t4 a.t5) c.loop-v.v c.loop-v.invariant.0 (omega arith)
+          (sym c.binding_sound.ensures ∙ not-false _ c.if-not-binding_sound.false),
+      omega arith,
+    )
+
+pub returns : goal.returns
+unfolding bindings_fit
+returns c = let a = c.args in variables-done (binding_at a.leasts.now a.count a.t3 a.t4 a.t5) c.loop-v.v c.loop-v.invariant.0 (omega arith)

@@ -1,0 +1,33 @@
+-- `control::stack_sound` meets its contract.
+use Prim.Native.Nat.{◌≤◌}
+use native.Mathlib.Omega.{arith}
+use borrow.Author.Rules.{rules}
+use borrow.Author.Tests.{not-true, not-false}
+use mathlib.Core.Path.{◌≡◌, refl}
+use Rattle.definitions.specs.Reading.{parsed}
+use Rattle.laws.specs.ReadAnswers.{passes}
+use Rattle.control.specs.Control.{items_held}
+use Rattle.control.proofs.StackLaws.{stack-done, stack-stop, stack-turn}
+use Rattle.control.proofs.stack_sound.Goals as goal
+
+pub loop-place-init : goal.loop-place-init
+loop-place-init c = (refl, omega arith)
+
+pub returns-then-not-item_sound : goal.returns-then-not-item_sound
+returns-then-not-item_sound c =
+    let a = c.args in
+    stack-stop a.script.now a.loaded c.requires.script_value a.count a.bound a.t4 a.height c.loop-place.place c.loop-place.invariant.0 (omega arith) c.item_sound.ensures
+    (not-true _ c.if-not-item_sound.true)
+
+pub loop-place-preserved : goal.loop-place-preserved
+loop-place-preserved c =
+    let a = c.args in (
+      stack-turn a.script.now a.loaded c.requires.script_value a.count a.bound a.t4 a.height c.loop-place.place c.loop-place.invariant.0 (omega arith) c.item_sound.ensures
+          (not-false _ c.if-not-item_sound.false),
+      omega arith,
+    )
+
+pub returns : goal.returns
+returns c =
+    let a = c.args in
+    stack-done a.script.now a.loaded c.requires.script_value a.count a.bound a.t4 a.height c.loop-place.place c.loop-place.invariant.0 (omega arith)

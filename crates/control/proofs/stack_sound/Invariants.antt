@@ -1,0 +1,16 @@
+use Prim.Native.Nat.{◌≤◌}
+use native.Mathlib.Omega.{arith}
+use borrow.Author.Rules.{rules}
+use borrow.Author.Tests.{not-true, not-false}
+use mathlib.Core.Path.{◌≡◌, refl}
+use Rattle.definitions.specs.Reading.{parsed}
+use Rattle.laws.specs.ReadAnswers.{passes}
+use Rattle.control.specs.Control.{items_held}
+use Rattle.control.proofs.StackLaws.{stack-done, stack-stop, stack-turn}
+use Rattle.control.proofs.stack_sound.Given as goal
+
+abbrev pub invariant-loop-place : goal.invariant-loop-place
+invariant-loop-place l = (passes (items_held l.count l.bound l.items l.height) (parsed l.loaded l.script) ≡ passes (items_held l.count l.bound l.items l.place) (parsed l.loaded l.script)) × (l.place ≤ l.height)
+
+abbrev pub decreases-loop-place : goal.decreases-loop-place
+decreases-loop-place l = l.place

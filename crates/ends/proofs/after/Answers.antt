@@ -1,0 +1,18 @@
+-- `ends::after` meets its contract.
+use native.Mathlib.Omega.{arith}
+use mathlib.Core.Path.{refl}
+use borrow.Author.Rules.{rules}
+use borrow.Author.Tests.{lt-ltb, le-ltb}
+use Rattle.laws.specs.Ends.{after_in}
+use Rattle.ends.proofs.after.Goals as goal
+
+pub overflow_cast-result : goal.overflow_cast-result
+overflow_cast-result c = omega (arith, c.type_inv.ends c.args.at)
+
+pub returns-then-at-n : goal.returns-then-at-n
+unfolding after_in
+returns-then-at-n c = rw (lt-ltb _ _ c.if-at-n.true) refl
+
+pub returns : goal.returns
+unfolding after_in
+returns c = rw (le-ltb _ _ c.if-at-n.false) refl

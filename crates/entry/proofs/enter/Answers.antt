@@ -1,0 +1,24 @@
+-- `entry::enter` meets its contract: one law for each way through. Assumes nothing.
+use borrow.Author.Tests.{not-true, not-false}
+use Rattle.entry.proofs.EntryLaws.{wrong-length, no-alphabet, tests-go-on}
+use Rattle.lengths.proofs.TableLaws.{fit-ranks, fit-both}
+use borrow.Author.Rules.{rules}
+use Rattle.entry.proofs.enter.Goals as goal
+
+pub returns-then-not-tables_fit : goal.returns-then-not-tables_fit
+returns-then-not-tables_fit c = wrong-length _ c.tables_fit.ensures _ (not-true _ c.if-not-tables_fit.true) _ _ c.refused.ensures
+
+pub is_alphabet-requires : goal.is_alphabet-requires
+is_alphabet-requires c = fit-ranks _ c.tables_fit.ensures (not-false _ c.if-not-tables_fit.false)
+
+pub returns-then-not-is_alphabet : goal.returns-then-not-is_alphabet
+returns-then-not-is_alphabet c =
+    no-alphabet _ c.tables_fit.ensures (not-false _ c.if-not-tables_fit.false) _ c.is_alphabet.ensures (not-true _ c.if-not-is_alphabet.true) _ _ c.refused-then-not-is_alphabet.ensures
+
+pub sound-requires : goal.sound-requires
+sound-requires c =
+    let fit = fit-both _ c.tables_fit.ensures (not-false _ c.if-not-tables_fit.false) in record { table_len = fit.0; store_len = fit.1; keys_len = c.requires.keys_len; leasts_len = c.requires.leasts_len }
+
+pub returns : goal.returns
+returns c =
+    tests-go-on _ c.tables_fit.ensures (not-false _ c.if-not-tables_fit.false) _ c.is_alphabet.ensures (not-false _ c.if-not-is_alphabet.false) (c.sound.ensures _)

@@ -1,0 +1,23 @@
+-- By the shape of the input: what is too long, what is cut off, and else what its parts come to.
+use native.Mathlib.Omega.{arith}
+use Rattle.definitions.specs.Ascii.{ascii}
+use Rattle.definitions.specs.Printer.{line}
+use Rattle.output.proofs.WritingLaws.{written_as}
+use Rattle.evaluate.proofs.EvaluationLaws.{too_long, cut_off, whole-short, whole-uncut}
+use borrow.Author.Rules.{rules}
+use Rattle.evaluate.proofs.evaluation.evaluate.Goals as goal
+
+pub put_whole-requires : goal.put_whole-requires
+put_whole-requires c =
+    let e = c.shape_of.ensures in let w = c.in-Whole.is in record { input_len_bound = whole-short _ e w; input_value = whole-uncut _ e w; out_len = c.requires }
+
+pub returns-in-TooLong : goal.returns-in-TooLong
+unfolding ascii line
+returns-in-TooLong c = record { written = written_as c.put_text.ensures (too_long _ c.shape_of.ensures c.in-TooLong.is); upper_bound = omega (arith, c.put_text.ensures.end, c.requires) }
+
+pub returns-in-CutOff : goal.returns-in-CutOff
+unfolding ascii line
+returns-in-CutOff c = record { written = written_as c.put_text-in-CutOff.ensures (cut_off _ c.shape_of.ensures c.in-CutOff.is); upper_bound = omega (arith, c.put_text-in-CutOff.ensures.end, c.requires) }
+
+pub returns-in-Whole : goal.returns-in-Whole
+returns-in-Whole c = let whole = ⟪c₁.put_whole.ensures⟫ in record { written = whole.0; upper_bound = whole.1 }

@@ -1,0 +1,14 @@
+use Prim.Native.Nat.{ℕ, ◌≤◌, ◌<◌, ◌-◌}
+use native.Mathlib.Omega.{arith}
+use mathlib.Core.Path.{◌≡◌, refl}
+use lib.ListN.{length, get_or, length-set}
+use Rattle.laws.proofs.Fill.{filled_more}
+use Rattle.facts.specs.Tables.{node_limit}
+use Rattle.facts.proofs.UnionFind.{up_is}
+use Rattle.facts.proofs.families.Families.fresh.Given as goal
+
+abbrev pub invariant-loop-node : goal.invariant-loop-node
+invariant-loop-node l = (l.node ≤ node_limit) × (length l.parents ≡ node_limit) × ((k : ℕ) → k < l.node → get_or l.parents k 0 ≡ k)
+
+abbrev pub decreases-loop-node : goal.decreases-loop-node
+decreases-loop-node l = node_limit - l.node

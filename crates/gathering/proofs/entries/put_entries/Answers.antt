@@ -1,0 +1,37 @@
+-- `gathering::entries::put_entries` meets its contract. The entries of those before the place are written.
+use Prim.Native.Nat.{ℕ, ◌-◌, ◌≤◌}
+use native.Mathlib.Omega.{arith}
+use mathlib.Core.List.{List}
+use mathlib.Core.Path.{◌≡◌}
+use lib.ListN.{length}
+use Rattle.definitions.specs.Limits.{schema_width}
+use Rattle.definitions.specs.Gathering.{Asking}
+use Rattle.subjects.specs.Noted.{Noted}
+use Rattle.gathering.proofs.EntryLaws.{Putting, putting-first, putting-room, putting-next, putting-end}
+use borrow.Author.Rules.{rules}
+use Rattle.gathering.proofs.entries.put_entries.Goals as goal
+
+pub loop-i-init : goal.loop-i-init
+loop-i-init c = (omega arith, c.requires.schema_len, λ all h. putting-first _ _ _ h _)
+
+pub put_entry-at-requires : goal.put_entry-at-requires
+put_entry-at-requires c =
+    let h = c.requires.noted.1 in record {
+      text_width_in_bounds = omega (arith, c.number_index-field.ensures, h.within c.loop-i.i c.loop-i-test.true);
+      entry_width_in_bounds = λ n. omega
+          (arith, c.loop-i.invariant.1, putting-room _ _ _ h _ _ _ _ (c.loop-i.invariant.2 _ h) c.loop-i-test.true c.requires.noted.2 n);
+    }
+
+pub loop-i-preserved : goal.loop-i-preserved
+loop-i-preserved c = (
+  omega (arith, c.loop-i-test.true),
+  omega (arith, c.put_entry-at.auto, c.loop-i.invariant.1),
+  λ all h. putting-next _ _ _ h _ _ _ _ (c.loop-i.invariant.2 all h) c.loop-i-test.true
+      c.number_index-field.ensures (omega (arith, c.number_index-field.ensures, h.within c.loop-i.i c.loop-i-test.true)) c.put_entry-at.ensures,
+)
+
+pub shape_of-schema : goal.shape_of-schema
+shape_of-schema c = omega (arith, c.loop-i.invariant.1, c.requires.schema_len)
+
+pub returns : goal.returns
+returns c = λ all h. putting-end _ _ _ h _ _ _ _ (c.loop-i.invariant.2 all h) c.loop-i-test.false

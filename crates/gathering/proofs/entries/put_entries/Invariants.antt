@@ -1,0 +1,18 @@
+use Prim.Native.Nat.{ℕ, ◌-◌, ◌≤◌}
+use native.Mathlib.Omega.{arith}
+use mathlib.Core.List.{List}
+use mathlib.Core.Path.{◌≡◌}
+use lib.ListN.{length}
+use Rattle.definitions.specs.Limits.{schema_width}
+use Rattle.definitions.specs.Gathering.{Asking}
+use Rattle.subjects.specs.Noted.{Noted}
+use Rattle.gathering.proofs.EntryLaws.{Putting, putting-first, putting-room, putting-next, putting-end}
+use borrow.Author.Rules.{rules}
+use Rattle.gathering.proofs.entries.put_entries.Given as goal
+
+abbrev pub invariant-loop-i : goal.invariant-loop-i
+invariant-loop-i l =
+    (l.i ≤ l.initial.schema.count) × (length l.schema ≡ schema_width) × ((all : List Asking) → Noted l.page all l.initial.schema → Putting l.page all l.initial.schema l.subjects l.schema l.at l.i)
+
+abbrev pub decreases-loop-i : goal.decreases-loop-i
+decreases-loop-i l = l.initial.schema.count - l.i

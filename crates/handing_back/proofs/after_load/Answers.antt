@@ -1,0 +1,6 @@
+-- By what its callees ensure.
+use borrow.Author.Rules.{rules}
+use Rattle.handing_back.proofs.after_load.Goals as goal
+
+pub returns : goal.returns
+returns c = record { value = c.load_number-number.ensures; saved_after = c.hand_back.ensures }

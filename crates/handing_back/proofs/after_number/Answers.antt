@@ -1,0 +1,6 @@
+-- By what its callees ensure.
+use borrow.Author.Rules.{rules}
+use Rattle.handing_back.proofs.after_number.Goals as goal
+
+pub returns : goal.returns
+returns c = record { value = c.refusal_number.ensures; record_after = c.write_term.ensures }

@@ -1,0 +1,6 @@
+-- By what its callees ensure.
+use borrow.Author.Rules.{rules}
+use Rattle.handing_back.proofs.after_publish.Goals as goal
+
+pub returns : goal.returns
+returns c = record { value = c.publish_number.ensures; report_after = c.write_publish_report.ensures }

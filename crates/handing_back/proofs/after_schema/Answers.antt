@@ -1,0 +1,6 @@
+-- By what its callees ensure.
+use borrow.Author.Rules.{rules}
+use Rattle.handing_back.proofs.after_schema.Goals as goal
+
+pub returns : goal.returns
+returns c = record { value = c.schema_number.ensures; report_after = c.write_schema_report.ensures }

@@ -1,0 +1,6 @@
+-- By what its callees ensure.
+use borrow.Author.Rules.{rules}
+use Rattle.handing_back.proofs.after_suggest.Goals as goal
+
+pub returns : goal.returns
+returns c = record { value = c.suggest_number.ensures; report_after = c.write_suggest_report.ensures }

@@ -1,0 +1,8 @@
+-- `graph_of` meets its contract, by what a key is. Assumes nothing.
+use borrow.Author.Rules.{rules}
+use Rattle.keys.specs.Keys.{quad_of}
+use Rattle.keys.proofs.graph_of.Goals as goal
+
+pub returns : goal.returns
+unfolding quad_of
+returns c = search rules

@@ -1,0 +1,26 @@
+-- The loop: the marks before `i` have passed the test, so the rest decides.
+use Prim.Native.Nat.{◌≤◌, ◌-◌}
+use native.Mathlib.Omega.{arith}
+use mathlib.Core.Path.{◌≡◌}
+use borrow.Author.Rules.{rules}
+use borrow.Author.Tests.{le-leb, lt-leb}
+use lib.Dec.{leb}
+use lib.ListN.{length, drop, get_or}
+use Rattle.definitions.specs.Lists.{every}
+use Rattle.laws.proofs.EveryFrom.{every-next, every-stop, every-none}
+use Rattle.layout.proofs.reading.marks_good.Goals as goal
+
+pub returns-then-marks-i-gt1 : goal.returns-then-marks-i-gt1
+returns-then-marks-i-gt1 c =
+    let marks = c.args.marks.now in
+    every-stop (λ m. leb m 1) marks c.loop-i.i 0 c.loop-i.invariant.1 (omega arith) (lt-leb (get_or marks c.loop-i.i 0) 1 (omega arith))
+
+pub loop-i-preserved : goal.loop-i-preserved
+loop-i-preserved c =
+    let marks = c.args.marks.now in
+    let e = le-leb (get_or marks c.loop-i.i 0) 1 (omega arith) in
+    (omega arith, every-next (λ m. leb m 1) marks c.loop-i.i 0 c.loop-i.invariant.1 (omega arith) e)
+
+pub returns : goal.returns
+returns c =
+    every-none (λ m. leb m 1) c.args.marks.now c.loop-i.i 0 c.loop-i.invariant.1 (omega arith)

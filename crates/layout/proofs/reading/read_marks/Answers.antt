@@ -1,0 +1,17 @@
+-- The loop: the marks before `i` are read.
+use Prim.Native.Nat.{◌≤◌, ◌-◌}
+use native.Mathlib.Omega.{arith}
+use mathlib.Core.Path.{◌≡◌}
+use borrow.Author.Rules.{rules}
+use lib.Dec.{eqb}
+use lib.ListN.{length}
+use Rattle.laws.proofs.Writing.{mapped, map_next, map-all}
+use Rattle.layout.proofs.reading.read_marks.Goals as goal
+
+pub loop-i-preserved : goal.loop-i-preserved
+loop-i-preserved c =
+    (omega arith, search rules, map_next (eqb 1) _ _ _ _ 0 (omega arith) (omega arith) c.loop-i.invariant.2)
+
+pub returns : goal.returns
+returns c =
+    map-all (eqb 1) _ c.args.out.now _ c.loop-i.i (omega arith) (omega arith) c.loop-i.invariant.2

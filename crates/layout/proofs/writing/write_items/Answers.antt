@@ -1,0 +1,33 @@
+-- The loop: the items before `i` are written, in the bytes before `at`.
+use Prim.Native.Nat.{◌≤◌, ◌-◌, ◌*◌, ◌+◌}
+use native.Mathlib.Omega.{arith}
+use mathlib.Core.Path.{◌≡◌, ◌∙◌}
+use borrow.Author.Rules.{rules}
+use lib.ListN.{length, take}
+use Rattle.definitions.specs.Saved.{no_item}
+use Rattle.definitions.specs.Limits.{item_width}
+use Rattle.definitions.specs.Exports.{item_bytes}
+use Rattle.laws.proofs.Writing.{Put, put-none, joined, put-joined, put-joined-all}
+use Rattle.layout.proofs.JoinedBytes.{items-joined}
+use Rattle.layout.proofs.writing.write_items.Goals as goal
+
+pub loop-i-init : goal.loop-i-init
+loop-i-init c = (omega arith, search rules, search rules, put-none)
+
+pub loop-i-preserved : goal.loop-i-preserved
+loop-i-preserved c =
+    let items-length : length c.args.items ≡ 24 = search rules in
+    let n = items-length in
+    let part = c.write_item.new.out in
+    let end = c.loop-i.«at» + item_width in
+    let p =
+    put-joined item_bytes c.args.items c.loop-i.i no_item part end c.loop-i.invariant.3
+    (omega (arith, n)) (omega arith) (omega arith) c.write_item.ensures c.write_item.auto.1.0 in
+    (omega arith, omega arith, search rules, p)
+
+pub returns : goal.returns
+returns c =
+    let items-length : length c.args.items ≡ 24 = search rules in
+    let n = items-length in
+    put-joined-all item_bytes c.args.items c.loop-i.i c.loop-i.invariant.3 (omega (arith, n)) (omega arith)
+    ∙ items-joined c.args.items

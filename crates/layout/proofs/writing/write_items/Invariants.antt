@@ -1,0 +1,18 @@
+use Prim.Native.Nat.{◌≤◌, ◌-◌, ◌*◌, ◌+◌}
+use native.Mathlib.Omega.{arith}
+use mathlib.Core.Path.{◌≡◌, ◌∙◌}
+use borrow.Author.Rules.{rules}
+use lib.ListN.{length, take}
+use Rattle.definitions.specs.Saved.{no_item}
+use Rattle.definitions.specs.Limits.{item_width}
+use Rattle.definitions.specs.Exports.{item_bytes}
+use Rattle.laws.proofs.Writing.{Put, put-none, joined, put-joined, put-joined-all}
+use Rattle.layout.proofs.JoinedBytes.{items-joined}
+use Rattle.layout.proofs.writing.write_items.Given as goal
+
+abbrev pub invariant-loop-i : goal.invariant-loop-i
+invariant-loop-i l =
+    (l.i ≤ 24) × (l.at ≡ item_width * l.i) × (length l.out ≡ length l.items) × Put l.items l.out (joined item_bytes (take l.i l.initial.out)) l.at
+
+abbrev pub decreases-loop-i : goal.decreases-loop-i
+decreases-loop-i l = 24 - l.i

@@ -1,0 +1,26 @@
+-- The loop: the numbers before `i` are written, in the bytes before `at`.
+use Prim.Native.Nat.{◌≤◌, ◌-◌, ◌*◌, ◌+◌}
+use native.Mathlib.Omega.{arith}
+use mathlib.Core.Path.{◌≡◌, ◌∙◌}
+use borrow.Author.Rules.{rules}
+use lib.ListN.{length, take}
+use Rattle.definitions.specs.Bytes.{little_bytes}
+use Rattle.laws.proofs.Writing.{Put, put-none, joined, put-joined, put-joined-all}
+use Rattle.layout.proofs.JoinedBytes.{words-joined}
+use Rattle.layout.proofs.writing.write_words.Goals as goal
+
+pub loop-i-init : goal.loop-i-init
+loop-i-init c = (omega arith, search rules, search rules, put-none)
+
+pub loop-i-preserved : goal.loop-i-preserved
+loop-i-preserved c =
+    let part = c.write_word.new.out in
+    let end = c.loop-i.«at» + 2 in
+    let p =
+    put-joined (little_bytes 2) c.args.numbers.now c.loop-i.i 0 part end c.loop-i.invariant.3
+    (omega arith) (omega arith) (omega arith) c.write_word.ensures c.write_word.auto.1.0 in
+    (omega arith, omega arith, search rules, p)
+
+pub returns : goal.returns
+returns c =
+    put-joined-all (little_bytes 2) _ c.loop-i.i c.loop-i.invariant.3 (omega arith) (omega arith) ∙ words-joined _

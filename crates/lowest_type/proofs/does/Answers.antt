@@ -1,0 +1,7 @@
+-- `lowest_type::does` meets its contract. Assumes nothing.
+use Rattle.lowest_type.proofs.LowestLaws.{does-is}
+use borrow.Author.Rules.{rules}
+use Rattle.lowest_type.proofs.does.Goals as goal
+
+pub returns : goal.returns
+returns c = does-is _ _ _ _ c.with_type.ensures.0 c.read_off-answer.ensures

@@ -1,0 +1,35 @@
+-- `lowest_type::lowest_type` meets its contract. Invariant: the lowest type that does is the first from the place `i` on. The measure is what is left
+-- of the types. Assumes nothing.
+use Prim.Native.Nat.{◌≤◌, ◌-◌}
+use native.Mathlib.Omega.{arith}
+use mathlib.Core.Path.{◌≡◌}
+use lib.ListN.{length, drop}
+use Rattle.definitions.specs.Lists.{find}
+use Rattle.definitions.specs.Types.{all_types}
+use Rattle.definitions.specs.Suggest.{lowest_type}
+use Rattle.facts.specs.Codes.{all_written}
+use Rattle.lowest_type.specs.Does.{does_in}
+use Rattle.lowest_type.proofs.LowestLaws.{type-closed, type-open, type-found, type-next, type-none}
+use Rattle.lowest_type.proofs.lowest_type.Goals as goal
+
+pub returns-then-written-x-ne0 : goal.returns-then-written-x-ne0
+returns-then-written-x-ne0 c = type-closed _ c.requires.2 _ _ c.requires.1 c.if-written-x-ne0.true
+
+pub loop-i-init : goal.loop-i-init
+loop-i-init c = (omega arith, type-open _ c.requires.2 _ _ c.requires.1 c.if-written-x-ne0.false)
+
+pub does-requires : goal.does-requires
+does-requires c = c.requires
+
+pub returns-then-does : goal.returns-then-does
+returns-then-does c =
+    type-found _ c.requires.2 _ _ c.requires.1 c.loop-i.i c.loop-i.invariant.1 (omega arith) c.code_at-code.ensures c.does.ensures c.if-does.true
+
+pub loop-i-preserved : goal.loop-i-preserved
+loop-i-preserved c = (
+  omega arith,
+  type-next _ c.requires.2 _ _ c.requires.1 c.loop-i.i c.loop-i.invariant.1 (omega arith) c.code_at-code.ensures c.does.ensures c.if-does.false,
+)
+
+pub returns : goal.returns
+returns c = type-none _ c.requires.2 _ _ c.requires.1 c.loop-i.i c.loop-i.invariant.1 (omega arith)

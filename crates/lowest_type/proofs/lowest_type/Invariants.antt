@@ -1,0 +1,18 @@
+use Prim.Native.Nat.{◌≤◌, ◌-◌}
+use native.Mathlib.Omega.{arith}
+use mathlib.Core.Path.{◌≡◌}
+use lib.ListN.{length, drop}
+use Rattle.definitions.specs.Lists.{find}
+use Rattle.definitions.specs.Types.{all_types}
+use Rattle.definitions.specs.Suggest.{lowest_type}
+use Rattle.facts.specs.Codes.{all_written}
+use Rattle.lowest_type.specs.Does.{does_in}
+use Rattle.lowest_type.proofs.LowestLaws.{type-closed, type-open, type-found, type-next, type-none}
+use Rattle.lowest_type.proofs.lowest_type.Given as goal
+
+abbrev pub invariant-loop-i : goal.invariant-loop-i
+invariant-loop-i l =
+    let ws = all_written l.written in (l.i ≤ length all_types) × (lowest_type ws (does_in l.t ws) l.x ≡ find (does_in l.t ws l.x) (drop l.i all_types))
+
+abbrev pub decreases-loop-i : goal.decreases-loop-i
+decreases-loop-i l = length all_types - l.i

@@ -1,0 +1,10 @@
+use mathlib.Core.Path.{sym, ◌∙◌}
+use Rattle.machine.proofs.RunLaws.{look-each, look-steps}
+use borrow.Author.Rules.{rules}
+use Rattle.machine.proofs.run.look.Goals as goal
+
+pub returns-then-each_on_top : goal.returns-then-each_on_top
+returns-then-each_on_top c = λ w. look-each w.lends (sym (c.each_on_top.ensures w.lends.here) ∙ c.if-each_on_top.true)
+
+pub returns : goal.returns
+returns c = λ w. look-steps w.lends (sym (c.each_on_top.ensures w.lends.here) ∙ c.if-each_on_top.false) _ (c.step-next.ensures w)

@@ -1,0 +1,13 @@
+-- `machine::run::run_steps` meets its contract.
+use native.Mathlib.Omega.{arith}
+use borrow.Author.Rules.{rules}
+use Rattle.machine.proofs.run.run_steps.Goals as goal
+
+pub fill_ends-requires : goal.fill_ends-requires
+fill_ends-requires c = record { script_in_bounds = c.requires.script_len_bound; ends_len_bound = omega arith }
+
+pub take_steps-requires : goal.take_steps-requires
+take_steps-requires c = record { lends_store = c.requires.lends_store; ends_lent = c.fill_ends.ensures }
+
+pub returns : goal.returns
+returns c = c.take_steps.ensures

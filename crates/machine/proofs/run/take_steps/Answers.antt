@@ -1,0 +1,29 @@
+use borrow.Author.Rules.{rules}
+use Prim.Native.Nat.{◌-◌}
+use native.Mathlib.Omega.{arith}
+use mathlib.Core.Path.{refl}
+use borrow.Author.Tests.{not-true, not-false}
+use Rattle.answers.specs.Lends.{LendsStore}
+use Rattle.machine.proofs.RunLaws.{Going, sets-out, stored-now, steps_on, stops-here, spent-here}
+use Rattle.machine.proofs.run.take_steps.Goals as goal
+
+pub loop-steps-init : goal.loop-steps-init
+loop-steps-init c = λ w. sets-out w.lends _
+
+pub step-next-requires : goal.step-next-requires
+step-next-requires c = let p = ⟪c.before.before.before.before.before.before.before.before.requires⟫ in record { lends_store = stored-now p.0.lends _ _ _ (c.loop-steps.invariant p.0) p.0.stored; ends_lent = p.1 }
+
+pub returns-then-not-next : goal.returns-then-not-next
+returns-then-not-next c =
+    λ w. stops-here w.lends _ _ _ (c.loop-steps.invariant w) (omega arith) _ (c.step-next.ensures (stored-now w.lends _ _ _ (c.loop-steps.invariant w) w.stored)) (not-true _ c.if-not-next.true)
+    _ refl
+
+pub loop-steps-preserved : goal.loop-steps-preserved
+loop-steps-preserved c =
+    λ w. steps_on w.lends _ _ _ (c.loop-steps.invariant w) (omega arith) _ (c.step-next.ensures (stored-now w.lends _ _ _ (c.loop-steps.invariant w) w.stored)) (not-false _ c.if-not-next.false)
+
+pub look-ending-requires : goal.look-ending-requires
+look-ending-requires c = let p = ⟪c.before.before.before.before.before.before.before.before.requires⟫ in record { lends_store = stored-now p.0.lends _ _ _ (c.loop-steps.invariant p.0) p.0.stored; ends_lent = p.1 }
+
+pub returns : goal.returns
+returns c = λ w. spent-here w.lends _ _ _ (c.loop-steps.invariant w) (omega arith) _ (c.look-ending.ensures (stored-now w.lends _ _ _ (c.loop-steps.invariant w) w.stored)) _ refl

@@ -1,0 +1,13 @@
+use Prim.Native.Nat.{◌+◌, ◌-◌, ◌≤◌}
+use mathlib.Core.Path.{◌≡◌}
+use native.Mathlib.Omega.{arith}
+use lib.ListN.{length}
+use Rattle.definitions.specs.Bytes.{unfilled}
+use Rattle.matching.proofs.FieldLaws.{rest, rest_end, rest_out, counted-end, counted-more}
+use Rattle.matching.proofs.pattern.text_length.Given as goal
+
+abbrev pub invariant-loop-i : goal.invariant-loop-i
+invariant-loop-i l = (length (unfilled l.field) ≡ l.i + length (rest l.field l.i)) × (l.i ≤ length l.field)
+
+abbrev pub decreases-loop-i : goal.decreases-loop-i
+decreases-loop-i l = length l.field - l.i

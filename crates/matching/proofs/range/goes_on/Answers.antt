@@ -1,0 +1,31 @@
+-- `matching::range::goes_on` meets its contract, by the laws of RangeLaws.
+use Rattle.definitions.specs.Limits.{language_range_width}
+use Prim.Native.Nat.{◌-◌, ◌≤◌}
+use lib.Dec.{T}
+use Rattle.definitions.specs.Lists.{every}
+use Rattle.definitions.specs.Bytes.{unfilled}
+use Rattle.definitions.specs.Terms.{tag_byte}
+use Rattle.definitions.specs.Text.{without_star}
+use native.Mathlib.Omega.{arith}
+use Rattle.matching.proofs.RangeLaws.{Along, along-start, along-out, along-end, along-other, along-more}
+use Prim.Native.Nat.{◌-◌}
+use native.Mathlib.Omega.{arith}
+use Rattle.matching.proofs.RangeLaws.{Along, along-start, along-out, along-end, along-other, along-more}
+use Rattle.matching.proofs.range.goes_on.Goals as goal
+
+pub loop-i-init : goal.loop-i-init
+loop-i-init c = (along-start _ _, omega arith)
+
+pub returns-then-ends : goal.returns-then-ends
+returns-then-ends c = λ h. along-end _ _ _ (c.loop-i.invariant.0 h) (omega arith) (omega arith) _ c.ends.ensures c.if-ends.true
+
+pub returns-then-range-i : goal.returns-then-range-i
+returns-then-range-i c =
+    λ h. along-other _ _ _ (c.loop-i.invariant.0 h) (omega arith) (omega arith) _ c.ends.ensures c.if-ends.false c.if-range-i.true
+
+pub loop-i-preserved : goal.loop-i-preserved
+loop-i-preserved c =
+    (λ h. along-more _ _ _ (c.loop-i.invariant.0 h) (omega arith) (omega arith) _ c.ends.ensures c.if-ends.false c.if-range-i.false, omega arith)
+
+pub returns : goal.returns
+returns c = λ h. along-out _ _ _ (c.loop-i.invariant.0 h) (omega arith) (omega arith)

@@ -1,0 +1,16 @@
+-- The record of an integer or a decimal, or the record as it was.
+use native.Mathlib.Omega.{arith}
+use borrow.Author.Rules.{rules}
+use Rattle.number_record.proofs.NumberRecord.{number-refused, integer-written, decimal-written}
+use Rattle.number_record.proofs.write_term.Goals as goal
+
+pub returns-in-Integer : goal.returns-in-Integer
+returns-in-Integer c =
+    integer-written _ c.in-Integer.is (omega arith) c.write_record.ensures
+
+pub returns-in-Decimal : goal.returns-in-Decimal
+returns-in-Decimal c =
+    decimal-written _ c.in-Decimal.is (omega arith) c.write_record-in-Decimal.ensures
+
+pub returns-in-Refused : goal.returns-in-Refused
+returns-in-Refused c = number-refused _ c.in-Refused.is

@@ -1,0 +1,13 @@
+use Prim.Native.Nat.{◌-◌, ◌≤◌}
+use native.Mathlib.Omega.{arith}
+use mathlib.Core.Path.{◌≡◌, refl}
+use mathlib.Core.List.{◌++◌}
+use Rattle.number_terms.specs.Amounts.{front}
+use Rattle.number_terms.proofs.AmountLaws.{front-next, front-over, front-end}
+use Rattle.number_terms.proofs.first_digits.Given as goal
+
+abbrev pub invariant-loop-i : goal.invariant-loop-i
+invariant-loop-i l = (l.n ≡ front (l.whole ++ l.fraction) l.i) × (l.n ≤ l.limit) × (l.i ≤ l.keep)
+
+abbrev pub decreases-loop-i : goal.decreases-loop-i
+decreases-loop-i l = l.keep - l.i

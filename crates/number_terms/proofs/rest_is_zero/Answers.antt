@@ -1,0 +1,30 @@
+-- The loop: the digits up to `i` are 0, and the rest decides.
+use Prim.Native.Nat.{◌-◌}
+use native.Mathlib.Omega.{arith}
+use mathlib.Core.Path.{◌≡◌, refl, sym, ◌∙◌}
+use mathlib.Core.List.{◌++◌}
+use lib.ListN.{length, length-append}
+use Rattle.definitions.specs.Terms.{Text}
+use Rattle.number_terms.specs.Amounts.{rest_zero}
+use Rattle.number_terms.proofs.AmountLaws.{rest-next, rest-stop, rest_end}
+use Rattle.number_terms.proofs.rest_is_zero.Goals as goal
+
+pub overflow_add-count : goal.overflow_add-count
+overflow_add-count c = omega (arith, c.requires.few, length-append c.args.whole.now c.args.fraction.now)
+
+pub loop-i-init : goal.loop-i-init
+loop-i-init c = let a = c.args in (refl, sym (length-append a.whole.now a.fraction.now))
+
+pub returns-then-digit_at-ne0 : goal.returns-then-digit_at-ne0
+returns-then-digit_at-ne0 c =
+    let digits : Text = c.args.whole.now ++ c.args.fraction.now in
+    rest-stop digits _ (omega arith) c.digit_at.ensures.0 c.if-digit_at-ne0.true ∙ sym c.loop-i.invariant.0
+
+pub loop-i-preserved : goal.loop-i-preserved
+loop-i-preserved c =
+    let digits : Text = c.args.whole.now ++ c.args.fraction.now in
+    (c.loop-i.invariant.0 ∙ rest-next digits _ (omega arith) c.digit_at.ensures.0 c.requires.all c.if-digit_at-ne0.false, c.loop-i.invariant.1)
+
+pub returns : goal.returns
+returns c =
+    let digits : Text = c.args.whole.now ++ c.args.fraction.now in rest_end digits.loop.i (omega arith) ∙ sym c.loop-i.invariant.0

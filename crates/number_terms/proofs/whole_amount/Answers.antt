@@ -1,0 +1,13 @@
+-- By the digits after the first.
+use mathlib.Core.Path.{sym, ◌∙◌}
+use borrow.Author.Rules.{rules}
+use Rattle.number_terms.specs.Amounts.{whole_amount}
+use Rattle.number_terms.proofs.whole_amount.Goals as goal
+
+pub returns-then-rest_is_zero : goal.returns-then-rest_is_zero
+unfolding whole_amount
+returns-then-rest_is_zero c = rw (sym c.rest_is_zero.ensures ∙ c.if-rest_is_zero.true) c.first_digits.ensures
+
+pub returns : goal.returns
+unfolding whole_amount
+returns c = rw (sym c.rest_is_zero.ensures ∙ c.if-rest_is_zero.false)

@@ -1,0 +1,43 @@
+-- By the part that is not there, and else by the parts' offsets.
+use mathlib.Core.Path.{◌∙◌}
+use borrow.Author.Rules.{rules}
+use Rattle.number_parts.proofs.PartLaws.{found}
+use Rattle.numbers.proofs.NumberLaws.{WholeRead, FractionRead, fraction-read, ExponentRead, exponent-read, Placed, placed}
+use Rattle.numbers.proofs.NumberLaws.{too_long, no_whole, bad-fraction, bad-exponent, more-after}
+use Rattle.numbers.proofs.read_number.Goals as goal
+
+pub returns-then-text-gt-NUMBER_TEXT_LIMIT : goal.returns-then-text-gt-NUMBER_TEXT_LIMIT
+returns-then-text-gt-NUMBER_TEXT_LIMIT c = too_long _ c.if-text-gt-NUMBER_TEXT_LIMIT.true
+
+pub returns-in_default : goal.returns-in_default
+returns-in_default c =
+    no_whole _ c.if-text-gt-NUMBER_TEXT_LIMIT.false c.after_sign-start.ensures c.read_digits.ensures c.in_default.is
+
+pub returns-in_default-read_fraction : goal.returns-in_default-read_fraction
+returns-in_default-read_fraction c =
+    let whole : WholeRead c.args.text.now c.after_sign-start.result c.in-Next.point = record { few = c.if-text-gt-NUMBER_TEXT_LIMIT.false; from = c.after_sign-start.ensures; found = found _ _ _ _ c.read_digits.ensures c.in-Next.is } in bad-fraction whole.read-fraction.ensures c.in_default-read_fraction.is
+
+pub returns-in_default-read_exponent : goal.returns-in_default-read_exponent
+returns-in_default-read_exponent c =
+    let whole : WholeRead c.args.text.now c.after_sign-start.result c.in-Next.point = record { few = c.if-text-gt-NUMBER_TEXT_LIMIT.false; from = c.after_sign-start.ensures; found = found _ _ _ _ c.read_digits.ensures c.in-Next.is } in
+    let fraction : FractionRead c.args.text.now c.after_sign-start.result c.in-Next.point c.in-Next-read_fraction.tail = fraction-read whole.read-fraction.ensures c.in-Next-read_fraction.is in bad-exponent fraction.read-exponent.ensures c.in_default-read_exponent.is
+
+pub returns-then-end-text : goal.returns-then-end-text
+returns-then-end-text c =
+    let whole : WholeRead c.args.text.now c.after_sign-start.result c.in-Next.point = record { few = c.if-text-gt-NUMBER_TEXT_LIMIT.false; from = c.after_sign-start.ensures; found = found _ _ _ _ c.read_digits.ensures c.in-Next.is } in
+    let fraction : FractionRead c.args.text.now c.after_sign-start.result c.in-Next.point c.in-Next-read_fraction.tail = fraction-read whole.read-fraction.ensures c.in-Next-read_fraction.is in
+    let exponent : let x = ⟪c.before.up.given.0⟫ in ExponentRead c.args.text.now c.in-Next-read_fraction.tail x.0 x.1.0 x.1.1.0 = exponent-read c.read_exponent.ensures c.in-By.is in more-after fraction exponent.if2.true
+
+pub term_of-requires : goal.term_of-requires
+term_of-requires c =
+    let whole : WholeRead c.args.text.now c.after_sign-start.result c.in-Next.point = record { few = c.if-text-gt-NUMBER_TEXT_LIMIT.false; from = c.after_sign-start.ensures; found = found _ _ _ _ c.read_digits.ensures c.in-Next.is } in
+    let fraction : FractionRead c.args.text.now c.after_sign-start.result c.in-Next.point c.in-Next-read_fraction.tail = fraction-read whole.read-fraction.ensures c.in-Next-read_fraction.is in
+    let exponent : let x = ⟪c.before.up.given.0⟫ in ExponentRead c.args.text.now c.in-Next-read_fraction.tail x.0 x.1.0 x.1.1.0 = exponent-read c.read_exponent.ensures c.in-By.is in
+    let here : let c₂ = start₃ ⟪c₃⟫ in let c₁ = start₂ c₂ in let x = ⟪c₃.before.up.given.0⟫ in Placed c.args.text.now c₁.before.before.before.before.after-sign.result c₁.before.point.given.0.0 c.after_point-first.result c₂.before.tail.given.0.0 x.0 x.1.0 x.1.1.0 = placed fraction exponent.if2.false c.after_point-first.ensures in let p = here in record { digits = p.digits; up_lt_places_limit = p.few }
+
+pub returns : goal.returns
+returns c =
+    let whole : WholeRead c.args.text.now c.after_sign-start.result c.in-Next.point = record { few = c.if-text-gt-NUMBER_TEXT_LIMIT.false; from = c.after_sign-start.ensures; found = found _ _ _ _ c.read_digits.ensures c.in-Next.is } in
+    let fraction : FractionRead c.args.text.now c.after_sign-start.result c.in-Next.point c.in-Next-read_fraction.tail = fraction-read whole.read-fraction.ensures c.in-Next-read_fraction.is in
+    let exponent : let x = ⟪c.before.up.given.0⟫ in ExponentRead c.args.text.now c.in-Next-read_fraction.tail x.0 x.1.0 x.1.1.0 = exponent-read c.read_exponent.ensures c.in-By.is in
+    let here : let c₂ = start₃ ⟪c₃⟫ in let c₁ = start₂ c₂ in let x = ⟪c₃.before.up.given.0⟫ in Placed c.args.text.now c₁.before.before.before.before.after-sign.result c₁.before.point.given.0.0 c.after_point-first.result c₂.before.tail.given.0.0 x.0 x.1.0 x.1.1.0 = placed fraction exponent.if2.false c.after_point-first.ensures in c.term_of.ensures ∙ here.is c.byte_at-minus.ensures

@@ -1,0 +1,15 @@
+use Prim.Native.Nat.{◌-◌, ◌*◌, ◌≤◌}
+use mathlib.Core.Path.{◌≡◌, ap, ◌∙◌}
+use native.Mathlib.Omega.{arith}
+use borrow.Author.Rules.{rules}
+use lib.ListN.{length, take}
+use Rattle.sorting.proofs.MergeLaws.{key_in_lem}
+use Rattle.page_writing.specs.Page.{keys_page}
+use Rattle.page_writing.proofs.WritingLaws.{longer, none-long, all-taken}
+use Rattle.page_writing.proofs.page_length.Given as goal
+
+abbrev pub invariant-loop-i : goal.invariant-loop-i
+invariant-loop-i l = (l.size ≡ length (keys_page l.table (take l.i l.keys))) × ((l.i ≤ length l.keys) × (l.size ≤ l.i * 512))
+
+abbrev pub decreases-loop-i : goal.decreases-loop-i
+decreases-loop-i l = length l.keys - l.i

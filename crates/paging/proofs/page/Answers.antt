@@ -1,0 +1,56 @@
+-- `paging::page` meets its contract: a law of PageLaws for each refusal.
+use mathlib.Core.Path.{sym, ◌∙◌}
+use borrow.Author.Tests.{not-true, not-false}
+use Rattle.definitions.specs.Calls.{Lent}
+use Rattle.laws.proofs.ReadAnswers.{is-some, is_none}
+use Rattle.lengths.specs.Lent.{lent_of}
+use Rattle.entry.proofs.EntryLaws.{not_entered, entered}
+use Rattle.query.proofs.TermLaws.{few}
+use Rattle.paging.proofs.PageLaws.{entry-refused, refused-12, refused-13}
+use borrow.Author.Rules.{rules}
+use Rattle.paging.proofs.page.Goals as goal
+
+pub returns-then-entered-ne0 : goal.returns-then-entered-ne0
+returns-then-entered-ne0 c =
+    let lent_at : Lent = lent_of c.args.ranks.now c.args.terms.now c.args.schema.now c.args.script.now c.args.table.now c.args.store.now in
+    entry-refused lent_at.args.saved c.args.graph c.args.page.now (not_entered c.enter-entered.ensures c.if-entered-ne0.true) c.refused.ensures
+
+pub is_graph-requires : goal.is_graph-requires
+is_graph-requires c =
+    let x = entered c.enter-entered.ensures c.if-entered-ne0.false in record { count_in_bounds = (x.2.lent 0).room; count_le_term_limit = few _ _ _ (x.2.lent 0).tabled }
+
+pub returns-then-not-is_graph : goal.returns-then-not-is_graph
+returns-then-not-is_graph c =
+    let lent_at : Lent = lent_of c.args.ranks.now c.args.terms.now c.args.schema.now c.args.script.now c.args.table.now c.args.store.now in
+    let x = entered c.enter-entered.ensures c.if-entered-ne0.false in
+    refused-12 lent_at.args.saved c.args.graph c.args.page.now x.0 x.1
+    (sym (c.is_graph.ensures x.0.checked.schema x.0.state.store.terms (x.2.lent 0).least_of (sym (x.2.lent 0).tabled.counted)) ∙ not-true _ c.if-not-is_graph.true)
+    c.refused-then-not-is_graph.ensures
+
+pub returns-then-not-page_ok : goal.returns-then-not-page_ok
+returns-then-not-page_ok c =
+    let lent_at : Lent = lent_of c.args.ranks.now c.args.terms.now c.args.schema.now c.args.script.now c.args.table.now c.args.store.now in
+    let x = entered c.enter-entered.ensures c.if-entered-ne0.false in
+    refused-13 lent_at.args.saved c.args.graph c.args.page.now x.0 x.1
+    (sym (c.is_graph.ensures x.0.checked.schema x.0.state.store.terms (x.2.lent 0).least_of (sym (x.2.lent 0).tabled.counted)) ∙ not-false _ c.if-not-is_graph.false)
+    (is_none _ (sym c.page_ok.ensures ∙ not-true _ c.if-not-page_ok.true)) c.refused-then-not-page_ok.ensures
+
+pub take-requires : goal.take-requires
+take-requires c =
+    let x = entered c.enter-entered.ensures c.if-entered-ne0.false in let rs = is-some _ (sym c.page_ok.ensures ∙ not-false _ c.if-not-page_ok.false) in (
+      _,
+      record {
+        found = x.0;
+        entered = x.1;
+        count = sym (x.2.lent 0).tabled.counted;
+        hashed = x.2.hashed;
+        is_uri =
+            (sym (c.is_graph.ensures x.0.checked.schema x.0.state.store.terms (x.2.lent 0).least_of (sym (x.2.lent 0).tabled.counted)) ∙ not-false _ c.if-not-is_graph.false);
+        triples = rs.0;
+        reads = rs.1;
+      },
+    )
+
+pub returns : goal.returns
+unfolding take-requires
+returns c = c.take.ensures _ (take-requires ⟪c₁.before⟫ c.take.lifetimes).1

@@ -1,0 +1,15 @@
+use native.Mathlib.Omega.{arith}
+use Prim.Native.Nat.{◌-◌}
+use borrow.Author.Rules.{rules}
+use borrow.Author.Tests.{not-true, not-false}
+use mathlib.Core.Path.{◌≡◌, sym, ◌∙◌}
+use Rattle.definitions.specs.Bytes.{part}
+use Rattle.patterns.specs.Fields.{are_pieces}
+use Rattle.patterns.proofs.FieldLaws.{good_from, pieces-from, pieces-zero, pieces_end, pieces-bad, pieces-turn, pieces-done}
+use Rattle.patterns.proofs.pieces_ok.Given as goal
+
+abbrev pub invariant-loop-i : goal.invariant-loop-i
+invariant-loop-i l = are_pieces (part l.s l.from (l.end - l.from)) ≡ good_from l.atom (part l.s l.i (l.end - l.i))
+
+abbrev pub decreases-loop-i : goal.decreases-loop-i
+decreases-loop-i l = l.end - l.i

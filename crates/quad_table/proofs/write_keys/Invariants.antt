@@ -1,0 +1,18 @@
+use Prim.Native.Nat.{ℕ, ◌-◌, ◌≤◌}
+use native.Mathlib.Omega.{arith}
+use mathlib.Core.Path.{◌≡◌, ap, sym, ◌∙◌}
+use mathlib.Core.List.{[]}
+use lib.ListN.{length}
+use borrow.Author.Rules.{rules}
+use Rattle.definitions.specs.Limits.{quad_table_width}
+use Rattle.definitions.specs.Saved.{quad_table}
+use Rattle.laws.proofs.Tables.{quad-table-length}
+use Rattle.keys.specs.Keys.{rows_from}
+use Rattle.quad_table.proofs.QuadLaws.{written_next}
+use Rattle.quad_table.proofs.write_keys.Given as goal
+
+abbrev pub invariant-loop-i : goal.invariant-loop-i
+invariant-loop-i l = (l.i ≤ l.count) × (length l.table ≡ quad_table_width) × (l.table ≡ quad_table (rows_from l.i l.keys 0))
+
+abbrev pub decreases-loop-i : goal.decreases-loop-i
+decreases-loop-i l = l.count - l.i

@@ -1,0 +1,34 @@
+-- `reader::pairs::pairs_ok` meets its contract.
+use native.Mathlib.Omega.{arith}
+use Prim.Native.Nat.{◌-◌, ◌+◌, ◌*◌, ◌≤◌}
+use borrow.Author.Rules.{rules}
+use borrow.Author.Tests.{not-true, not-false}
+use mathlib.Core.Path.{◌≡◌, sym, ◌∙◌}
+use Rattle.definitions.specs.Limits.{pair_limit}
+use Rattle.definitions.specs.Reading.{binders_at}
+use Rattle.laws.specs.ReadAnswers.{is_some}
+use Rattle.reader.proofs.PairLaws.{pairs_from, pair-bad, pair_turn, pairs-done, pairs-many}
+use Rattle.reader.proofs.pairs.pairs_ok.Goals as goal
+
+pub returns-then-used-gt-PAIR_LIMIT : goal.returns-then-used-gt-PAIR_LIMIT
+returns-then-used-gt-PAIR_LIMIT c = sym (pairs-many c.args.s.now c.args.count c.args.at c.if-used-gt-PAIR_LIMIT.true)
+
+pub loop-k-init : goal.loop-k-init
+loop-k-init c = (let e : c.args.count - 0 ≡ c.args.count = omega arith in rw e, omega arith, omega arith)
+
+pub returns-then-not-pair_ok : goal.returns-then-not-pair_ok
+returns-then-not-pair_ok c =
+    sym (c.loop-k.invariant.0
+    ∙ pair-bad c.args.s.now c.args.count c.loop-k.k c.loop-k.next (omega arith) (sym c.pair_ok.ensures ∙ not-true c.pair_ok.result c.if-not-pair_ok.true))
+
+pub loop-k-preserved : goal.loop-k-preserved
+loop-k-preserved c = (
+  c.loop-k.invariant.0 ∙ pair_turn c.args.s.now c.args.count c.loop-k.k c.loop-k.next (omega arith)
+      (sym c.pair_ok.ensures ∙ not-false c.pair_ok.result c.if-not-pair_ok.false),
+  omega arith,
+  omega arith,
+)
+
+pub returns : goal.returns
+returns c =
+    sym (c.loop-k.invariant.0 ∙ pairs-done c.args.s.now c.args.count c.loop-k.k c.loop-k.next (omega arith) (omega arith))

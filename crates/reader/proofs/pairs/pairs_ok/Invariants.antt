@@ -1,0 +1,16 @@
+use native.Mathlib.Omega.{arith}
+use Prim.Native.Nat.{◌-◌, ◌+◌, ◌*◌, ◌≤◌}
+use borrow.Author.Rules.{rules}
+use borrow.Author.Tests.{not-true, not-false}
+use mathlib.Core.Path.{◌≡◌, sym, ◌∙◌}
+use Rattle.definitions.specs.Limits.{pair_limit}
+use Rattle.definitions.specs.Reading.{binders_at}
+use Rattle.laws.specs.ReadAnswers.{is_some}
+use Rattle.reader.proofs.PairLaws.{pairs_from, pair-bad, pair_turn, pairs-done, pairs-many}
+use Rattle.reader.proofs.pairs.pairs_ok.Given as goal
+
+abbrev pub invariant-loop-k : goal.invariant-loop-k
+invariant-loop-k l = (is_some (binders_at pair_limit l.count l.s l.at) ≡ pairs_from l.s l.count l.k l.next) × (l.next ≡ l.at + 2 * l.k) × (l.k ≤ pair_limit)
+
+abbrev pub decreases-loop-k : goal.decreases-loop-k
+decreases-loop-k l = pair_limit - l.k

@@ -1,0 +1,28 @@
+-- `readoff::all_closed` meets its contract. Invariant: all below `x` pass. The measure is what is left of the variables. Assumes nothing.
+use Prim.Native.Nat.{◌≤◌, ◌-◌}
+use native.Mathlib.Omega.{arith}
+use mathlib.Core.Path.{◌≡◌}
+use mathlib.Core.Bool.{true, not, ◌||◌}
+use lib.ListN.{get_or}
+use borrow.Author.Tests.{not-true, not-false}
+use Rattle.definitions.specs.Limits.{variable_limit}
+use Rattle.definitions.specs.Typing.{unbound, is_open}
+use Rattle.facts.specs.Infer.{all_below, settled}
+use Rattle.facts.specs.Codes.{all_written}
+use Rattle.readoff.proofs.ReadOffLaws.{below_none, below_more, below_fails, below-done}
+use Rattle.readoff.proofs.all_closed.Goals as goal
+
+pub loop-x-init : goal.loop-x-init
+loop-x-init c = (omega arith, below_none _)
+
+pub closed-requires : goal.closed-requires
+closed-requires c = (c.requires.0, omega arith, c.requires.1)
+
+pub returns-then-not-closed : goal.returns-then-not-closed
+returns-then-not-closed c = below_fails _ _ _ c.loop-x-test.true c.closed.ensures (not-true _ c.if-not-closed.true)
+
+pub loop-x-preserved : goal.loop-x-preserved
+loop-x-preserved c = (omega arith, below_more _ _ c.loop-x.invariant.1 c.closed.ensures (not-false _ c.if-not-closed.false))
+
+pub returns : goal.returns
+returns c = below-done _ _ _ c.loop-x.invariant.0 (omega arith) c.loop-x.invariant.1

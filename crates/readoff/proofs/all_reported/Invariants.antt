@@ -1,0 +1,16 @@
+use Prim.Native.Nat.{ℕ, ◌≤◌, ◌<◌, ◌-◌}
+use native.Mathlib.Omega.{arith}
+use mathlib.Core.Path.{◌≡◌, refl}
+use lib.ListN.{length, get_or, length-set}
+use Rattle.definitions.specs.Limits.{variable_limit}
+use Rattle.laws.proofs.Fill.{filled_more}
+use Rattle.facts.specs.Codes.{all_written}
+use Rattle.facts.specs.Answers.{reported_at}
+use Rattle.readoff.proofs.ReadOffLaws.{filled-all, written-length}
+use Rattle.readoff.proofs.all_reported.Given as goal
+
+abbrev pub invariant-loop-x : goal.invariant-loop-x
+invariant-loop-x l = (l.x ≤ variable_limit) × (length l.types ≡ variable_limit) × ((k : ℕ) → k < l.x → get_or l.types k 0 ≡ reported_at l.t (all_written l.written) k)
+
+abbrev pub decreases-loop-x : goal.decreases-loop-x
+decreases-loop-x l = variable_limit - l.x

@@ -1,0 +1,15 @@
+use Prim.Native.Nat.{◌≤◌, ◌-◌}
+use native.Mathlib.Omega.{arith}
+use mathlib.Core.Path.{◌≡◌}
+use mathlib.Core.Bool.{true}
+use borrow.Author.Tests.{not-true, not-false}
+use Rattle.definitions.specs.Limits.{variable_limit}
+use Rattle.facts.specs.Infer.{all_below, tight}
+use Rattle.readoff.proofs.ReadOffLaws.{below_none, below_more, below_fails, below-done}
+use Rattle.readoff.proofs.all_tight.Given as goal
+
+abbrev pub invariant-loop-p : goal.invariant-loop-p
+invariant-loop-p l = (l.p ≤ variable_limit) × (all_below l.p (λ q. all_below variable_limit (tight l.t q)) ≡ true)
+
+abbrev pub decreases-loop-p : goal.decreases-loop-p
+decreases-loop-p l = variable_limit - l.p

@@ -1,0 +1,20 @@
+-- `readoff::read_off` meets its contract: an answer for each test that fails, and one where none does. Assumes nothing.
+use borrow.Author.Rules.{rules}
+use borrow.Author.Tests.{not-true, not-false}
+use Rattle.readoff.proofs.ReadOffLaws.{off-joined, off-open, off-loose, off-types}
+use Rattle.readoff.proofs.read_off.Goals as goal
+
+pub returns-then-not-apart : goal.returns-then-not-apart
+returns-then-not-apart c = off-joined _ _ c.apart.ensures (not-true _ c.if-not-apart.true)
+
+pub returns-then-not-all_closed : goal.returns-then-not-all_closed
+returns-then-not-all_closed c = off-open _ _ c.apart.ensures (not-false _ c.if-not-apart.false) c.all_closed.ensures (not-true _ c.if-not-all_closed.true)
+
+pub returns-then-not-all_tight : goal.returns-then-not-all_tight
+returns-then-not-all_tight c =
+    off-loose _ _ c.apart.ensures (not-false _ c.if-not-apart.false) c.all_closed.ensures (not-false _ c.if-not-all_closed.false) c.all_tight.ensures (not-true _ c.if-not-all_tight.true)
+
+pub returns : goal.returns
+returns c =
+    off-types _ _ c.apart.ensures (not-false _ c.if-not-apart.false) c.all_closed.ensures (not-false _ c.if-not-all_closed.false) c.all_tight.ensures (not-false _ c.if-not-all_tight.false)
+    c.all_reported-types.ensures

@@ -1,0 +1,11 @@
+-- `readoff::tight` meets its contract. Assumes nothing.
+use borrow.Author.Rules.{rules}
+use borrow.Author.Tests.{not-true, not-false}
+use Rattle.readoff.proofs.ReadOffLaws.{tight-apart, tight-edge}
+use Rattle.readoff.proofs.tight.Goals as goal
+
+pub returns-then-not-t-at : goal.returns-then-not-t-at
+returns-then-not-t-at c = tight-apart _ _ _ (not-true _ c.if-not-t-at.true)
+
+pub returns : goal.returns
+returns c = tight-edge _ _ _ (not-false _ c.if-not-t-at.false) c.root-numbers.ensures

@@ -1,0 +1,18 @@
+use Prim.Native.Nat.{◌-◌, ◌+◌}
+use native.Mathlib.Omega.{arith}
+use mathlib.Core.Path.{◌≡◌, sym, ◌∙◌}
+use borrow.Author.Rules.{rules}
+use Rattle.definitions.specs.Limits.{text_width, term_limit}
+use lib.ListN.{length, length-take, drop}
+use Rattle.definitions.specs.Saved.{terms_in}
+use Rattle.table.specs.Hashes.{Hashed}
+use Rattle.table.specs.Table.{list_of}
+use Rattle.fields.proofs.SameLaws.{entry-inside}
+use Rattle.records.proofs.NumberingLaws.{Adding, held-width, held-holds, count-hashed, full-hashed, entry-good, property-slot, adding-start, adding-end, adding-next, adding-full}
+use Rattle.records.proofs.numbering.add_properties.Given as goal
+
+abbrev pub invariant-loop-at : goal.invariant-loop-at
+invariant-loop-at l = Adding l.schema (list_of (terms_in l.n)) l.table l.at l.used × (length l.hashes ≡ term_limit) × Hashed l.table l.used l.hashes
+
+abbrev pub decreases-loop-at : goal.decreases-loop-at
+decreases-loop-at l = length l.schema - l.at

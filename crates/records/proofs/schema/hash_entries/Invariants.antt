@@ -1,0 +1,15 @@
+use Prim.Native.Nat.{ℕ, ◌-◌}
+use native.Mathlib.Omega.{arith}
+use mathlib.Core.Path.{◌≡◌}
+use borrow.Author.Rules.{rules}
+use lib.ListN.{length, replicate, length-replicate, length-set}
+use Rattle.records.proofs.EntryLaws.{HashedTo, one_entry, all-entries}
+use Rattle.table.proofs.HashLaws.{none-hashed}
+use Rattle.definitions.specs.Limits.{entry_limit}
+use Rattle.records.proofs.schema.hash_entries.Given as goal
+
+abbrev pub invariant-loop-i : goal.invariant-loop-i
+invariant-loop-i l = (length l.hashes ≡ entry_limit) × HashedTo l.schema l.i l.hashes
+
+abbrev pub decreases-loop-i : goal.decreases-loop-i
+decreases-loop-i l = l.entries - l.i

@@ -1,0 +1,34 @@
+-- Steps, state, zero and graph are put one after the other.
+use native.Mathlib.Omega.{arith}
+use mathlib.Core.Path.{ap, ◌∙◌}
+use borrow.Author.Rules.{rules}
+use lib.ListN.{length-set}
+use Rattle.definitions.specs.Bytes.{little_bytes}
+use Rattle.laws.proofs.Writing.{put-none, put_one, put-part, put_all, two-between}
+use Rattle.run_report.proofs.RunReport.{run-refused, ran}
+use Rattle.run_report.proofs.write_run_report.Goals as goal
+
+pub returns-in_default : goal.returns-in_default
+returns-in_default c = run-refused _ c.in_default.is
+
+pub bounds-out-5 : goal.bounds-out-5
+bounds-out-5 c = simp length-set (omega arith)
+
+pub slice_bounds-write_word-end : goal.slice_bounds-write_word-end
+slice_bounds-write_word-end c = simp length-set (omega arith)
+
+pub shape_of-out : goal.shape_of-out
+shape_of-out c =
+    simp length-set at c.out-2-1.given.1 ∙ c.out-1.given.1
+
+pub returns : goal.returns
+returns c =
+    let p = c.write_number.new.out in
+    let q = c.write_word.new.out in
+    let x = c.state_number.result in
+    let n = c.requires in
+    let first = put-part {old = c.args.out.now} p 4 put-none (omega arith) (omega (arith, n)) c.write_number.auto.1.0 in
+    let both = put_one 0 (put_one x first (omega (arith, n))) (omega (arith, n)) in
+    let steps = c.write_number.ensures ∙ ap (λ k. little_bytes k c.in-Ran.steps) c.write_number-arg-1.given.2 in
+    put_all (put-part q 8 both (omega arith) (omega (arith, n)) c.write_word.auto.1.0) (omega (arith, n))
+    ∙ (two-between p q x 0 ∙ ran _ c.in-Ran.is steps c.state_number.ensures c.write_word.ensures c.wanted_graph.ensures)

@@ -1,0 +1,20 @@
+-- `scan::next_object` meets its contract. The keys passed have another object. Assumes nothing.
+use Prim.Native.Nat.{◌-◌, ◌≤◌}
+use native.Mathlib.Omega.{arith}
+use Rattle.scan.specs.Codes.{Lacks}
+use Rattle.scan.proofs.StretchScan.{one_more}
+use Rattle.scan.proofs.next_object.Goals as goal
+
+pub loop-i-init : goal.loop-i-init
+loop-i-init c = (omega arith, c.requires.from_le_to, λ j a b. absurd (omega arith))
+
+pub returns-then-object_of-number : goal.returns-then-object_of-number
+returns-then-object_of-number c = c.loop-i.invariant
+
+pub loop-i-preserved : goal.loop-i-preserved
+loop-i-preserved c =
+    let inv = c.loop-i.invariant in
+    (omega arith, omega arith, one_more c.args.keys.now (λ q. q.object) _ _ _ _ inv.2 c.object_of.ensures.0 c.if-object_of-number.false)
+
+pub returns : goal.returns
+returns c = c.loop-i.invariant

@@ -1,0 +1,20 @@
+-- `scan::next_property` meets its contract. The keys passed have another property. Assumes nothing.
+use Prim.Native.Nat.{◌-◌, ◌≤◌}
+use native.Mathlib.Omega.{arith}
+use Rattle.scan.specs.Codes.{Lacks}
+use Rattle.scan.proofs.StretchScan.{one_more}
+use Rattle.scan.proofs.next_property.Goals as goal
+
+pub loop-i-init : goal.loop-i-init
+loop-i-init c = (omega arith, c.requires.from_le_to, λ j a b. absurd (omega arith))
+
+pub returns-then-property_of-number : goal.returns-then-property_of-number
+returns-then-property_of-number c = c.loop-i.invariant
+
+pub loop-i-preserved : goal.loop-i-preserved
+loop-i-preserved c =
+    let inv = c.loop-i.invariant in
+    (omega arith, omega arith, one_more c.args.keys.now (λ q. q.property) _ _ _ _ inv.2 c.property_of.ensures.0 c.if-property_of-number.false)
+
+pub returns : goal.returns
+returns c = c.loop-i.invariant

@@ -1,0 +1,110 @@
+-- `search::find::find` meets its contract: one law for each way through; the levels left fall. The loop's invariant: no number before has a tuple.
+-- Assumes nothing.
+use borrow.Author.Rules.{rules}
+use native.Mathlib.Omega.{arith}
+use mathlib.Core.Path.{◌≡◌, refl, ◌∙◌}
+use mathlib.Core.Logic.{⊎_elim}
+use Prim.Native.Nat.{ℕ, ◌-◌, ◌≤◌, ◌<◌}
+use lib.ListN.{length, length-set}
+use Rattle.search.specs.Finding.{World}
+use Rattle.search.proofs.FindLaws.{loads-here, lent-here, few-terms, LevelFrom, level-starts, find-test, find_past, find_none, find-skip, find-on, find-hit}
+use Rattle.search.proofs.find.+find.Goals as goal
+
+-- ?? measure: abbrev μ-find : Measures 7 find-kinds.ps ℕ
+-- ?? μ-find κs a = a.1.1.1.0.size - a.1.1.1.1.1.1.1.1.1.1.0
+
+-- ?? helper: abbrev find-Inv-loop : lts.invariant-loop
+-- ?? find-Inv-loop script ends context block parts ranks table quads leasts k lo known at size count v from₀ from =
+-- ??     (lo ≤ from) × ((w : World script ranks table quads leasts context block) (below : k < block.size) → LevelFrom w known k below lo from)
+
+-- ?? helper: abbrev find-μ-loop : lts.decreases-loop
+-- ?? find-μ-loop script ends context block parts ranks table quads leasts k lo known at size count v from₀ from = count - from
+
+pub eval_query-t-requires : goal.eval_query-t-requires
+eval_query-t-requires t c =
+    let sixteen : length c.args.known ≡ 16 = search rules in
+    let w = c.requires.ends_lent in record { loads = loads-here w; ranks_lent = lent-here w _ sixteen; ends_lent = c.requires.parted.0; stored = w.lent.stored }
+
+pub returns-then-size-k : goal.returns-then-size-k
+returns-then-size-k t c = record { find_of = λ w. find-test w _ _ c.if-size-k.true _ _ c.eval_query-t.ensures.walked; tuple_len = refl }
+
+pub offset_bounds-vars-k : goal.offset_bounds-vars-k
+offset_bounds-vars-k t c = omega (arith, c.requires.ends_lent.size, c.if-size-k.false)
+
+pub bounds-vars-k : goal.bounds-vars-k
+bounds-vars-k t c = omega (arith, c.requires.ends_lent.size, c.if-size-k.false)
+
+pub loop-from-init : goal.loop-from-init
+loop-from-init t c = (omega arith, λ w below. level-starts w _ _ below _)
+
+pub next-i-requires : goal.next-i-requires
+next-i-requires t c =
+    let sixteen : length c.args.known ≡ 16 = search rules in
+    let p = ⟪s.requires.1⟫ in record { world = p.0; ends_lent = p.1.0; parted = p.1.1; known_len = sixteen; k_lt_size = c.if-size-k.false }
+
+pub returns-then-count-i : goal.returns-then-count-i
+returns-then-count-i t c =
+    let below = c.if-size-k.false in record { find_of = λ w. find_none w _ _ below _ _ (c.loop-from.invariant.1 w below) _ (c.next-i.ensures w) c.if-count-i.true _ c.nothing.ensures.0; tuple_len = c.nothing.ensures.1 }
+
+pub offset_bounds-with-v : goal.offset_bounds-with-v
+offset_bounds-with-v t c =
+    omega (arith, c.requires.ends_lent.small c.args.k)
+
+pub bounds-with-v : goal.bounds-with-v
+bounds-with-v t c = c.requires.ends_lent.small _
+
+pub worth-requires : goal.worth-requires
+worth-requires t c =
+    let p = ⟪c.before.before.before.before.before.before.before.before.before.before.before.before.before.before.requires.1⟫ in record { world = p.0; ends_lent = p.1.0; parted = p.1.1; k_lt_size = c.if-size-k.false; number_lt_count = c.if-count-i.false }
+
+pub overflow_add-k : goal.overflow_add-k
+overflow_add-k t c =
+    omega (arith, c.requires.ends_lent.size, c.if-size-k.false)
+
+pub find-r-requires : goal.find-r-requires
+find-r-requires t c =
+    (omega (arith, c.requires.world, c.if-size-k.false), ⟪c₂.requires.1⟫)
+
+pub offset_bounds-tuple-k : goal.offset_bounds-tuple-k
+offset_bounds-tuple-k t c =
+    omega (arith, c.requires.ends_lent.size, c.if-size-k.false)
+
+pub bounds-tuple-k : goal.bounds-tuple-k
+bounds-tuple-k t c =
+    omega (arith, c.requires.ends_lent.size, c.if-size-k.false)
+
+pub returns-then-r : goal.returns-then-r
+returns-then-r t c =
+    let sixteen : length c.args.known ≡ 16 = search rules in
+    let below = c.if-size-k.false in
+    let i = c.loop-from.invariant in
+    let g = c.requires.ends_lent in
+    let y = c.find-r in record {
+      find_of = λ w. find-hit w _ _ below _ _ (i.1 w below) _ (c.next-i.ensures w) c.if-count-i.false (omega (arith, g.small c.args.k, sixteen)) _ (y.ensures.0 w) c.if-r.true
+          (omega (arith, i.0, (c.next-i.ensures w).0, c.loop-from-test.true)) (omega (arith, y.ensures.1, g.size, below));
+      tuple_len = length-set y.result.tuple c.args.k c.next-i.result ∙ y.ensures.1;
+    }
+
+pub overflow_add-from : goal.overflow_add-from
+overflow_add-from t c =
+    omega (arith, few-terms c.requires.ends_lent, c.if-count-i.false)
+
+pub loop-from-smaller : goal.loop-from-smaller
+loop-from-smaller t c =
+    omega (arith, (c.next-i.ensures c.requires.ends_lent).0, c.if-count-i.false, c.loop-from-test.true)
+
+pub loop-from-preserved : goal.loop-from-preserved
+loop-from-preserved t c =
+    let sixteen : length c.args.known ≡ 16 = search rules in
+    let i = c.loop-from.invariant in
+    let small = c.if-count-i.false in (
+      omega (arith, i.0, (c.next-i.ensures c.requires.ends_lent).0, c.loop-from-test.true),
+      ⊎_elim
+          (λ h w below. find-on w _ _ below _ _ (i.1 w below) _ (c.next-i.ensures w) small (omega (arith, c.requires.ends_lent.small c.args.k, sixteen)) _ (h.1.ensures.0 w) h.2.left)
+          (λ h w below. find-skip w _ _ below _ _ (i.1 w below) _ (c.next-i.ensures w) small (omega (arith, c.requires.ends_lent.small c.args.k, sixteen)) (c.worth.ensures w) h.left)
+          c.if-worth.branch,
+    )
+
+pub returns : goal.returns
+returns t c =
+    let below = c.if-size-k.false in record { find_of = λ w. find_past w _ _ below _ _ (c.loop-from.invariant.1 w below) c.loop-from-test.false _ c.nothing-2.ensures.0; tuple_len = c.nothing-2.ensures.1 }

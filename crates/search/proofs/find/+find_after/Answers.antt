@@ -1,0 +1,95 @@
+-- `search::find::find_after` meets its contract: one law for each way through; the levels left fall. Assumes nothing.
+use borrow.Author.Rules.{rules}
+use native.Mathlib.Omega.{arith}
+use mathlib.Core.Path.{◌≡◌, ◌∙◌}
+use mathlib.Core.Logic.{⊎_elim}
+use Prim.Native.Nat.{ℕ, ◌-◌, ◌<◌}
+use lib.ListN.{length, get_or, length-set}
+use Rattle.search.proofs.FindLaws.{few-terms, after-ends, after-past, after-find, own-untyped, own-none, own-hit}
+use Rattle.search.proofs.find.+find_after.Goals as goal
+
+-- ?? measure: abbrev μ-find-after : Measures 7 find-after-kinds.ps ℕ
+-- ?? μ-find-after κs a = a.1.1.1.0.size - a.1.1.1.1.1.1.1.1.1.1.0
+
+pub returns-then-size-k : goal.returns-then-size-k
+returns-then-size-k t c = record { after_of = λ w. after-ends w _ _ c.if-size-k.true _ c.nothing.ensures.0; tuple_len = c.nothing.ensures.1 }
+
+pub offset_bounds-last-k : goal.offset_bounds-last-k
+offset_bounds-last-k t c = omega (arith, c.requires.ends_lent.size, c.if-size-k.false)
+
+pub bounds-last-k : goal.bounds-last-k
+bounds-last-k t c = omega (arith, c.requires.ends_lent.size, c.if-size-k.false)
+
+pub returns-then-count-l : goal.returns-then-count-l
+returns-then-count-l t c = record { after_of = λ w. after-past w _ _ c.if-size-k.false c.if-count-l.true _ c.nothing-then-count-l.ensures.0; tuple_len = c.nothing-then-count-l.ensures.1 }
+
+pub offset_bounds-vars-k : goal.offset_bounds-vars-k
+offset_bounds-vars-k t c =
+    omega (arith, c.requires.ends_lent.size, c.if-size-k.false)
+
+pub bounds-vars-k : goal.bounds-vars-k
+bounds-vars-k t c =
+    omega (arith, c.requires.ends_lent.size, c.if-size-k.false)
+
+pub bounds-leasts-l : goal.bounds-leasts-l
+bounds-leasts-l t c =
+    omega (arith, c.requires.ends_lent.lent.room, c.if-count-l.false)
+
+pub bounds-types-k : goal.bounds-types-k
+bounds-types-k t c =
+    omega (arith, c.requires.ends_lent.size, c.if-size-k.false)
+
+pub offset_bounds-with-v : goal.offset_bounds-with-v
+offset_bounds-with-v t c =
+    omega (arith, c.requires.ends_lent.small c.args.k)
+
+pub bounds-with-v : goal.bounds-with-v
+bounds-with-v t c = c.requires.ends_lent.small _
+
+pub overflow_add-k : goal.overflow_add-k
+overflow_add-k t c =
+    omega (arith, c.requires.ends_lent.size, c.if-size-k.false)
+
+pub find_after-r-requires : goal.find_after-r-requires
+find_after-r-requires t c =
+    (omega (arith, c.requires.world, c.if-size-k.false), ⟪c₂.requires.1⟫)
+
+pub offset_bounds-tuple-k : goal.offset_bounds-tuple-k
+offset_bounds-tuple-k t c =
+    omega (arith, c.requires.ends_lent.size, c.if-size-k.false)
+
+pub bounds-tuple-k : goal.bounds-tuple-k
+bounds-tuple-k t c =
+    omega (arith, c.requires.ends_lent.size, c.if-size-k.false)
+
+pub returns-then-r : goal.returns-then-r
+returns-then-r t c =
+    let sixteen : length c.args.known ≡ 16 = search rules in
+    let below = c.if-size-k.false in
+    let g = c.requires.ends_lent in
+    let y = c.find_after-r in record {
+      after_of = λ w. own-hit w _ _ below c.if-count-l.false (omega (arith, g.small c.args.k, sixteen)) c.has_type.ensures c.if-has_type.true _ (y.ensures.0 w) c.if-r.true
+          (omega (arith, y.ensures.1, g.size, below));
+      tuple_len = length-set y.result.tuple c.args.k (get_or c.args.block.last c.args.k 0) ∙ y.ensures.1;
+    }
+
+pub overflow_add-l : goal.overflow_add-l
+overflow_add-l t c =
+    omega (arith, few-terms c.requires.ends_lent, c.if-count-l.false)
+
+pub find-requires : goal.find-requires
+find-requires t c = let whole = ⟪c.before.before.before.before.before.before.before.before.before.before.before.before.before.before.before.requires.1⟫ in record { world = whole.0; ends_lent = whole.1.0; parted = whole.1.1 }
+
+pub returns : goal.returns
+returns t c =
+    let sixteen : length c.args.known ≡ 16 = search rules in
+    let below = c.if-size-k.false in
+    let small = c.if-count-l.false in record {
+      after_of = λ w. after-find w _ _ below
+          (⊎_elim
+          (λ h. own-none w _ _ below small (omega (arith, c.requires.ends_lent.small c.args.k, sixteen)) c.has_type.ensures h.0.taken _ (h.1.ensures.0 w) h.2.left)
+          (λ h. own-untyped w _ _ below small c.has_type.ensures h.left)
+          c.if-has_type.branch)
+          c.find.result (c.find.ensures.find_of w);
+      tuple_len = c.find.ensures.tuple_len;
+    }

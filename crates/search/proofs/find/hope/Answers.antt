@@ -1,0 +1,68 @@
+-- `search::find::hope` meets its contract. The loop's invariant: the numbers before lo are passed over. Assumes nothing.
+use mathlib.Core.Path.{◌≡◌, ◌∙◌}
+use mathlib.Core.Bool.{true≢false}
+use Prim.Native.Nat.{◌-◌}
+use native.Mathlib.Omega.{arith}
+use borrow.Author.Rules.{rules}
+use lib.ListN.{length, get_or, length-set}
+use Rattle.definitions.specs.Limits.{variable_limit}
+use Rattle.search.specs.Finding.{World, PassedTo}
+use Rattle.search.proofs.FindLaws.{lent-here, parts-here, few-terms, hope-past, hope-none, hope-on}
+use Rattle.search.proofs.find.hope.Goals as goal
+
+pub offset_bounds-vars-j : goal.offset_bounds-vars-j
+offset_bounds-vars-j c = let p = ⟪c.before.before.before.before.before.before.before.before.requires⟫ in omega (arith, p.0.size, p.1.1.1)
+
+pub bounds-vars-j : goal.bounds-vars-j
+bounds-vars-j c = let p = ⟪c.before.before.before.before.before.before.before.before.requires⟫ in omega (arith, p.0.size, p.1.1.1)
+
+pub loop-lo-init : goal.loop-lo-init
+loop-lo-init c = λ w vs r δ p h l. omega arith
+
+pub next-number-requires : goal.next-number-requires
+next-number-requires c =
+    let sixteen : length c.args.known ≡ variable_limit = search rules in
+    let p = ⟪c₁.requires⟫ in record { world = p.0; ends_lent = p.1.0; parted = p.1.1.0; known_len = sixteen; k_lt_size = p.1.1.1 }
+
+pub returns-then-count-number : goal.returns-then-count-number
+returns-then-count-number c = λ w. hope-none w _ _ _ (c.loop-lo.invariant w) _ (c.next-number.ensures w) c.if-count-number.true
+
+pub offset_bounds-with-v : goal.offset_bounds-with-v
+offset_bounds-with-v c =
+    omega (arith, c.requires.world.small c.args.j)
+
+pub bounds-with-v : goal.bounds-with-v
+bounds-with-v c = c.requires.world.small _
+
+pub slice_bounds-agree-end : goal.slice_bounds-agree-end
+slice_bounds-agree-end c =
+    let sixteen : length c.args.known ≡ variable_limit = search rules in search (rules, sixteen)
+
+pub agree-requires : goal.agree-requires
+agree-requires c =
+    let sixteen : length c.args.known ≡ variable_limit = search rules in
+    let p = ⟪c₂.requires⟫ in
+    let w = p.0 in
+    let q = p.1.1.0 in
+    let sized = length-set c.args.known (get_or c.args.block.vars c.args.j 0) c.next-number.result ∙ sixteen in record { parts_len_bound = q.room; parts_of = (w.tree, parts-here w q); ranks_lent = lent-here w _ sized; ends_lent = p.1.0; stored = w.lent.stored; v_lt_variable_limit = w.small _; after_bound = omega arith; number_lt_count = c.if-count-number.false }
+
+pub returns-then-agree : goal.returns-then-agree
+returns-then-agree c = λ w e. absurd (true≢false e)
+
+pub overflow_add-lo : goal.overflow_add-lo
+overflow_add-lo c =
+    omega (arith, few-terms c.requires.world, c.if-count-number.false)
+
+pub loop-lo-smaller : goal.loop-lo-smaller
+loop-lo-smaller c =
+    omega (arith, (c.next-number.ensures c.requires.world).0, c.if-count-number.false, c.loop-lo-test.true)
+
+pub loop-lo-preserved : goal.loop-lo-preserved
+loop-lo-preserved c =
+    let sixteen : length c.args.known ≡ variable_limit = search rules in
+    λ w.
+    hope-on w _ _ _ (c.loop-lo.invariant w) _ (c.next-number.ensures w) c.if-count-number.false (omega (arith, w.small c.args.j, sixteen))
+    (c.agree.ensures c.if-agree.false w.tree (parts-here w c.requires.parted))
+
+pub returns : goal.returns
+returns c = λ w. hope-past w _ _ _ (c.loop-lo.invariant w) c.loop-lo-test.false

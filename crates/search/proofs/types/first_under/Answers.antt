@@ -1,0 +1,18 @@
+-- `search::types::first_under` meets its contract. The loop's invariant: from i on gives what the whole gives. Assumes nothing.
+use mathlib.Core.Path.{◌≡◌, refl}
+use Prim.Native.Nat.{◌-◌}
+use native.Mathlib.Omega.{arith}
+use Rattle.search.specs.Finding.{skip_under}
+use Rattle.search.proofs.TypeLaws.{skip-ends, skip-here, skip-on}
+use Rattle.search.proofs.types.first_under.Goals as goal
+
+pub returns-then-is_under : goal.returns-then-is_under
+returns-then-is_under c =
+    skip-here _ _ _ _ _ c.loop-i.invariant c.loop-i-test.true c.is_under.ensures c.if-is_under.true
+
+pub loop-i-preserved : goal.loop-i-preserved
+loop-i-preserved c =
+    skip-on _ _ _ _ _ c.loop-i.invariant c.loop-i-test.true c.is_under.ensures c.if-is_under.false
+
+pub returns : goal.returns
+returns c = skip-ends _ _ _ _ _ c.loop-i.invariant c.loop-i-test.false

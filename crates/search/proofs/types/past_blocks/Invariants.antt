@@ -1,0 +1,12 @@
+use native.Mathlib.Omega.{arith}
+use mathlib.Core.Path.{◌≡◌, refl}
+use Prim.Native.Nat.{◌-◌, ◌≤◌}
+use Rattle.search.specs.Finding.{skip_under}
+use Rattle.search.proofs.TypeLaws.{skip_block}
+use Rattle.search.proofs.types.past_blocks.Given as goal
+
+abbrev pub invariant-loop-i : goal.invariant-loop-i
+invariant-loop-i l = (l.i ≤ l.count) × (skip_under l.leasts l.below (l.count - l.from) l.from ≡ skip_under l.leasts l.below (l.count - l.i) l.i)
+
+abbrev pub decreases-loop-i : goal.decreases-loop-i
+decreases-loop-i l = l.count - l.i

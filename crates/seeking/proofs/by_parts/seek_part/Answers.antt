@@ -1,0 +1,38 @@
+-- `seeking::by_parts::seek_part` meets its contract: a pattern is looked up at once. Assumes nothing.
+use native.Mathlib.Omega.{arith}
+use mathlib.Core.Path.{refl}
+use borrow.Author.Rules.{rules}
+use Rattle.laws.proofs.Productions.{query-at}
+use Rattle.laws.proofs.Walked.{walked_as}
+use Rattle.query.proofs.TermLaws.{few}
+use Rattle.seeking.proofs.SeekLaws.{stays, pattern-seeks}
+use Rattle.seeking.proofs.PartLaws.{walked_at}
+use Rattle.seeking.proofs.by_parts.seek_part.Goals as goal
+
+pub returns-then-not-asked : goal.returns-then-not-asked
+returns-then-not-asked c = λ q m e. stays _ _ _ _ _ _ _ _
+
+pub bounds-script-at : goal.bounds-script-at
+bounds-script-at c = (query-at _ _ _ _ _ refl c.requires.loads).inside
+
+pub overflow_add-first : goal.overflow_add-first
+overflow_add-first c = omega (arith, (query-at _ _ _ _ _ refl c.requires.loads).inside)
+
+pub names_at-names-requires : goal.names_at-names-requires
+names_at-names-requires c = record { loads = ((query-at _ _ _ _ _ refl c.requires.loads).pattern c.if-script-at-eq97.true).all; known_len = c.requires.ranks_lent.terms.variables }
+
+pub least-requires : goal.least-requires
+least-requires c =
+    let p = ⟪c₁.requires.1⟫ in record { n_in_bounds = p.1.1.room; keys_value = p.1.1.rises; end_le_sought_code = omega (arith, few _ _ _ p.0.terms.tabled) }
+
+pub returns-then-script-at-eq97 : goal.returns-then-script-at-eq97
+returns-then-script-at-eq97 c =
+    λ q m e.
+    pattern-seeks _ _ _ _ _ _ q _ _ _
+    (walked_at (walked_as ((query-at _ _ _ _ _ refl c.requires.loads).pattern c.if-script-at-eq97.true).read c.names_at-names.ensures) e) c.least.ensures
+
+pub seek-s-requires : goal.seek-s-requires
+seek-s-requires c = let whole = ⟪c.before.before.before.before.before.before.before.before.before.requires⟫ in record { loads = whole.0; ranks_lent = whole.1.0; ends_lent = whole.1.1.0; stored = whole.1.1.1 }
+
+pub returns : goal.returns
+returns c = λ q m e. walked_at c.seek-s.ensures e

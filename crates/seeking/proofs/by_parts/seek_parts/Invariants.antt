@@ -1,0 +1,17 @@
+use native.Mathlib.Omega.{arith}
+use Prim.Native.Nat.{◌+◌, ◌*◌, ◌-◌, ◌/◌, ◌<◌}
+use lib.ListN.{length}
+use Rattle.definitions.specs.Tree.{Query}
+use Rattle.query.specs.StoreLent.{rows_of}
+use Rattle.seeking.specs.Seeking.{SeekOf}
+use Rattle.seeking.specs.Parts.{PartsOf}
+use Rattle.seeking.proofs.SeekLaws.{stays, ended}
+use Rattle.seeking.proofs.PartLaws.{part-loads, part-seeks, number_weight, turn-falls, turn-within}
+use Rattle.seeking.proofs.by_parts.seek_parts.Given as goal
+
+abbrev pub invariant-loop-agreed : goal.invariant-loop-agreed
+invariant-loop-agreed l =
+    (0 < l.n → l.i < l.n) × ((q : Query) → PartsOf l.script l.context.loaded l.parts q → SeekOf l.ranks l.table l.known l.context (rows_of l.quads l.context) l.v l.lo l.found q)
+
+abbrev pub decreases-loop-agreed : goal.decreases-loop-agreed
+decreases-loop-agreed l = number_weight * (l.count - l.found) + (l.n - l.agreed)

@@ -1,0 +1,18 @@
+use Prim.Native.Nat.{◌≤◌, ◌-◌}
+use native.Mathlib.Omega.{arith}
+use borrow.Author.Rules.{rules}
+use mathlib.Core.Path.{◌≡◌, refl}
+use Rattle.definitions.specs.Scope.{variables}
+use Rattle.store.specs.Canonical.{clean_bindings, number_of}
+use Rattle.store.proofs.FillLaws.{made_to, made-variable, made-variables}
+use Rattle.store.proofs.canonical.clean_bindings.Goals as goal
+
+pub loop-v-init : goal.loop-v-init
+loop-v-init c = (omega arith, refl)
+
+pub loop-v-preserved : goal.loop-v-preserved
+loop-v-preserved c = (omega arith, made-variable _ _ _ _ c.loop-v.invariant.1 (omega arith) _ c.number_if.ensures)
+
+pub returns : goal.returns
+unfolding clean_bindings
+returns c = made-variables (number_of c.args.bound c.args.bindings) 0 c.loop-v.v _ c.loop-v.invariant.1 (omega arith) (omega arith)

@@ -1,0 +1,14 @@
+use Prim.Native.Nat.{◌≤◌, ◌-◌}
+use native.Mathlib.Omega.{arith}
+use borrow.Author.Rules.{rules}
+use mathlib.Core.Path.{◌≡◌, refl}
+use Rattle.definitions.specs.Scope.{variables}
+use Rattle.store.specs.Canonical.{clean_bindings, number_of}
+use Rattle.store.proofs.FillLaws.{made_to, made-variable, made-variables}
+use Rattle.store.proofs.canonical.clean_bindings.Given as goal
+
+abbrev pub invariant-loop-v : goal.invariant-loop-v
+invariant-loop-v l = (l.v ≤ 16) × (l.clean ≡ made_to (number_of l.bound l.bindings) 0 variables 16 l.v)
+
+abbrev pub decreases-loop-v : goal.decreases-loop-v
+decreases-loop-v l = 16 - l.v

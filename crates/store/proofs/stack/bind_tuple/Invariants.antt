@@ -1,0 +1,17 @@
+use Prim.Native.Nat.{◌≤◌, ◌<◌, ◌-◌, ◌+◌, ◌*◌}
+use native.Mathlib.Omega.{arith}
+use mathlib.Core.Path.{◌≡◌, refl, ◌∙◌}
+use borrow.Author.Rules.{rules}
+use lib.ListN.{length, take, drop}
+use Rattle.definitions.specs.Limits.{variable_limit}
+use Rattle.laws.specs.Pairs.{pair_variables}
+use Rattle.store.specs.Stack.{bound_all}
+use Rattle.store.proofs.BindLaws.{with_bound, bind-next, bind-none, bind_all}
+use Rattle.store.proofs.stack.bind_tuple.Given as goal
+
+abbrev pub invariant-loop-k : goal.invariant-loop-k
+invariant-loop-k l =
+    (l.k ≤ l.count) × (with_bound l.next l.bound l.bindings ≡ bound_all l.next (pair_variables (l.count - l.k) l.script (l.at + 2 * l.k)) (take (l.count - l.k) (drop l.k l.tuple)))
+
+abbrev pub decreases-loop-k : goal.decreases-loop-k
+decreases-loop-k l = l.k

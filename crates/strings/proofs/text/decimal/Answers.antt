@@ -1,0 +1,18 @@
+-- `strings::text::decimal` meets its contract, by the laws of TextLaws and LineLaws.
+use native.Mathlib.Omega.{arith}
+use Prim.Native.Nat.{◌/◌}
+use Rattle.strings.proofs.LineLaws.{short-length}
+use Rattle.strings.proofs.TextLaws.{decimal-written}
+use borrow.Author.Rules.{rules}
+use Rattle.strings.proofs.text.decimal.Goals as goal
+
+pub push-point-requires : goal.push-point-requires
+push-point-requires c = omega (arith, c.sign-start.ensures.1, c.natural-whole.ensures.size, short-length 20 (c.amount-far.result / 1000000))
+
+pub fraction-requires : goal.fraction-requires
+fraction-requires c = let whole = omega (arith, c.sign-start.ensures.1, c.natural-whole.ensures.size, short-length 20 (c.amount-far.result / 1000000), c.push-point.ensures.size) in record { le_count = whole.0; count_bound = whole.1 }
+
+pub returns : goal.returns
+returns c =
+    decimal-written c.args.n c.requires c.sign-start.result c.sign-start.ensures.0 c.amount-far.result c.amount-far.ensures c.natural-whole.result c.push-point.result
+    c.fraction.result c.natural-whole.ensures c.push-point.ensures c.fraction.ensures

@@ -1,0 +1,7 @@
+-- The bytes are set one after the other.
+use borrow.Author.Rules.{rules}
+use Rattle.suggest_report.proofs.SuggestReport.{three}
+use Rattle.suggest_report.proofs.write_three.Goals as goal
+
+pub returns : goal.returns
+returns c = three c.args.out.now _ _ _ c.requires

@@ -1,0 +1,20 @@
+-- `table::hashes::hash_slots` meets its contract. The loop keeps the hashes made so far.
+use Prim.Native.Nat.{ℕ, ◌-◌, ◌≤◌}
+use native.Mathlib.Omega.{arith}
+use mathlib.Core.Path.{◌≡◌}
+use borrow.Author.Rules.{rules}
+use lib.ListN.{length, replicate, length-replicate, length-set}
+use Rattle.definitions.specs.Limits.{term_limit}
+use Rattle.table.specs.Hashes.{Hashed}
+use Rattle.table.proofs.HashLaws.{none-hashed, one-slot, all-hashed}
+use Rattle.table.proofs.hashes.hash_slots.Goals as goal
+
+pub loop-i-init : goal.loop-i-init
+loop-i-init c = (omega arith, length-replicate {A = ℕ} term_limit 0, none-hashed _ (replicate {A = ℕ} term_limit 0))
+
+pub loop-i-preserved : goal.loop-i-preserved
+loop-i-preserved c =
+    (omega arith, simp length-set c.loop-i.invariant.1, one-slot c.args.table.now c.loop-i.hashes c.loop-i.i _ (omega arith) c.loop-i.invariant.2 c.hash_of.ensures)
+
+pub returns : goal.returns
+returns c = all-hashed _ c.loop-i.hashes _ c.loop-i.i (omega arith) c.loop-i.invariant.2

@@ -1,0 +1,15 @@
+use Prim.Native.Nat.{ℕ, ◌-◌, ◌≤◌}
+use native.Mathlib.Omega.{arith}
+use mathlib.Core.Path.{◌≡◌}
+use borrow.Author.Rules.{rules}
+use lib.ListN.{length, replicate, length-replicate, length-set}
+use Rattle.definitions.specs.Limits.{term_limit}
+use Rattle.table.specs.Hashes.{Hashed}
+use Rattle.table.proofs.HashLaws.{none-hashed, one-slot, all-hashed}
+use Rattle.table.proofs.hashes.hash_slots.Given as goal
+
+abbrev pub invariant-loop-i : goal.invariant-loop-i
+invariant-loop-i l = (l.i ≤ l.n) × (length l.hashes ≡ term_limit) × Hashed l.table l.i l.hashes
+
+abbrev pub decreases-loop-i : goal.decreases-loop-i
+decreases-loop-i l = l.n - l.i

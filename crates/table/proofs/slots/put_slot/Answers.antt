@@ -1,0 +1,8 @@
+-- `table::slots::put_slot` meets its contract.
+use borrow.Author.Rules.{rules}
+use Rattle.table.proofs.TableLaws.{slot-stored}
+use Rattle.table.proofs.slots.put_slot.Goals as goal
+
+pub returns : goal.returns
+returns c =
+    slot-stored c.args.table.now c.args.slot.now c.copy_from_slice.new.self c.args.n c.requires.n_lt_term_limit c.requires.table_len c.requires.slot_len c.copy_from_slice.ensures.after

@@ -1,0 +1,40 @@
+-- `table::slots::slots_distinct` meets its contract. The loop keeps that the terms from the last on are different, and that the places of their hashes are flagged.
+use Prim.Native.Nat.{◌-◌, ◌<◌}
+use native.Mathlib.Omega.{arith}
+use mathlib.Core.Logic.{⊎_elim}
+use mathlib.Core.Path.{refl, sym}
+use borrow.Author.Rules.{rules}
+use Rattle.table.proofs.TableLaws.{holds-few, slots-again, slots_twice}
+use Rattle.table.proofs.SeenLaws.{Apart, apart-start, apart-end, apart_next, not_seen}
+use Rattle.table.proofs.slots.slots_distinct.Goals as goal
+
+pub loop-i-init : goal.loop-i-init
+loop-i-init c = apart-start _ _ c.requires.holds_terms _
+
+pub offset_bounds-hashes-i : goal.offset_bounds-hashes-i
+offset_bounds-hashes-i c = omega (arith, c.loop-i.invariant.few, holds-few _ _ c.requires.holds_terms)
+
+pub bounds-hashes-i : goal.bounds-hashes-i
+bounds-hashes-i c =
+    omega (arith, c.loop-i-test.true, c.loop-i.invariant.few, c.requires.hashes_len, holds-few _ _ c.requires.holds_terms)
+
+pub slot_again-requires : goal.slot_again-requires
+slot_again-requires c = record { holds_terms = c.requires.holds_terms; hashes_len = c.requires.hashes_len; hashed = c.requires.hashed; i_lt_n = omega (arith, c.loop-i-test.true, c.loop-i.invariant.few) }
+
+pub returns-then-slot_again-n : goal.returns-then-slot_again-n
+returns-then-slot_again-n c =
+    let l : c.loop-i.i - 1 < c.args.n = omega (arith, c.loop-i-test.true, c.loop-i.invariant.few) in
+    sym (slots_twice _ _ c.requires.holds_terms (c.loop-i.i - 1) (omega (arith, l)) (slots-again _ _ c.requires.holds_terms (c.loop-i.i - 1) l c.slot_again.ensures c.if-slot_again-n.true))
+
+pub loop-i-preserved : goal.loop-i-preserved
+loop-i-preserved c =
+    apart_next _ _ c.requires.holds_terms c.args.hashes.now _ _ c.loop-i.invariant c.loop-i-test.true _ c.number_index-place.ensures
+    (⊎_elim (λ w. omega (arith, w.1.ensures, w.2.left))
+    (λ w. omega (
+      arith,
+      not_seen _ _ c.requires.holds_terms c.args.hashes.now _ _ c.loop-i.invariant c.loop-i-test.true _ c.number_index-place.ensures (λ k. omega (arith, c.type_inv.table k))
+          c.requires.hashes_len c.requires.hashed w.left,
+    )) c.if-seen-place.branch)
+
+pub returns : goal.returns
+returns c = apart-end _ _ c.requires.holds_terms _ _ _ c.loop-i.invariant c.loop-i-test.false

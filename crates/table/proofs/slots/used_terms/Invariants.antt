@@ -1,0 +1,16 @@
+use Prim.Native.Nat.{◌≤◌, ◌-◌, ◌*◌}
+use native.Mathlib.Omega.{arith}
+use mathlib.Core.Path.{◌≡◌, sym, ◌∙◌}
+use borrow.Author.Rules.{rules}
+use Rattle.definitions.specs.Limits.{slot_width, term_limit}
+use Rattle.definitions.specs.Saved.{terms_from, terms_in}
+use Rattle.fields.specs.Answers.{count_of}
+use Rattle.table.proofs.CountLaws.{count_from}
+use Rattle.table.proofs.TableLaws.{begun-count, from_end, from-zeros, from-rubbish, from-bad, from_next}
+use Rattle.table.proofs.slots.used_terms.Given as goal
+
+abbrev pub invariant-loop-n : goal.invariant-loop-n
+invariant-loop-n l = (l.n ≤ term_limit) × (l.at ≡ l.n * slot_width) × (count_of (terms_in l.table) ≡ count_from l.n (terms_from (term_limit - l.n) l.table l.at))
+
+abbrev pub decreases-loop-n : goal.decreases-loop-n
+decreases-loop-n l = term_limit - l.n

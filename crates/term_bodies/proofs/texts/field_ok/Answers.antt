@@ -1,0 +1,22 @@
+-- `term_bodies::texts::field_ok` meets its contract. What was looked at is good, and so is the rest, where all is.
+use Prim.Native.Nat.{◌-◌}
+use mathlib.Core.Bool.{◌&&◌}
+use mathlib.Core.Path.{◌≡◌}
+use borrow.Author.Rules.{rules}
+use lib.ListN.{length, drop}
+use Rattle.definitions.specs.Terms.{field_text}
+use Rattle.laws.specs.ReadAnswers.{is_some}
+use Rattle.fields.specs.Answers.{range_or}
+use Rattle.term_bodies.proofs.FieldLaws.{filled_after, field-start, field_next, field_end}
+use Rattle.term_bodies.proofs.texts.field_ok.Goals as goal
+
+pub loop-i-init : goal.loop-i-init
+loop-i-init c = field-start _ _
+
+pub loop-i-preserved : goal.loop-i-preserved
+loop-i-preserved c =
+    field_next _ c.args.field.now c.loop-i.before c.loop-i.i c.loop-i.ok c.loop-i-test.true c.loop-i.invariant c.byte_ok.ensures
+
+pub returns : goal.returns
+returns c =
+    field_end _ c.args.field.now c.loop-i.before c.loop-i.i c.loop-i.ok c.loop-i-test.false c.loop-i.invariant

@@ -1,0 +1,17 @@
+-- `text_order::rank` meets its contract, by the laws of OrderLaws.
+use mathlib.Core.Path.{refl}
+use Rattle.definitions.specs.Values.{rank_in}
+use Rattle.text_order.proofs.OrderLaws.{place}
+use native.Mathlib.Omega.{arith}
+use borrow.Author.Rules.{rules}
+use Rattle.text_order.proofs.rank.Goals as goal
+
+pub overflow_sub-place : goal.overflow_sub-place
+overflow_sub-place c = (place c.args.b c.requires.t).0
+
+pub bounds-ranks-place : goal.bounds-ranks-place
+bounds-ranks-place c = omega (arith, (place c.args.b c.requires.t).1, c.requires.ranks_len)
+
+pub returns : goal.returns
+unfolding rank_in
+returns c = refl

@@ -1,0 +1,20 @@
+use Prim.Native.Nat.{◌+◌, ◌-◌, ◌*◌, ◌/◌, ◌≤◌, ◌<◌}
+use native.Mathlib.Omega.{arith}
+use mathlib.Core.Path.{◌≡◌, refl}
+use lib.ListN.{length}
+use Rattle.acts.specs.Steps.{Top}
+use Rattle.answers.specs.Lends.{Lends}
+use Rattle.evaluator_input.specs.Input.{tuple_width}
+use Rattle.tuple_lines.specs.TriedLine.{line_room}
+use Rattle.tuples.specs.Lines.{TuplesWritten}
+use Rattle.tuples.proofs.TupleLaws.{tuples-none, tuples-next, tuples-all}
+use borrow.Author.Rules.{rules}
+use Rattle.tuples.proofs.put_tuples.Given as goal
+
+abbrev pub invariant-loop-k : goal.invariant-loop-k
+invariant-loop-k l =
+    (l.k ≤ length l.tuples / tuple_width) × (l.end ≤ line_room * l.k) × (length l.out ≡ length l.count)
+    × ((w : Lends l.script l.ranks l.table l.quads l.leasts l.context l.run) (t : Top w.here l.at) → TuplesWritten w t l.k l.tuples l.count l.out l.end)
+
+abbrev pub decreases-loop-k : goal.decreases-loop-k
+decreases-loop-k l = length l.tuples / tuple_width - l.k

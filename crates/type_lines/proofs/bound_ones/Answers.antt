@@ -1,0 +1,20 @@
+-- The loop: those before `i` are counted.
+use Prim.Native.Nat.{◌+◌, ◌-◌, ◌≤◌}
+use native.Mathlib.Omega.{arith}
+use mathlib.Core.Path.{◌≡◌}
+use borrow.Author.Rules.{rules}
+use lib.ListN.{length, drop}
+use Rattle.type_lines.specs.Lines.{bound_ones}
+use Rattle.type_lines.proofs.Texts.{ones-next, ones_none}
+use Rattle.type_lines.proofs.bound_ones.Goals as goal
+
+pub overflow_add-n : goal.overflow_add-n
+overflow_add-n c = omega (arith, c.one_if-n.ensures.upper_bound)
+
+pub loop-i-preserved : goal.loop-i-preserved
+loop-i-preserved c =
+    (omega arith, omega (arith, c.one_if-n.ensures.upper_bound), omega (arith, ones-next c.args.codes.now c.loop-i.i (omega arith), c.one_if-n.ensures.value, c.loop-i.invariant.2))
+
+pub returns : goal.returns
+returns c =
+    omega (arith, ones_none c.args.codes.now c.loop-i.i (omega arith), c.loop-i.invariant.2)

@@ -1,0 +1,16 @@
+use Prim.Native.Nat.{◌+◌, ◌-◌, ◌*◌, ◌≤◌}
+use native.Mathlib.Omega.{arith}
+use mathlib.Core.Path.{◌≡◌, refl}
+use borrow.Author.Rules.{rules}
+use lib.ListN.{length, take}
+use Rattle.output.specs.Written.{Written}
+use Rattle.type_lines.specs.Lines.{line_room, bound_lines}
+use Rattle.output.proofs.WritingLaws.{written_none, written_as, written_then}
+use Rattle.type_lines.proofs.Texts.{lines_none, lines_next, lines-all}
+use Rattle.type_lines.proofs.put_lines.Given as goal
+
+abbrev pub invariant-loop-i : goal.invariant-loop-i
+invariant-loop-i l = (l.i ≤ length l.codes) × (l.at ≤ l.initial.out + line_room * l.i) × (length l.out ≡ length l.from) × Written (bound_lines 0 (take l.i l.codes)) l.from l.out l.initial.out l.at
+
+abbrev pub decreases-loop-i : goal.decreases-loop-i
+decreases-loop-i l = length l.codes - l.i

@@ -1,0 +1,53 @@
+-- `typing::walk::type_cond` meets its contract: one line for each kind; the levels left fall. Assumes nothing.
+use lib.ListN.{length}
+use Prim.Native.Nat.{ℕ, ◌<◌}
+use native.Mathlib.Omega.{arith}
+use mathlib.Core.Logic.{⊎_elim}
+use Rattle.laws.proofs.Walked.{leaf_walked}
+use Rattle.laws.proofs.Productions.{CondAt, cond-at}
+use Rattle.facts.specs.Demands.{cond_demands}
+use Rattle.facts.proofs.WalkLaws.{leaf-read, both_read, no_lower, leaf-noted, both-noted, tree-joined}
+use Rattle.typing.proofs.walk.+type_cond.Goals as goal
+
+-- ?? measure: abbrev μ-type-cond : Measures 3 type-cond-kinds.ps ℕ
+-- ?? μ-type-cond κs a = a.1.1.1.1.0
+
+pub type_cond-requires : goal.type_cond-requires
+type_cond-requires t c =
+    let here : CondAt t c.args.script.now (length c.args.leasts.now) c.args.left c.args.at = cond-at _ _ _ _ _ c.requires.loads c.requires.written_len in let n = here.not c.in-84.is in (n.falls, (n.child, c.requires.joined))
+
+pub type_cond-a-requires : goal.type_cond-a-requires
+type_cond-a-requires t c =
+    let here : CondAt t c.args.script.now (length c.args.leasts.now) c.args.left c.args.at = cond-at _ _ _ _ _ c.requires.loads c.requires.written_len in
+    let n = (both_read here.if2.false c.in-82-to-83.if-kind-lt84-own.true).parts in
+    (n.falls, (n.first, c.requires.joined))
+
+pub type_cond-requires-in-82-to-83 : goal.type_cond-requires-in-82-to-83
+type_cond-requires-in-82-to-83 t c =
+    let here : CondAt t c.args.script.now (length c.args.leasts.now) c.args.left c.args.at = cond-at _ _ _ _ _ c.requires.loads c.requires.written_len in
+    let n = (both_read here.if2.false c.in-82-to-83.if-kind-lt84-own.true).parts in
+    (n.falls, (n.second c.type_cond-a.ensures, (c.requires.joined.0, tree-joined _ _ _ cond_demands c.type_cond-a.ensures)))
+
+pub type_test-requires : goal.type_test-requires
+type_test-requires t c =
+    let p = ⟪c.pre.1⟫ in let whole = (p.0, (⊎_elim (λ w. absurd (no_lower _ _ _ _ p.0 (omega arith))) (λ w. omega (arith, c.in_default-1.rest.1)) c.in_default.branch, p.1)) in record { loads = whole.0; bound = whole.1.0; written_len = whole.1.1.0; joined = whole.1.1.1 }
+
+pub returns-in-84 : goal.returns-in-84
+unfolding cond_demands
+returns-in-84 t c =
+    let here : CondAt t c.args.script.now (length c.args.leasts.now) c.args.left c.args.at = cond-at _ _ _ _ _ c.requires.loads c.requires.written_len in (here.not c.in-84.is).node c.type_cond.ensures (λ a h. h)
+
+pub returns-in-80-to-81 : goal.returns-in-80-to-81
+returns-in-80-to-81 t c =
+    let here : CondAt t c.args.script.now (length c.args.leasts.now) c.args.left c.args.at = cond-at _ _ _ _ _ c.requires.loads c.requires.written_len in
+    let k = leaf-read here.if1.false c.in-80-to-81.if-kind-lt82-own.true in
+    leaf_walked k.1 (leaf-noted _ _ k.0 k.2 c.requires.joined.1)
+
+pub returns-in-82-to-83 : goal.returns-in-82-to-83
+returns-in-82-to-83 t c =
+    let here : CondAt t c.args.script.now (length c.args.leasts.now) c.args.left c.args.at = cond-at _ _ _ _ _ c.requires.loads c.requires.written_len in
+    let k = both_read here.if2.false c.in-82-to-83.if-kind-lt84-own.true in
+    k.parts.node c.type_cond-a.ensures c.type_cond-in-82-to-83.ensures (λ a b x y. both-noted _ _ a b _ (k.means a b) x y)
+
+pub returns-in_default : goal.returns-in_default
+returns-in_default t c = c.type_test.ensures

@@ -1,0 +1,79 @@
+-- `typing::walk::type_script` meets its contract: one line for each kind; the levels left fall. Assumes nothing.
+use lib.ListN.{length}
+use Prim.Native.Nat.{ℕ, ◌<◌}
+use native.Mathlib.Omega.{arith}
+use Rattle.laws.proofs.Walked.{leaf_walked}
+use Rattle.laws.proofs.Productions.{ScriptAt, script-at}
+use Rattle.facts.specs.Demands.{query_demands, script_demands}
+use Rattle.facts.proofs.TableLaws.{merged-joined}
+use Rattle.facts.proofs.WalkLaws.{nothing-noted, then-noted, from-noted, tree-joined, placed-in}
+use Rattle.typing.proofs.walk.+type_script.Goals as goal
+
+-- ?? measure: abbrev μ-type-script : Measures 3 type-script-kinds.ps ℕ
+-- ?? μ-type-script κs a = a.1.1.1.1.0
+
+pub name_at-n-requires : goal.name_at-n-requires
+name_at-n-requires t c =
+    let here : ScriptAt t c.args.script.now (length c.args.leasts.now) c.args.left c.args.at = script-at _ _ _ _ _ c.requires.loads c.requires.written_len in record { loads = (here.from_named c.in-114.is).first; written_len = c.requires.joined.0 }
+
+pub node_of-node-requires : goal.node_of-node-requires
+node_of-node-requires t c = placed-in _ _ c.name_at-n.ensures
+
+pub merged-between-requires : goal.merged-between-requires
+merged-between-requires t c = (c.requires.joined.1, c.node_of-node.ensures.1, omega arith)
+
+pub type_script-requires : goal.type_script-requires
+type_script-requires t c =
+    let here : ScriptAt t c.args.script.now (length c.args.leasts.now) c.args.left c.args.at = script-at _ _ _ _ _ c.requires.loads c.requires.written_len in
+    let n = here.from_named c.in-114.is in
+    let p = c.requires.joined in
+    (n.falls, (n.second c.name_at-n.ensures, (p.0, merged-joined _ _ _ p.1 c.node_of-node.ensures.1 (omega arith) c.merged-between.ensures)))
+
+pub overflow_add-query : goal.overflow_add-query
+overflow_add-query t c =
+    let here : ScriptAt t c.args.script.now (length c.args.leasts.now) c.args.left c.args.at = script-at _ _ _ _ _ c.requires.loads c.requires.written_len in omega (arith, (here.block c.in-115.is).room)
+
+pub type_query-q-requires : goal.type_query-q-requires
+type_query-q-requires t c =
+    let here : ScriptAt t c.args.script.now (length c.args.leasts.now) c.args.left c.args.at = script-at _ _ _ _ _ c.requires.loads c.requires.written_len in let whole = ((here.block c.in-115.is).parts.first, c.requires.joined) in record { loads = whole.0; written_len = whole.1.0; joined = whole.1.1 }
+
+pub type_script-requires-in-115 : goal.type_script-requires-in-115
+type_script-requires-in-115 t c =
+    let here : ScriptAt t c.args.script.now (length c.args.leasts.now) c.args.left c.args.at = script-at _ _ _ _ _ c.requires.loads c.requires.written_len in
+    let n = here.block c.in-115.is in
+    (n.parts.falls, (n.parts.second c.type_query-q.ensures, (c.requires.joined.0, tree-joined _ _ _ query_demands c.type_query-q.ensures)))
+
+pub type_script-c-requires : goal.type_script-c-requires
+type_script-c-requires t c =
+    let here : ScriptAt t c.args.script.now (length c.args.leasts.now) c.args.left c.args.at = script-at _ _ _ _ _ c.requires.loads c.requires.written_len in let n = here.sequence c.in_default.in_default-own.rest in (n.falls, (n.first, c.requires.joined))
+
+pub type_script-requires-in_default : goal.type_script-requires-in_default
+type_script-requires-in_default t c =
+    let here : ScriptAt t c.args.script.now (length c.args.leasts.now) c.args.left c.args.at = script-at _ _ _ _ _ c.requires.loads c.requires.written_len in
+    let n = here.sequence c.in_default.in_default-own.rest in
+    (n.falls, (n.second c.type_script-c.ensures, (c.requires.joined.0, tree-joined _ _ _ script_demands c.type_script-c.ensures)))
+
+pub returns-in-113 : goal.returns-in-113
+unfolding script_demands
+returns-in-113 t c =
+    let here : ScriptAt t c.args.script.now (length c.args.leasts.now) c.args.left c.args.at = script-at _ _ _ _ _ c.requires.loads c.requires.written_len in leaf_walked (here.success c.in-113.is) (nothing-noted _ _ c.requires.joined.1)
+
+pub returns-in-114 : goal.returns-in-114
+returns-in-114 t c =
+    let here : ScriptAt t c.args.script.now (length c.args.leasts.now) c.args.left c.args.at = script-at _ _ _ _ _ c.requires.loads c.requires.written_len in
+    (here.from_named c.in-114.is).node c.name_at-n.ensures c.type_script.ensures
+    (λ n a h k. from-noted _ _ _ n a c.requires.joined.1 h c.node_of-node.ensures c.merged-between.ensures k)
+
+pub returns-in-115 : goal.returns-in-115
+unfolding script_demands
+returns-in-115 t c =
+    let here : ScriptAt t c.args.script.now (length c.args.leasts.now) c.args.left c.args.at = script-at _ _ _ _ _ c.requires.loads c.requires.written_len in
+    (here.block c.in-115.is).parts.node c.type_query-q.ensures c.type_script-in-115.ensures
+    (λ q a h k. then-noted _ _ h k)
+
+pub returns-in_default : goal.returns-in_default
+unfolding script_demands
+returns-in_default t c =
+    let here : ScriptAt t c.args.script.now (length c.args.leasts.now) c.args.left c.args.at = script-at _ _ _ _ _ c.requires.loads c.requires.written_len in
+    (here.sequence c.in_default.in_default-own.rest).node c.type_script-c.ensures c.type_script-in_default.ensures
+    (λ a b h k. then-noted _ _ h k)

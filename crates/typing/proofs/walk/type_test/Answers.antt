@@ -1,0 +1,52 @@
+-- `typing::walk::type_test` meets its contract: one line for each kind. Assumes nothing.
+use native.Mathlib.Omega.{arith}
+use borrow.Author.Rules.{rules}
+use mathlib.Core.Path.{refl}
+use lib.ListN.{length}
+use Rattle.laws.proofs.Productions.{CondAt, cond-at}
+use Rattle.facts.specs.Demands.{cond_demands}
+use Rattle.facts.proofs.WalkLaws.{compare-read, string-noted, alike-noted, expr-joined}
+use Rattle.typing.proofs.walk.type_test.Goals as goal
+
+pub overflow_add-text : goal.overflow_add-text
+overflow_add-text c =
+    let here : CondAt c.args.left c.args.script.now (length c.args.leasts.now) c.args.left c.args.at = cond-at _ _ _ _ _ refl c.requires.loads in omega (arith, (here.regex c.in-85.is).room)
+
+pub type_expr-e-requires : goal.type_expr-e-requires
+type_expr-e-requires c =
+    let here : CondAt c.args.left c.args.script.now (length c.args.leasts.now) c.args.left c.args.at = cond-at _ _ _ _ _ refl c.requires.loads in let whole = ((here.regex c.in-85.is).rest.child, ⟪c.requires.1.1⟫) in record { loads = whole.0; written_len = whole.1.0; joined = whole.1.1 }
+
+pub overflow_add-text-in-86 : goal.overflow_add-text-in-86
+overflow_add-text-in-86 c =
+    let here : CondAt c.args.left c.args.script.now (length c.args.leasts.now) c.args.left c.args.at = cond-at _ _ _ _ _ refl c.requires.loads in omega (arith, (here.lang_matches c.in-86.is).room)
+
+pub type_expr-e-requires-in-86 : goal.type_expr-e-requires-in-86
+type_expr-e-requires-in-86 c =
+    let here : CondAt c.args.left c.args.script.now (length c.args.leasts.now) c.args.left c.args.at = cond-at _ _ _ _ _ refl c.requires.loads in let whole = ((here.lang_matches c.in-86.is).rest.child, ⟪c.requires.1.1⟫) in record { loads = whole.0; written_len = whole.1.0; joined = whole.1.1 }
+
+pub type_expr-e-requires-in_default : goal.type_expr-e-requires-in_default
+type_expr-e-requires-in_default c =
+    let here : CondAt c.args.left c.args.script.now (length c.args.leasts.now) c.args.left c.args.at = cond-at _ _ _ _ _ refl c.requires.loads in let p = ⟪c.requires.1⟫ in let whole = ((compare-read here.0 c.in_default.in_default-own.rest).parts.first, p.1) in record { loads = whole.0; written_len = whole.1.0; joined = whole.1.1 }
+
+pub type_expr-f-requires : goal.type_expr-f-requires
+type_expr-f-requires c =
+    let here : CondAt c.args.left c.args.script.now (length c.args.leasts.now) c.args.left c.args.at = cond-at _ _ _ _ _ refl c.requires.loads in
+    let p = ⟪c.requires.1⟫ in
+    let n = (compare-read here.0 c.in_default.in_default-own.rest).parts in record { loads = n.second c.type_expr-e-in_default.ensures; written_len = p.1.0; joined = expr-joined _ _ _ c.type_expr-e-in_default.ensures }
+
+pub returns-in-85 : goal.returns-in-85
+unfolding cond_demands
+returns-in-85 c =
+    let here : CondAt c.args.left c.args.script.now (length c.args.leasts.now) c.args.left c.args.at = cond-at _ _ _ _ _ refl c.requires.loads in (here.regex c.in-85.is).rest.node c.type_expr-e.ensures (λ e h. string-noted _ _ e h c.merged-after.ensures)
+
+pub returns-in-86 : goal.returns-in-86
+unfolding cond_demands
+returns-in-86 c =
+    let here : CondAt c.args.left c.args.script.now (length c.args.leasts.now) c.args.left c.args.at = cond-at _ _ _ _ _ refl c.requires.loads in
+    (here.lang_matches c.in-86.is).rest.node c.type_expr-e-in-86.ensures (λ e h. string-noted _ _ e h c.merged-after-in-86.ensures)
+
+pub returns-in_default : goal.returns-in_default
+returns-in_default c =
+    let here : CondAt c.args.left c.args.script.now (length c.args.leasts.now) c.args.left c.args.at = cond-at _ _ _ _ _ refl c.requires.loads in
+    let k = compare-read here.requires.1.0 c.in_default.in_default-own.rest in
+    k.parts.node c.type_expr-e-in_default.ensures c.type_expr-f.ensures (λ e f x y. alike-noted _ _ e f _ (k.means e f) x y c.merged-after-in_default.ensures)

@@ -1,0 +1,10 @@
+-- `walks::after_query` meets its contract.
+use borrow.Author.Rules.{rules}
+use Rattle.laws.proofs.ReadAnswers.{never-fails, ends_next}
+use Rattle.walks.proofs.after_query.Goals as goal
+
+pub returns-in_default : goal.returns-in_default
+returns-in_default c = absurd (never-fails _ c.read_query.ensures c.requires c.in_default.is)
+
+pub returns : goal.returns
+returns c = ends_next _ c.read_query.ensures c.in-Next.is
