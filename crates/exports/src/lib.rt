@@ -1,4 +1,4 @@
-// The C interface: the calls as other programs link them, over the saved run as bytes and back.
+// The calls as other programs link them, over the saved run as bytes and back. `exports_c` is the C interface over them.
 #![tactic(auto)]
 
 ghost use Rattle.std.specs.Prelude.{◌≡◌, List, ℕ};
@@ -10,8 +10,7 @@ use layout::reading;
 
 // Load: 1, 21, 2 to 9.
 // Ruled out: a load that ignores the saved buffer's length; a refused load that writes the saved run of zeros.
-#[unsafe(no_mangle)]
-pub extern "C" fn willetcoffer_load(
+pub fn willetcoffer_load(
     ranks: &[u8],
     terms: &[u8],
     schema: &[u8],
@@ -22,7 +21,7 @@ pub extern "C" fn willetcoffer_load(
 ) -> u32
     ensures { load_export
         (record {
-          ranks = ranks.entry.now;
+          ranks = ranks.now;
           terms = terms.now;
           schema = schema.now;
           script = script.now;
@@ -48,8 +47,7 @@ pub extern "C" fn willetcoffer_load(
 
 // Run: 1, 21, 10, 11.
 // Ruled out: a run that writes the report on a refusal; one that runs on from bytes that no saved run has.
-#[unsafe(no_mangle)]
-pub extern "C" fn willetcoffer_run(
+pub fn willetcoffer_run(
     ranks: &[u8],
     terms: &[u8],
     schema: &[u8],
@@ -63,7 +61,7 @@ pub extern "C" fn willetcoffer_run(
 ) -> u32
     ensures { run_export
         (record {
-          ranks = ranks.entry.now;
+          ranks = ranks.now;
           terms = terms.now;
           schema = schema.now;
           script = script.now;
@@ -97,8 +95,7 @@ pub extern "C" fn willetcoffer_run(
 
 // Page: 1, 21, 10, 12, 13, 14.
 // Ruled out: a page that writes the saved run on a refusal; one that counts the skipped records of a refused page.
-#[unsafe(no_mangle)]
-pub extern "C" fn willetcoffer_page(
+pub fn willetcoffer_page(
     ranks: &[u8],
     terms: &[u8],
     schema: &[u8],
@@ -112,7 +109,7 @@ pub extern "C" fn willetcoffer_page(
 ) -> u32
     ensures { page_export
         (record {
-          ranks = ranks.entry.now;
+          ranks = ranks.now;
           terms = terms.now;
           schema = schema.now;
           script = script.now;
@@ -152,13 +149,7 @@ pub extern "C" fn willetcoffer_page(
 
 // Total: 1 for its report, then 2 to 7.
 // Ruled out: a total that takes a report of any length; one that returns 0 for a refused card.
-#[unsafe(no_mangle)]
-pub extern "C" fn willetcoffer_total(
-    terms: &[u8],
-    schema: &[u8],
-    script: &[u8],
-    report: &mut [u8],
-) -> u32
+pub fn willetcoffer_total(terms: &[u8], schema: &[u8], script: &[u8], report: &mut [u8]) -> u32
     ensures { total_export terms.now schema.now script.now report.old
         ≡ record { number = result; report = report.new } }
 {
@@ -167,8 +158,7 @@ pub extern "C" fn willetcoffer_total(
 
 // Number: 1 for its record, then 16, 17.
 // Ruled out: a record of any length taken; a decimal's record with the kind of an integer.
-#[unsafe(no_mangle)]
-pub extern "C" fn willetcoffer_number(text: &[u8], record: &mut [u8]) -> u32
+pub fn willetcoffer_number(text: &[u8], record: &mut [u8]) -> u32
     ensures { number_export text.now «record».old ≡ record { number = result; «record» = «record».new } }
 {
     byte_calls::number(text, record)
@@ -176,13 +166,7 @@ pub extern "C" fn willetcoffer_number(text: &[u8], record: &mut [u8]) -> u32
 
 // Suggest: 1 for its report, then 2 to 8.
 // Ruled out: a suggestion that takes a report of any length; one that returns 0 for a refused card.
-#[unsafe(no_mangle)]
-pub extern "C" fn willetcoffer_suggest(
-    terms: &[u8],
-    schema: &[u8],
-    script: &[u8],
-    report: &mut [u8],
-) -> u32
+pub fn willetcoffer_suggest(terms: &[u8], schema: &[u8], script: &[u8], report: &mut [u8]) -> u32
     ensures { suggest_export terms.now schema.now script.now report.old
         ≡ record { number = result; report = report.new } }
 {
@@ -191,8 +175,7 @@ pub extern "C" fn willetcoffer_suggest(
 
 // A schema out of a page: 1, 13, 19. `schema` is the buffer that takes its records.
 // Ruled out: a schema call that takes a report of any length; one that reports a refused page.
-#[unsafe(no_mangle)]
-pub extern "C" fn willetcoffer_schema(page: &[u8], schema: &mut [u8], report: &mut [u8]) -> u32
+pub fn willetcoffer_schema(page: &[u8], schema: &mut [u8], report: &mut [u8]) -> u32
     ensures { schema_export page.now schema.old report.old
         ≡ record { number = result; schema = schema.new; report = report.new } }
 {
@@ -201,8 +184,7 @@ pub extern "C" fn willetcoffer_schema(page: &[u8], schema: &mut [u8], report: &m
 
 // Publish: 1, 10, 22, 23.
 // Ruled out: a publish that takes a report of any length; one that reports the length of a page that it does not write.
-#[unsafe(no_mangle)]
-pub extern "C" fn willetcoffer_publish(
+pub fn willetcoffer_publish(
     terms: &[u8],
     schema: &[u8],
     script: &[u8],

@@ -15,7 +15,7 @@ use definitions::{
 
 // Whether ranks and both tables have their lengths. Ruled out: one of them not looked at; a table that is longer.
 pub fn tables_fit(ranks: &[u8], table: &[u8], store: &[u8]) -> bool
-    ensures { result ≡ tables_fit (record { ranks = length ranks.entry.now; term_table = length table.now; quad_table = length store.now }) }
+    ensures { result ≡ tables_fit (record { ranks = length ranks.now; term_table = length table.now; quad_table = length store.now }) }
 {
     (ranks.len() == RANKS_WIDTH)
         & ((table.len() == TERM_TABLE_WIDTH) & (store.len() == QUAD_TABLE_WIDTH))

@@ -3,10 +3,13 @@
 
 mod printing;
 
-fn main() {
+use std::io::{self, Write};
+use whole_input::read_whole;
+
+fn main(rt: HostRuntime) -> io::Result<()> {
     let mut input = [0u8; printing::INPUT_WIDTH];
-    let n = io::read_full(libc::STDIN_FILENO, &mut input);
+    let n = read_whole(&mut rt.stdin(), &mut input)?;
     let mut out = [0u8; type_lines::OUTPUT_ROOM];
     let end = printing::print(&input[..n], &mut out);
-    io::write_all(libc::STDOUT_FILENO, &out[..end]);
+    rt.stdout().write_all(&out[..end])
 }

@@ -4,7 +4,7 @@ use borrow.Author.Rules.{rules}
 use Rattle.acts.proofs.drop_success.Goals as goal
 
 pub pop-requires : goal.pop-requires
-pop-requires c = let x = c.requires.on_top in record { height_nonzero = omega (arith, height-is x); height_le_depth_limit = omega (arith, height-is x, room x) }
+pop-requires c = record { height_nonzero = omega (arith, height-is c.requires.on_top); height_le_depth_limit = omega (arith, height-is c.requires.on_top, room c.requires.on_top) }
 
 pub returns : goal.returns
 returns c = λ x. success-acts x c.requires.at_value _ _ c.moved.ensures c.pop.ensures

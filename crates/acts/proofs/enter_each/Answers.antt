@@ -5,11 +5,11 @@ use borrow.Author.Rules.{rules}
 use Rattle.acts.proofs.enter_each.Goals as goal
 
 pub pop-requires : goal.pop-requires
-pop-requires c = let x = c.requires.on_top in record { height_nonzero = omega (arith, height-is x); height_le_depth_limit = omega (arith, height-is x, room x) }
+pop-requires c = record { height_nonzero = omega (arith, height-is c.requires.on_top); height_le_depth_limit = omega (arith, height-is c.requires.on_top, room c.requires.on_top) }
 
 pub returns-then-not-found : goal.returns-then-not-found
 returns-then-not-found c =
-    λ x. each-drops x c.args.tuple _ c.pop.ensures _ c.moved.ensures c.args.found (not-true c.args.found c.if-not-found.true)
+    λ x. each-drops x c.args.tuple _ c.pop.ensures _ c.moved.ensures c.args.found c.if-not-found.true
 
 pub overflow_add-second : goal.overflow_add-second
 overflow_add-second c = let b = blocked c.requires.on_top c.requires.at_value in omega (arith, b.reads.reads.room)
@@ -26,24 +26,21 @@ bind_tuple-bound-requires c =
 
 pub overflow_cast-place : goal.overflow_cast-place
 overflow_cast-place c =
-    let x = c.requires.on_top in
-    let b = blocked x c.requires.at_value in
-    omega (arith, b.reads.reads.room, x.here.short)
+    let b = blocked c.requires.on_top c.requires.at_value in
+    omega (arith, b.reads.reads.room, c.requires.on_top.here.short)
 
 pub overflow_cast-body : goal.overflow_cast-body
 overflow_cast-body c =
-    let x = c.requires.on_top in
-    let b = blocked x c.requires.at_value in
-    omega (arith, c.requires.body_at b.reads, b.low, x.here.short)
+    let b = blocked c.requires.on_top c.requires.at_value in
+    omega (arith, c.requires.body_at b.reads, b.low, c.requires.on_top.here.short)
 
 pub replace_and_push-requires : goal.replace_and_push-requires
 replace_and_push-requires c =
-    let x = c.requires.on_top in
-    let b = blocked x c.requires.at_value in
-    let h = bound-height x b c.args.tuple _ (bound_by x b c.args.tuple _ c.index-count.ensures _ c.bind_tuple-bound.ensures) in record { height_nonzero = omega arith; height_lt_depth_limit = omega (arith, b.room2) }
+    let b = blocked c.requires.on_top c.requires.at_value in
+    let h = bound-height c.requires.on_top b c.args.tuple _ (bound_by c.requires.on_top b c.args.tuple _ c.index-count.ensures _ c.bind_tuple-bound.ensures) in record { height_nonzero = omega arith; height_lt_depth_limit = omega (arith, b.room2) }
 
 pub returns : goal.returns
 returns c =
     λ x. let b = blocked x c.requires.at_value in
     each-enters x b c.args.tuple _ c.requires.body_at _ (bound_by x b c.args.tuple _ c.index-count.ensures _ c.bind_tuple-bound.ensures) _ c.first_numbers-last.ensures _
-    c.fresh_item-item.ensures _ c.replace_and_push.ensures _ c.moved-2.ensures c.args.found (not-false c.args.found c.if-not-found.false)
+    c.fresh_item-item.ensures _ c.replace_and_push.ensures _ c.moved-2.ensures c.args.found c.if-not-found.false

@@ -4,24 +4,23 @@ use borrow.Author.Rules.{rules}
 use Rattle.acts.proofs.enter_named.Goals as goal
 
 pub overflow_add-name : goal.overflow_add-name
-overflow_add-name c = let x = c.requires.on_top in let l = inside x _ c.requires.at_value (omega arith) in omega (arith, x.here.short)
+overflow_add-name c = let l = inside c.requires.on_top _ c.requires.at_value (omega arith) in omega (arith, c.requires.on_top.here.short)
 
 pub returns-in_default : goal.returns-in_default
 returns-in_default c =
-    absurd (let x = c.requires.on_top in (from x c.requires.at_value _ c.read_name.ensures).there c.in_default.is)
+    absurd ((from c.requires.on_top c.requires.at_value _ c.read_name.ensures).there c.in_default.is)
 
 pub number_of-graph-requires : goal.number_of-graph-requires
 number_of-graph-requires c = (from c.requires.on_top c.requires.at_value _ c.read_name.ensures).name
 
 pub overflow_cast-body : goal.overflow_cast-body
 overflow_cast-body c =
-    let x = c.requires.on_top in
-    let t = from x c.requires.at_value _ c.read_name.ensures in
+    let t = from c.requires.on_top c.requires.at_value _ c.read_name.ensures in
     let e = t.found _ c.in-Next.is in
-    omega (arith, t.low, x.here.short)
+    omega (arith, t.low, c.requires.on_top.here.short)
 
 pub replace-requires : goal.replace-requires
-replace-requires c = let x = c.requires.on_top in record { height_nonzero = omega (arith, height-is x); height_le_depth_limit = omega (arith, height-is x, room x) }
+replace-requires c = record { height_nonzero = omega (arith, height-is c.requires.on_top); height_le_depth_limit = omega (arith, height-is c.requires.on_top, room c.requires.on_top) }
 
 pub returns-then-is_fetched : goal.returns-then-is_fetched
 returns-then-is_fetched c =

@@ -6,7 +6,7 @@ use Rattle.acts.proofs.enter_once.Goals as goal
 
 pub returns-then-not-found : goal.returns-then-not-found
 returns-then-not-found c =
-    λ x. once-waits x c.args.tuple _ c.stands.ensures c.args.found (not-true c.args.found c.if-not-found.true)
+    λ x. once-waits x c.args.tuple _ c.stands.ensures c.args.found c.if-not-found.true
 
 pub overflow_add-second : goal.overflow_add-second
 overflow_add-second c = let b = blocked c.requires.on_top c.requires.at_value in omega (arith, b.reads.reads.room)
@@ -23,18 +23,16 @@ bind_tuple-bound-requires c =
 
 pub overflow_cast-body : goal.overflow_cast-body
 overflow_cast-body c =
-    let x = c.requires.on_top in
-    let b = blocked x c.requires.at_value in
-    omega (arith, c.requires.body_at b.reads, b.low, x.here.short)
+    let b = blocked c.requires.on_top c.requires.at_value in
+    omega (arith, c.requires.body_at b.reads, b.low, c.requires.on_top.here.short)
 
 pub replace-requires : goal.replace-requires
 replace-requires c =
-    let x = c.requires.on_top in
-    let b = blocked x c.requires.at_value in
-    let h = bound-height x b c.args.tuple _ (bound_by x b c.args.tuple _ c.index-count.ensures _ c.bind_tuple-bound.ensures) in record { height_nonzero = omega arith; height_le_depth_limit = omega (arith, room x) }
+    let b = blocked c.requires.on_top c.requires.at_value in
+    let h = bound-height c.requires.on_top b c.args.tuple _ (bound_by c.requires.on_top b c.args.tuple _ c.index-count.ensures _ c.bind_tuple-bound.ensures) in record { height_nonzero = omega arith; height_le_depth_limit = omega (arith, room c.requires.on_top) }
 
 pub returns : goal.returns
 returns c =
     λ x. let b = blocked x c.requires.at_value in
     once-enters x b c.args.tuple _ c.requires.body_at _ (bound_by x b c.args.tuple _ c.index-count.ensures _ c.bind_tuple-bound.ensures) _ c.fresh_item-item.ensures _
-    c.replace.ensures _ c.moved.ensures c.args.found (not-false c.args.found c.if-not-found.false)
+    c.replace.ensures _ c.moved.ensures c.args.found c.if-not-found.false

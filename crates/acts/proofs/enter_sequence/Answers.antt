@@ -4,29 +4,26 @@ use borrow.Author.Rules.{rules}
 use Rattle.acts.proofs.enter_sequence.Goals as goal
 
 pub overflow_add-first : goal.overflow_add-first
-overflow_add-first c = let x = c.requires.on_top in let l = inside x _ c.requires.at_value (omega arith) in omega (arith, x.here.short)
+overflow_add-first c = let l = inside c.requires.on_top _ c.requires.at_value (omega arith) in omega (arith, c.requires.on_top.here.short)
 
 pub returns-in_default : goal.returns-in_default
 returns-in_default c =
-    absurd (let x = c.requires.on_top in (two x c.requires.at_value _ c.read_script.ensures).there c.in_default.is)
+    absurd ((two c.requires.on_top c.requires.at_value _ c.read_script.ensures).there c.in_default.is)
 
 pub overflow_cast-second : goal.overflow_cast-second
 overflow_cast-second c =
-    let x = c.requires.on_top in
-    let t = two x c.requires.at_value _ c.read_script.ensures in
+    let t = two c.requires.on_top c.requires.at_value _ c.read_script.ensures in
     let e = t.found _ c.in-Next.is in
-    omega (arith, t.low, x.here.short)
+    omega (arith, t.low, c.requires.on_top.here.short)
 
 pub overflow_cast-first : goal.overflow_cast-first
 overflow_cast-first c =
-    let x = c.requires.on_top in
-    let l = inside x _ c.requires.at_value (omega arith) in
-    omega (arith, x.here.short)
+    let l = inside c.requires.on_top _ c.requires.at_value (omega arith) in
+    omega (arith, c.requires.on_top.here.short)
 
 pub replace_and_push-requires : goal.replace_and_push-requires
 replace_and_push-requires c =
-    let x = c.requires.on_top in
-    let t = two x c.requires.at_value _ c.read_script.ensures in record { height_nonzero = omega (arith, height-is x); height_lt_depth_limit = omega (arith, height-is x, t.room2) }
+    let t = two c.requires.on_top c.requires.at_value _ c.read_script.ensures in record { height_nonzero = omega (arith, height-is c.requires.on_top); height_lt_depth_limit = omega (arith, height-is c.requires.on_top, t.room2) }
 
 pub returns : goal.returns
 returns c =

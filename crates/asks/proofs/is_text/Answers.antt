@@ -9,7 +9,7 @@ use Rattle.asks.proofs.is_text.Goals as goal
 
 pub slice_bounds-same_bytes-end : goal.slice_bounds-same_bytes-end
 slice_bounds-same_bytes-end c =
-    sym (length-take-le (length c.args.text.now) c.args.field.now (omega (arith, ⟪c₁.requires⟫)))
+    sym (length-take-le (length c.args.text.now) c.args.field.now (omega (arith, c.requires)))
 
 pub returns-then-not-same_bytes : goal.returns-then-not-same_bytes
 returns-then-not-same_bytes c =

@@ -10,7 +10,7 @@ returns-in-2 c =
 
 pub returns-in-3 : goal.returns-in-3
 returns-in-3 c =
-    less-numbers c.args.a c.args.b _ c.told-in-3.ensures c.in-3.is _ _ ⟪c₂.counted.ensures⟫ ⟪c₁.counted2.ensures⟫ _ c.is_less.ensures
+    less-numbers c.args.a c.args.b _ c.told-in-3.ensures c.in-3.is _ _ (c.counted.ensures.value, c.counted.ensures.t) (c.counted-in-3.ensures.value, c.counted-in-3.ensures.t) _ c.is_less.ensures
 
 pub returns-in-4 : goal.returns-in-4
 returns-in-4 c =

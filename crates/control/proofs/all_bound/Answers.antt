@@ -17,14 +17,12 @@ loop-v-init c = (refl, omega arith)
 pub returns-then-not-good : goal.returns-then-not-good
 unfolding all_bound
 returns-then-not-good c =
-    let a = c.args in
-    variables-stop (bound_at a.t1 a.t2) c.loop-v.v c.loop-v.invariant.0 (omega arith) (not-true _ c.if-not-good.true)
+    variables-stop (bound_at c.args.free c.args.bound) c.loop-v.v c.loop-v.invariant.0 (omega arith) c.if-not-good.true
 
 pub loop-v-preserved : goal.loop-v-preserved
 loop-v-preserved c =
-    let a = c.args in
-    (variables-next (bound_at a.t1 a.t2) c.loop-v.v c.loop-v.invariant.0 (omega arith) (not-false _ c.if-not-good.false), omega arith)
+    (variables-next (bound_at c.args.free c.args.bound) c.loop-v.v c.loop-v.invariant.0 (omega arith) c.if-not-good.false, omega arith)
 
 pub returns : goal.returns
 unfolding all_bound
-returns c = let a = c.args in variables-done (bound_at a.t1 a.t2) c.loop-v.v c.loop-v.invariant.0 (omega arith)
+returns c = variables-done (bound_at c.args.free c.args.bound) c.loop-v.v c.loop-v.invariant.0 (omega arith)

@@ -17,18 +17,16 @@ loop-v-init c = (refl, omega arith)
 pub returns-then-not-binding_sound : goal.returns-then-not-binding_sound
 unfolding bindings_fit
 returns-then-not-binding_sound c =
-    let a = c.args in
-    variables-stop (binding_at a.leasts.now a.count a.t3 a.t4 a.t5) c.loop-v.v c.loop-v.invariant.0 (omega arith)
-    (sym c.binding_sound.ensures ∙ not-true _ c.if-not-binding_sound.true)
+    variables-stop (binding_at c.args.leasts.now c.args.count c.args.bound c.args.numbers c.args.types) c.loop-v.v c.loop-v.invariant.0 (omega arith)
+    (sym c.binding_sound.ensures ∙ c.if-not-binding_sound.true)
 
 pub loop-v-preserved : goal.loop-v-preserved
-loop-v-preserved c =
-    let a = c.args in (
-      variables-next (binding_at a.leasts.now a.count a.t3 a.t4 a.t5) c.loop-v.v c.loop-v.invariant.0 (omega arith)
-          (sym c.binding_sound.ensures ∙ not-false _ c.if-not-binding_sound.false),
-      omega arith,
-    )
+loop-v-preserved c = (
+  variables-next (binding_at c.args.leasts.now c.args.count c.args.bound c.args.numbers c.args.types) c.loop-v.v c.loop-v.invariant.0 (omega arith)
+      (sym c.binding_sound.ensures ∙ c.if-not-binding_sound.false),
+  omega arith,
+)
 
 pub returns : goal.returns
 unfolding bindings_fit
-returns c = let a = c.args in variables-done (binding_at a.leasts.now a.count a.t3 a.t4 a.t5) c.loop-v.v c.loop-v.invariant.0 (omega arith)
+returns c = variables-done (binding_at c.args.leasts.now c.args.count c.args.bound c.args.numbers c.args.types) c.loop-v.v c.loop-v.invariant.0 (omega arith)

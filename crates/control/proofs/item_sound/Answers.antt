@@ -19,7 +19,7 @@ free_in-free-requires c =
 pub returns-then-not-all_bound : goal.returns-then-not-all_bound
 returns-then-not-all_bound c =
     unbound-free _ _ _ _ _ _ (standing _ _ _ c.requires c.place_at.ensures c.in-At.is) (omega (arith, c.if-deep-place.false)) c.free_in-free.ensures c.all_bound.ensures
-    (not-true _ c.if-not-all_bound.true)
+    c.if-not-all_bound.true
 
 pub last_sound-requires : goal.last_sound-requires
 last_sound-requires c =
@@ -28,4 +28,4 @@ last_sound-requires c =
 pub returns : goal.returns
 returns c =
     bound-free _ _ _ _ _ _ (standing _ _ _ c.requires c.place_at.ensures c.in-At.is) (omega (arith, c.if-deep-place.false)) c.free_in-free.ensures c.all_bound.ensures
-    (not-false _ c.if-not-all_bound.false) c.last_sound.ensures
+    c.if-not-all_bound.false c.last_sound.ensures

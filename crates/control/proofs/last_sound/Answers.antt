@@ -8,7 +8,7 @@ use borrow.Author.Rules.{rules}
 use Rattle.control.proofs.last_sound.Goals as goal
 
 pub returns-then-not-started : goal.returns-then-not-started
-returns-then-not-started c = last-idle _ _ _ _ c.requires (not-true _ c.if-not-started.true)
+returns-then-not-started c = last-idle _ _ _ _ c.requires c.if-not-started.true
 
 pub bounds-script-at : goal.bounds-script-at
 bounds-script-at c = script-inside _ _ _ _ c.requires
@@ -33,4 +33,4 @@ tuple_fits-requires c = few-pairs (pairs-at _ _ _ _ c.requires c.if-script-at-ne
 
 pub returns : goal.returns
 returns c =
-    last-each _ _ _ _ c.requires (not-false _ c.if-not-started.false) c.if-script-at-ne115.false c.if-script-at-ne1.false c.tuple_fits.ensures
+    last-each _ _ _ _ c.requires c.if-not-started.false c.if-script-at-ne115.false c.if-script-at-ne1.false c.tuple_fits.ensures

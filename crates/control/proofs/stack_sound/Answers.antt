@@ -15,19 +15,16 @@ loop-place-init c = (refl, omega arith)
 
 pub returns-then-not-item_sound : goal.returns-then-not-item_sound
 returns-then-not-item_sound c =
-    let a = c.args in
-    stack-stop a.script.now a.loaded c.requires.script_value a.count a.bound a.t4 a.height c.loop-place.place c.loop-place.invariant.0 (omega arith) c.item_sound.ensures
-    (not-true _ c.if-not-item_sound.true)
+    stack-stop c.args.script.now c.args.loaded c.requires.script_value c.args.count c.args.bound c.args.items c.args.height c.loop-place.place c.loop-place.invariant.0 (omega arith) c.item_sound.ensures
+    c.if-not-item_sound.true
 
 pub loop-place-preserved : goal.loop-place-preserved
-loop-place-preserved c =
-    let a = c.args in (
-      stack-turn a.script.now a.loaded c.requires.script_value a.count a.bound a.t4 a.height c.loop-place.place c.loop-place.invariant.0 (omega arith) c.item_sound.ensures
-          (not-false _ c.if-not-item_sound.false),
-      omega arith,
-    )
+loop-place-preserved c = (
+  stack-turn c.args.script.now c.args.loaded c.requires.script_value c.args.count c.args.bound c.args.items c.args.height c.loop-place.place c.loop-place.invariant.0 (omega arith) c.item_sound.ensures
+      c.if-not-item_sound.false,
+  omega arith,
+)
 
 pub returns : goal.returns
 returns c =
-    let a = c.args in
-    stack-done a.script.now a.loaded c.requires.script_value a.count a.bound a.t4 a.height c.loop-place.place c.loop-place.invariant.0 (omega arith)
+    stack-done c.args.script.now c.args.loaded c.requires.script_value c.args.count c.args.bound c.args.items c.args.height c.loop-place.place c.loop-place.invariant.0 (omega arith)

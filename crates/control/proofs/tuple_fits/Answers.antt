@@ -14,18 +14,15 @@ loop-k-init c = (refl, omega arith)
 
 pub returns-then-count-number : goal.returns-then-count-number
 returns-then-count-number c =
-    let a = c.args in
-    let l : length a.t1 ≡ 4 = search rules in
-    tuple-stop a.count a.n a.t1 c.loop-k.k l (omega arith) c.loop-k.invariant.0 (omega arith) (omega (arith, c.number_index-number.ensures, c.if-count-number.true))
+    let l : length c.args.last ≡ 4 = search rules in
+    tuple-stop c.args.count c.args.n c.args.last c.loop-k.k l (omega arith) c.loop-k.invariant.0 (omega arith) (omega (arith, c.number_index-number.ensures, c.if-count-number.true))
 
 pub loop-k-preserved : goal.loop-k-preserved
 loop-k-preserved c =
-    let a = c.args in
-    let l : length a.t1 ≡ 4 = search rules in
-    (tuple-next a.count a.n a.t1 c.loop-k.k l (omega arith) c.loop-k.invariant.0 (omega arith) (omega (arith, c.number_index-number.ensures, c.if-count-number.false)), omega arith)
+    let l : length c.args.last ≡ 4 = search rules in
+    (tuple-next c.args.count c.args.n c.args.last c.loop-k.k l (omega arith) c.loop-k.invariant.0 (omega arith) (omega (arith, c.number_index-number.ensures, c.if-count-number.false)), omega arith)
 
 pub returns : goal.returns
 returns c =
-    let a = c.args in
-    let l : length a.t1 ≡ 4 = search rules in
-    tuple-done a.count a.n a.t1 c.loop-k.k l (omega arith) c.loop-k.invariant.0 (omega arith)
+    let l : length c.args.last ≡ 4 = search rules in
+    tuple-done c.args.count c.args.n c.args.last c.loop-k.k l (omega arith) c.loop-k.invariant.0 (omega arith)

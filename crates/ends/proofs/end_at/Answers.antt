@@ -16,8 +16,7 @@ overflow_add-end c = omega (arith, c.width.ensures, widths (byte c.args.script.n
 pub loop-left-init : goal.loop-left-init
 unfolding end_at
 loop-left-init c =
-    let a = c.args in
-    ap₂ (λ n w. after_all (after_in a.ends.now (length a.script.now)) n (a.at + w)) (sym c.children-left.ensures) (sym c.width.ensures)
+    ap₂ (λ n w. after_all (after_in c.args.ends.now (length c.args.script.now)) n (c.args.at + w)) (sym c.children-left.ensures) (sym c.width.ensures)
 
 pub loop-left-preserved : goal.loop-left-preserved
 loop-left-preserved c = c.loop-left.invariant ∙ all-on _ _ _ _ c.loop-left-test.true c.after-end.ensures

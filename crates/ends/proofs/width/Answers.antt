@@ -20,4 +20,4 @@ unfolding extent_of
 returns-in-86 c = width_is c.in-86.is
 
 pub returns-in_default : goal.returns-in_default
-returns-in_default c = other_width _ (let r = c.in_default.in_default-own.rest in (r.0.0.0.1, r.0.0.1, r.0.1, r.1))
+returns-in_default c = other_width _ ((c.in_default.in_default-own.rest.0.0.0.1, c.in_default.in_default-own.rest.0.0.1, c.in_default.in_default-own.rest.0.1, c.in_default.in_default-own.rest.1))

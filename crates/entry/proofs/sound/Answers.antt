@@ -34,7 +34,7 @@ slice_bounds-same-end c =
 pub returns-then-not-same : goal.returns-then-not-same
 returns-then-not-same c =
     λ ranks. other-types ranks _ _ _ c.args.table.now c.args.store.now c.args.saved c.check_card-card.ensures.value c.if-card-ne0.false c.check_card-card.ensures.tables_of
-    c.same.ensures.1 (not-true _ c.if-not-same.true) _ _ _ c.refused-then-not-same.ensures
+    c.same.ensures.1 c.if-not-same.true _ _ _ c.refused-then-not-same.ensures
 
 pub terms_sound-requires : goal.terms_sound-requires
 terms_sound-requires c = record {
@@ -48,7 +48,7 @@ terms_sound-requires c = record {
 pub returns-then-not-terms_sound : goal.returns-then-not-terms_sound
 returns-then-not-terms_sound c =
     λ ranks. other-terms ranks _ _ _ c.args.table.now c.args.store.now c.args.saved c.check_card-card.ensures.value c.if-card-ne0.false c.check_card-card.ensures.tables_of c.requires.table_len
-    c.counted.ensures c.in-Count.is c.terms_sound.ensures (not-true _ c.if-not-terms_sound.true) _ _ _ c.refused-then-not-terms_sound.ensures
+    c.counted.ensures c.in-Count.is c.terms_sound.ensures c.if-not-terms_sound.true _ _ _ c.refused-then-not-terms_sound.ensures
 
 pub slice_bounds-least_codes-end : goal.slice_bounds-least_codes-end
 slice_bounds-least_codes-end c =
@@ -69,10 +69,10 @@ least_codes-requires c = record {
     c.requires.leasts_len,
   );
   from_le_count = loaded-in [] _ _ _ c.args.table.now c.args.store.now c.args.saved c.check_card-card.ensures.value c.if-card-ne0.false c.check_card-card.ensures.tables_of c.requires.table_len
-      c.counted.ensures c.in-Count.is c.terms_sound.ensures (not-false _ c.if-not-terms_sound.false);
+      c.counted.ensures c.in-Count.is c.terms_sound.ensures c.if-not-terms_sound.false;
   out_value = codes-stand [] _ _ _ c.args.table.now c.args.store.now
       c.args.saved c.check_card-card.ensures.value c.if-card-ne0.false c.check_card-card.ensures.tables_of c.requires.table_len c.counted.ensures c.in-Count.is c.terms_sound.ensures
-      (not-false _ c.if-not-terms_sound.false);
+      c.if-not-terms_sound.false;
 }
 
 pub store_sound-requires : goal.store_sound-requires
@@ -84,7 +84,7 @@ store_sound-requires c = record {
         (table-holds [] _ _ _ c.args.table.now c.args.store.now c.args.saved c.check_card-card.ensures.value c.if-card-ne0.false c.check_card-card.ensures.tables_of c.requires.table_len
         c.counted.ensures c.in-Count.is),
     leasts-length [] _ _ _ c.args.table.now c.args.store.now c.args.saved c.check_card-card.ensures.value c.if-card-ne0.false
-        c.check_card-card.ensures.tables_of c.requires.table_len c.counted.ensures c.in-Count.is c.terms_sound.ensures (not-false _ c.if-not-terms_sound.false)
+        c.check_card-card.ensures.tables_of c.requires.table_len c.counted.ensures c.in-Count.is c.terms_sound.ensures c.if-not-terms_sound.false
         (omega (arith, c.leasts-1.given, c.requires.leasts_len)) c.least_codes.ensures,
   );
   quad_limit_in_bounds = omega (arith, c.requires.keys_len);
@@ -93,14 +93,14 @@ store_sound-requires c = record {
 pub shape_of-leasts-then-not-store_sound : goal.shape_of-leasts-then-not-store_sound
 shape_of-leasts-then-not-store_sound c =
     leasts-length [] _ _ _ c.args.table.now c.args.store.now c.args.saved c.check_card-card.ensures.value c.if-card-ne0.false c.check_card-card.ensures.tables_of c.requires.table_len
-    c.counted.ensures c.in-Count.is c.terms_sound.ensures (not-false _ c.if-not-terms_sound.false) (omega (arith, c.leasts-1.given, c.requires.leasts_len))
+    c.counted.ensures c.in-Count.is c.terms_sound.ensures c.if-not-terms_sound.false (omega (arith, c.leasts-1.given, c.requires.leasts_len))
     c.least_codes.ensures ∙ sym c.requires.leasts_len
 
 pub returns-then-not-store_sound : goal.returns-then-not-store_sound
 returns-then-not-store_sound c =
     λ ranks. other-store ranks _ _ _ c.args.table.now c.args.store.now c.args.saved c.check_card-card.ensures.value c.if-card-ne0.false c.check_card-card.ensures.tables_of c.requires.table_len
-    c.counted.ensures c.in-Count.is c.terms_sound.ensures (not-false _ c.if-not-terms_sound.false) (omega (arith, c.leasts-1.given, c.requires.leasts_len))
-    c.least_codes.ensures c.store_sound.ensures.value (not-true _ c.if-not-store_sound.true) _ _ _ c.refused-then-not-store_sound.ensures
+    c.counted.ensures c.in-Count.is c.terms_sound.ensures c.if-not-terms_sound.false (omega (arith, c.leasts-1.given, c.requires.leasts_len))
+    c.least_codes.ensures c.store_sound.ensures.value c.if-not-store_sound.true _ _ _ c.refused-then-not-store_sound.ensures
 
 pub control_sound-requires : goal.control_sound-requires
 control_sound-requires c = record {
@@ -111,7 +111,7 @@ control_sound-requires c = record {
         (table-holds [] _ _ _ c.args.table.now c.args.store.now c.args.saved c.check_card-card.ensures.value c.if-card-ne0.false c.check_card-card.ensures.tables_of c.requires.table_len
         c.counted.ensures c.in-Count.is),
     leasts-length [] _ _ _ c.args.table.now c.args.store.now c.args.saved c.check_card-card.ensures.value c.if-card-ne0.false
-        c.check_card-card.ensures.tables_of c.requires.table_len c.counted.ensures c.in-Count.is c.terms_sound.ensures (not-false _ c.if-not-terms_sound.false)
+        c.check_card-card.ensures.tables_of c.requires.table_len c.counted.ensures c.in-Count.is c.terms_sound.ensures c.if-not-terms_sound.false
         (omega (arith, c.leasts-1.given, c.requires.leasts_len)) c.least_codes.ensures,
   );
 }
@@ -119,25 +119,25 @@ control_sound-requires c = record {
 pub shape_of-leasts-then-not-control_sound : goal.shape_of-leasts-then-not-control_sound
 shape_of-leasts-then-not-control_sound c =
     leasts-length [] _ _ _ c.args.table.now c.args.store.now c.args.saved c.check_card-card.ensures.value c.if-card-ne0.false c.check_card-card.ensures.tables_of c.requires.table_len
-    c.counted.ensures c.in-Count.is c.terms_sound.ensures (not-false _ c.if-not-terms_sound.false) (omega (arith, c.leasts-1.given, c.requires.leasts_len))
+    c.counted.ensures c.in-Count.is c.terms_sound.ensures c.if-not-terms_sound.false (omega (arith, c.leasts-1.given, c.requires.leasts_len))
     c.least_codes.ensures ∙ sym c.requires.leasts_len
 
 pub returns-then-not-control_sound : goal.returns-then-not-control_sound
 returns-then-not-control_sound c =
     λ ranks. other-control ranks _ _ _ c.args.table.now c.args.store.now c.args.saved c.check_card-card.ensures.value c.if-card-ne0.false c.check_card-card.ensures.tables_of
-    c.requires.table_len c.counted.ensures c.in-Count.is c.terms_sound.ensures (not-false _ c.if-not-terms_sound.false) (omega (arith, c.leasts-1.given, c.requires.leasts_len))
-    c.least_codes.ensures c.store_sound.ensures.value (not-false _ c.if-not-store_sound.false) c.same.ensures.0 (not-false _ c.if-not-same.false) c.control_sound.ensures
-    (not-true _ c.if-not-control_sound.true) _ _ _ c.refused-then-not-control_sound.ensures
+    c.requires.table_len c.counted.ensures c.in-Count.is c.terms_sound.ensures c.if-not-terms_sound.false (omega (arith, c.leasts-1.given, c.requires.leasts_len))
+    c.least_codes.ensures c.store_sound.ensures.value c.if-not-store_sound.false c.same.ensures.0 c.if-not-same.false c.control_sound.ensures
+    c.if-not-control_sound.true _ _ _ c.refused-then-not-control_sound.ensures
 
 pub shape_of-leasts : goal.shape_of-leasts
 shape_of-leasts c =
     leasts-length [] _ _ _ c.args.table.now c.args.store.now c.args.saved c.check_card-card.ensures.value c.if-card-ne0.false c.check_card-card.ensures.tables_of c.requires.table_len
-    c.counted.ensures c.in-Count.is c.terms_sound.ensures (not-false _ c.if-not-terms_sound.false) (omega (arith, c.leasts-1.given, c.requires.leasts_len))
+    c.counted.ensures c.in-Count.is c.terms_sound.ensures c.if-not-terms_sound.false (omega (arith, c.leasts-1.given, c.requires.leasts_len))
     c.least_codes.ensures ∙ sym c.requires.leasts_len
 
 pub returns : goal.returns
 returns c =
     λ ranks. all_found ranks _ _ _ c.args.table.now c.args.store.now c.args.saved c.check_card-card.ensures.value c.if-card-ne0.false c.check_card-card.ensures.tables_of c.requires.table_len
-    c.counted.ensures c.in-Count.is c.terms_sound.ensures (not-false _ c.if-not-terms_sound.false) (omega (arith, c.leasts-1.given, c.requires.leasts_len))
-    c.least_codes.ensures c.store_sound.ensures.value (not-false _ c.if-not-store_sound.false) c.same.ensures.0 (not-false _ c.if-not-same.false) c.control_sound.ensures
-    (not-false _ c.if-not-control_sound.false) _ (omega (arith, c.keys-1.given, c.requires.keys_len)) c.store_sound.ensures.in_order
+    c.counted.ensures c.in-Count.is c.terms_sound.ensures c.if-not-terms_sound.false (omega (arith, c.leasts-1.given, c.requires.leasts_len))
+    c.least_codes.ensures c.store_sound.ensures.value c.if-not-store_sound.false c.same.ensures.0 c.if-not-same.false c.control_sound.ensures
+    c.if-not-control_sound.false _ (omega (arith, c.keys-1.given, c.requires.keys_len)) c.store_sound.ensures.in_order

@@ -6,10 +6,8 @@ use Rattle.graph_tests.proofs.is_graph.Goals as goal
 
 pub returns-then-count-graph : goal.returns-then-count-graph
 returns-then-count-graph c =
-    let a = c.args in
-    λ S terms codes e. graph-number a.leasts.now a.count a.graph S terms codes e (graph-past a.leasts.now a.count a.graph (omega arith))
+    λ S terms codes e. graph-number c.args.leasts.now c.args.count c.args.graph S terms codes e (graph-past c.args.leasts.now c.args.count c.args.graph (omega arith))
 
 pub returns : goal.returns
 returns c =
-    let a = c.args in
-    λ S terms codes e. graph-number a.leasts.now a.count a.graph S terms codes e c.is_uri.ensures
+    λ S terms codes e. graph-number c.args.leasts.now c.args.count c.args.graph S terms codes e c.is_uri.ensures

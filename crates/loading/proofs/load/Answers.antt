@@ -16,27 +16,27 @@ pub returns-then-not-tables_fit : goal.returns-then-not-tables_fit
 returns-then-not-tables_fit c =
     let lent : Lent = lent_of c.args.ranks.now c.args.terms.now c.args.schema.now c.args.script.now c.args.table.now c.args.store.now in
     let l = lent in
-    load-refused l (other_length l c.tables_fit.ensures (not-true _ c.if-not-tables_fit.true)) c.refused.ensures
+    load-refused l (other_length l c.tables_fit.ensures c.if-not-tables_fit.true) c.refused.ensures
 
 pub is_alphabet-requires : goal.is_alphabet-requires
-is_alphabet-requires c = fit-ranks _ c.tables_fit.ensures (not-false _ c.if-not-tables_fit.false)
+is_alphabet-requires c = fit-ranks _ c.tables_fit.ensures c.if-not-tables_fit.false
 
 pub returns-then-not-is_alphabet : goal.returns-then-not-is_alphabet
 returns-then-not-is_alphabet c =
     let lent : Lent = lent_of c.args.ranks.now c.args.terms.now c.args.schema.now c.args.script.now c.args.table.now c.args.store.now in
     let l = lent in
-    load-refused l (other-ranks l c.tables_fit.ensures (not-false _ c.if-not-tables_fit.false) c.is_alphabet.ensures (not-true _ c.if-not-is_alphabet.true)) c.refused-then-not-is_alphabet.ensures
+    load-refused l (other-ranks l c.tables_fit.ensures c.if-not-tables_fit.false c.is_alphabet.ensures c.if-not-is_alphabet.true) c.refused-then-not-is_alphabet.ensures
 
 pub returns-then-card-ne0 : goal.returns-then-card-ne0
 returns-then-card-ne0 c =
     let lent : Lent = lent_of c.args.ranks.now c.args.terms.now c.args.schema.now c.args.script.now c.args.table.now c.args.store.now in
     let l = lent in
     load-refused l
-    (check-refused l c.tables_fit.ensures (not-false _ c.if-not-tables_fit.false) c.is_alphabet.ensures (not-false _ c.if-not-is_alphabet.false) c.check_card-card.ensures.value c.if-card-ne0.true)
+    (check-refused l c.tables_fit.ensures c.if-not-tables_fit.false c.is_alphabet.ensures c.if-not-is_alphabet.false c.check_card-card.ensures.value c.if-card-ne0.true)
     c.refused-then-card-ne0.ensures
 
 pub returns : goal.returns
 returns c =
     let lent : Lent = lent_of c.args.ranks.now c.args.terms.now c.args.schema.now c.args.script.now c.args.table.now c.args.store.now in
-    load-accepted lent.tables-fit.ensures (not-false _ c.if-not-tables_fit.false) c.is_alphabet.ensures (not-false _ c.if-not-is_alphabet.false)
+    load-accepted lent.tables-fit.ensures c.if-not-tables_fit.false c.is_alphabet.ensures c.if-not-is_alphabet.false
     c.check_card-card.ensures.value c.if-card-ne0.false c.check_card-card.ensures.tables_of _ c.accepted.ensures refl c.copy_from_slice.ensures.after c.copy_from_slice-2.ensures.after

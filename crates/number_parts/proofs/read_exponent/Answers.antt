@@ -8,16 +8,15 @@ use Rattle.number_parts.proofs.PartLaws.{Found, found, no_shift, e-inside, bad-s
 use Rattle.number_parts.proofs.read_exponent.Goals as goal
 
 pub returns-then-not-b : goal.returns-then-not-b
-returns-then-not-b c = no_shift _ _ _ c.byte_at-b.ensures (not-true _ c.if-not-b.true)
+returns-then-not-b c = no_shift _ _ _ c.byte_at-b.ensures c.if-not-b.true
 
 pub overflow_add-sign : goal.overflow_add-sign
 overflow_add-sign c =
-    let a = c.args in
-    omega (arith, e-inside a.s.now a.at _ c.byte_at-b.ensures (not-false _ c.if-not-b.false))
+    omega (arith, e-inside c.args.s.now c.args.at _ c.byte_at-b.ensures c.if-not-b.false)
 
 pub returns-in_default : goal.returns-in_default
 returns-in_default c =
-    bad-shift _ _ _ c.byte_at-b.ensures (not-false _ c.if-not-b.false) c.after_sign-from.ensures c.read_digits.ensures c.in_default.is
+    bad-shift _ _ _ c.byte_at-b.ensures c.if-not-b.false c.after_sign-from.ensures c.read_digits.ensures c.in_default.is
 
 pub slice_bounds-small-count : goal.slice_bounds-small-count
 slice_bounds-small-count c =
@@ -34,16 +33,16 @@ slice_bounds-small-end c =
 pub small-places-requires : goal.small-places-requires
 small-places-requires c =
     let digits : Found exponent_digits c.args.s.now c.after_sign-from.result c.in-Next.end = found _ _ _ _ c.read_digits.ensures c.in-Next.is in
-    let d = digits in let whole = rw d.between (record { all = d.are.all; few = omega (arith, d.are.few) }, (d.are.some, d.are.few)) in record { digits = whole.0; digits_nonzero = whole.1 }
+    let d = digits in record { digits = rw d.between (record { all = d.are.all; few = omega (arith, d.are.few) }); digits_nonzero = rw d.between ((d.are.some, d.are.few)) }
 
 pub returns-then-byte_at-eq45 : goal.returns-then-byte_at-eq45
 returns-then-byte_at-eq45 c =
     let digits : Found exponent_digits c.args.s.now c.after_sign-from.result c.in-Next.end = found _ _ _ _ c.read_digits.ensures c.in-Next.is in
-    shift-down _ _ _ c.byte_at-b.ensures (not-false _ c.if-not-b.false) c.after_sign-from.ensures digits.small.ensures.0
+    shift-down _ _ _ c.byte_at-b.ensures c.if-not-b.false c.after_sign-from.ensures digits.small.ensures.0
     (eq-eqb _ _ (sym c.byte_at.ensures ∙ c.if-byte_at-eq45.true))
 
 pub returns : goal.returns
 returns c =
     let digits : Found exponent_digits c.args.s.now c.after_sign-from.result c.in-Next.end = found _ _ _ _ c.read_digits.ensures c.in-Next.is in
-    shift-up _ _ _ c.byte_at-b.ensures (not-false _ c.if-not-b.false) c.after_sign-from.ensures digits.small.ensures.0
+    shift-up _ _ _ c.byte_at-b.ensures c.if-not-b.false c.after_sign-from.ensures digits.small.ensures.0
     (ne_eqb _ _ (λ e. c.if-byte_at-eq45.false (c.byte_at.ensures ∙ e)))

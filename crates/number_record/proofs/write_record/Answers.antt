@@ -16,7 +16,6 @@ shape_of-out c = simp length-set at c.out-1.given.1
 
 pub returns : goal.returns
 returns c =
-    let a = c.args in
-    let first = put_one {old = a.out.now} a.kind put-none (omega (arith, c.requires)) in
+    let first = put_one {old = c.args.out.now} c.args.kind put-none (omega (arith, c.requires)) in
     put_all (put-part c.write_number.new.out 9 first (omega arith) (omega (arith, c.requires)) c.write_number.auto.1.0) (omega (arith, c.requires))
-    ∙ ap (λ l. a.kind ∷ l) (c.write_number.ensures ∙ ap (λ k. little_bytes k a.n) c.write_number-arg-1.given.2)
+    ∙ ap (λ l. c.args.kind ∷ l) (c.write_number.ensures ∙ ap (λ k. little_bytes k c.args.n) c.write_number-arg-1.given.2)

@@ -11,8 +11,7 @@ digit-requires c = first-digit c.args.whole.now c.args.fraction.now _ c.requires
 
 pub returns-then-i-whole : goal.returns-then-i-whole
 returns-then-i-whole c =
-    let a = c.args in
-    (c.digit.ensures.0 ∙ ap (λ b. b - 0x30) (first-is a.whole.now a.fraction.now a.i c.if-i-whole.true), c.digit.ensures.1)
+    (c.digit.ensures.0 ∙ ap (λ b. b - 0x30) (first-is c.args.whole.now c.args.fraction.now c.args.i c.if-i-whole.true), c.digit.ensures.1)
 
 pub digit-requires-then-j-fraction : goal.digit-requires-then-j-fraction
 digit-requires-then-j-fraction c =
@@ -20,8 +19,7 @@ digit-requires-then-j-fraction c =
 
 pub returns-then-j-fraction : goal.returns-then-j-fraction
 returns-then-j-fraction c =
-    let a = c.args in
-    (c.digit-then-j-fraction.ensures.0 ∙ ap (λ b. b - 0x30) (second_is a.whole.now a.fraction.now a.i c.if-i-whole.false c.if-j-fraction.true), c.digit-then-j-fraction.ensures.1)
+    (c.digit-then-j-fraction.ensures.0 ∙ ap (λ b. b - 0x30) (second_is c.args.whole.now c.args.fraction.now c.args.i c.if-i-whole.false c.if-j-fraction.true), c.digit-then-j-fraction.ensures.1)
 
 pub returns : goal.returns
-returns c = let a = c.args in (past-digits a.whole.now a.fraction.now a.i c.if-j-fraction.false c.if-i-whole.false, omega arith)
+returns c = (past-digits c.args.whole.now c.args.fraction.now c.args.i c.if-j-fraction.false c.if-i-whole.false, omega arith)

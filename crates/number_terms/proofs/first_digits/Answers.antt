@@ -19,3 +19,6 @@ loop-i-preserved c = (front-next _ _ _ c.loop-i.invariant.0 c.digit_at-d.ensures
 
 pub returns : goal.returns
 returns c = front-end _ _ _ c.loop-i.invariant.0 _ _ (omega arith) (omega arith) (omega arith)
+
+pub digit_at-d-requires : goal.digit_at-d-requires
+digit_at-d-requires c = c.requires.digits

@@ -13,7 +13,7 @@ pub overflow_add-count : goal.overflow_add-count
 overflow_add-count c = omega (arith, c.requires.few, length-append c.args.whole.now c.args.fraction.now)
 
 pub loop-i-init : goal.loop-i-init
-loop-i-init c = let a = c.args in (refl, sym (length-append a.whole.now a.fraction.now))
+loop-i-init c = (refl, sym (length-append c.args.whole.now c.args.fraction.now))
 
 pub returns-then-digit_at-ne0 : goal.returns-then-digit_at-ne0
 returns-then-digit_at-ne0 c =
@@ -28,3 +28,6 @@ loop-i-preserved c =
 pub returns : goal.returns
 returns c =
     let digits : Text = c.args.whole.now ++ c.args.fraction.now in rest_end digits.loop.i (omega arith) ∙ sym c.loop-i.invariant.0
+
+pub digit_at-requires : goal.digit_at-requires
+digit_at-requires c = c.requires

@@ -19,21 +19,18 @@ whole_amount-requires c = record { digits = c.requires.digits; limit_le_decimal_
 
 pub returns-in_default : goal.returns-in_default
 returns-in_default c =
-    let term : Option Term = let a = c.args in term_with a.plain a.minus (natural_of (a.whole.now ++ a.fraction.now)) a.up (length a.fraction.now + a.down) in
-    let integer : Asked c.whole_amount.result Term.integer c.args.minus term = let a = c.args in
-    integer-asked a.whole.now a.fraction.now c.requires.digits a.minus a.up a.down c.if-plain.true c.whole_amount.ensures in integer.outside c.in_default.is
+    let term : Option Term = term_with c.args.plain c.args.minus (natural_of (c.args.whole.now ++ c.args.fraction.now)) c.args.up (length c.args.fraction.now + c.args.down) in
+    let integer : Asked c.whole_amount.result Term.integer c.args.minus term = integer-asked c.args.whole.now c.args.fraction.now c.requires.digits c.args.minus c.args.up c.args.down c.if-plain.true c.whole_amount.ensures in integer.outside c.in_default.is
 
 pub with_sign-requires : goal.with_sign-requires
 with_sign-requires c =
-    let term : Option Term = let a = c.args in term_with a.plain a.minus (natural_of (a.whole.now ++ a.fraction.now)) a.up (length a.fraction.now + a.down) in
-    let integer : Asked c.whole_amount.result Term.integer c.args.minus term = let a = c.args in
-    integer-asked a.whole.now a.fraction.now c.requires.digits a.minus a.up a.down c.if-plain.true c.whole_amount.ensures in integer.fits c.in-Within.is
+    let term : Option Term = term_with c.args.plain c.args.minus (natural_of (c.args.whole.now ++ c.args.fraction.now)) c.args.up (length c.args.fraction.now + c.args.down) in
+    let integer : Asked c.whole_amount.result Term.integer c.args.minus term = integer-asked c.args.whole.now c.args.fraction.now c.requires.digits c.args.minus c.args.up c.args.down c.if-plain.true c.whole_amount.ensures in integer.fits c.in-Within.is
 
 pub returns-then-plain : goal.returns-then-plain
 returns-then-plain c =
-    let term : Option Term = let a = c.args in term_with a.plain a.minus (natural_of (a.whole.now ++ a.fraction.now)) a.up (length a.fraction.now + a.down) in
-    let integer : Asked c.whole_amount.result Term.integer c.args.minus term = let a = c.args in
-    integer-asked a.whole.now a.fraction.now c.requires.digits a.minus a.up a.down c.if-plain.true c.whole_amount.ensures in integer.within c.in-Within.is c.with_sign.ensures
+    let term : Option Term = term_with c.args.plain c.args.minus (natural_of (c.args.whole.now ++ c.args.fraction.now)) c.args.up (length c.args.fraction.now + c.args.down) in
+    let integer : Asked c.whole_amount.result Term.integer c.args.minus term = integer-asked c.args.whole.now c.args.fraction.now c.requires.digits c.args.minus c.args.up c.args.down c.if-plain.true c.whole_amount.ensures in integer.within c.in-Within.is c.with_sign.ensures
 
 pub kept-keep-requires : goal.kept-keep-requires
 kept-keep-requires c =
@@ -44,21 +41,18 @@ whole_amount-requires-2 c = record { digits = c.requires.digits; limit_le_decima
 
 pub returns-in_default-whole_amount : goal.returns-in_default-whole_amount
 returns-in_default-whole_amount c =
-    let term : Option Term = let a = c.args in term_with a.plain a.minus (natural_of (a.whole.now ++ a.fraction.now)) a.up (length a.fraction.now + a.down) in
-    let decimal : Asked c.whole_amount-2.result Term.decimal c.args.minus term = let a = c.args in
-    decimal-asked a.whole.now a.fraction.now c.requires.digits a.minus a.up a.down c.if-plain.false c.kept-keep.ensures
+    let term : Option Term = term_with c.args.plain c.args.minus (natural_of (c.args.whole.now ++ c.args.fraction.now)) c.args.up (length c.args.fraction.now + c.args.down) in
+    let decimal : Asked c.whole_amount-2.result Term.decimal c.args.minus term = decimal-asked c.args.whole.now c.args.fraction.now c.requires.digits c.args.minus c.args.up c.args.down c.if-plain.false c.kept-keep.ensures
     c.whole_amount-2.ensures in decimal.outside c.in_default-whole_amount.is
 
 pub with_sign-requires-2 : goal.with_sign-requires-2
 with_sign-requires-2 c =
-    let term : Option Term = let a = c.args in term_with a.plain a.minus (natural_of (a.whole.now ++ a.fraction.now)) a.up (length a.fraction.now + a.down) in
-    let decimal : Asked c.whole_amount-2.result Term.decimal c.args.minus term = let a = c.args in
-    decimal-asked a.whole.now a.fraction.now c.requires.digits a.minus a.up a.down c.if-plain.false c.kept-keep.ensures
+    let term : Option Term = term_with c.args.plain c.args.minus (natural_of (c.args.whole.now ++ c.args.fraction.now)) c.args.up (length c.args.fraction.now + c.args.down) in
+    let decimal : Asked c.whole_amount-2.result Term.decimal c.args.minus term = decimal-asked c.args.whole.now c.args.fraction.now c.requires.digits c.args.minus c.args.up c.args.down c.if-plain.false c.kept-keep.ensures
     c.whole_amount-2.ensures in decimal.fits c.in-Within-whole_amount.is
 
 pub returns : goal.returns
 returns c =
-    let term : Option Term = let a = c.args in term_with a.plain a.minus (natural_of (a.whole.now ++ a.fraction.now)) a.up (length a.fraction.now + a.down) in
-    let decimal : Asked c.whole_amount-2.result Term.decimal c.args.minus term = let a = c.args in
-    decimal-asked a.whole.now a.fraction.now c.requires.digits a.minus a.up a.down c.if-plain.false c.kept-keep.ensures
+    let term : Option Term = term_with c.args.plain c.args.minus (natural_of (c.args.whole.now ++ c.args.fraction.now)) c.args.up (length c.args.fraction.now + c.args.down) in
+    let decimal : Asked c.whole_amount-2.result Term.decimal c.args.minus term = decimal-asked c.args.whole.now c.args.fraction.now c.requires.digits c.args.minus c.args.up c.args.down c.if-plain.false c.kept-keep.ensures
     c.whole_amount-2.ensures in decimal.within c.in-Within-whole_amount.is c.with_sign-2.ensures

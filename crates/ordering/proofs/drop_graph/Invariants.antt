@@ -11,7 +11,7 @@ use Rattle.ordering.proofs.Others.{around, down, all-down}
 use Rattle.ordering.proofs.drop_graph.Given as goal
 
 abbrev pub invariant-loop-i : goal.invariant-loop-i
-invariant-loop-i l = (l.kept ≤ l.i) × (l.i ≤ l.graph) × (length l.keys ≡ length l.n) × (others l.low (keys_from l.graph l.n 0) ≡ keys_from l.kept l.keys 0 ++ keys_from (l.graph - l.i) l.keys l.i)
+invariant-loop-i l = (l.kept ≤ l.i) × (l.i ≤ l.n) × (length l.keys ≡ length l.initial.keys) × (others l.graph (keys_from l.n l.initial.keys 0) ≡ keys_from l.kept l.keys 0 ++ keys_from (l.n - l.i) l.keys l.i)
 
 abbrev pub decreases-loop-i : goal.decreases-loop-i
-decreases-loop-i l = l.graph - l.i
+decreases-loop-i l = l.n - l.i

@@ -5,4 +5,4 @@ use Rattle.output.proofs.put_number.Goals as goal
 
 pub returns : goal.returns
 unfolding natural_text
-returns c = let whole = ⟪c.before.before.put-digits.ensures⟫ in record { written = whole.0; upper_bound = whole.1 }
+returns c = record { written = c.put_digits.ensures.written; upper_bound = c.put_digits.ensures.upper_bound }

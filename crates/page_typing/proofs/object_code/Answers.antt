@@ -16,4 +16,4 @@ pub returns-in-132 : goal.returns-in-132
 returns-in-132 c = code_is _ 0x84 Datatype.decimal c.in-132.is refl
 
 pub returns-in_default : goal.returns-in_default
-returns-in_default c = let n = c.in_default.in_default-own.rest in code-last _ n.0.0.0.1 n.0.0.1 n.0.1 n.1
+returns-in_default c = code-last _ c.in_default.in_default-own.rest.0.0.0.1 c.in_default.in_default-own.rest.0.0.1 c.in_default.in_default-own.rest.0.1 c.in_default.in_default-own.rest.1

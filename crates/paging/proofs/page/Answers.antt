@@ -24,7 +24,7 @@ returns-then-not-is_graph c =
     let lent_at : Lent = lent_of c.args.ranks.now c.args.terms.now c.args.schema.now c.args.script.now c.args.table.now c.args.store.now in
     let x = entered c.enter-entered.ensures c.if-entered-ne0.false in
     refused-12 lent_at.args.saved c.args.graph c.args.page.now x.0 x.1
-    (sym (c.is_graph.ensures x.0.checked.schema x.0.state.store.terms (x.2.lent 0).least_of (sym (x.2.lent 0).tabled.counted)) ∙ not-true _ c.if-not-is_graph.true)
+    (sym (c.is_graph.ensures x.0.checked.schema x.0.state.store.terms (x.2.lent 0).least_of (sym (x.2.lent 0).tabled.counted)) ∙ c.if-not-is_graph.true)
     c.refused-then-not-is_graph.ensures
 
 pub returns-then-not-page_ok : goal.returns-then-not-page_ok
@@ -32,12 +32,12 @@ returns-then-not-page_ok c =
     let lent_at : Lent = lent_of c.args.ranks.now c.args.terms.now c.args.schema.now c.args.script.now c.args.table.now c.args.store.now in
     let x = entered c.enter-entered.ensures c.if-entered-ne0.false in
     refused-13 lent_at.args.saved c.args.graph c.args.page.now x.0 x.1
-    (sym (c.is_graph.ensures x.0.checked.schema x.0.state.store.terms (x.2.lent 0).least_of (sym (x.2.lent 0).tabled.counted)) ∙ not-false _ c.if-not-is_graph.false)
-    (is_none _ (sym c.page_ok.ensures ∙ not-true _ c.if-not-page_ok.true)) c.refused-then-not-page_ok.ensures
+    (sym (c.is_graph.ensures x.0.checked.schema x.0.state.store.terms (x.2.lent 0).least_of (sym (x.2.lent 0).tabled.counted)) ∙ c.if-not-is_graph.false)
+    (is_none _ (sym c.page_ok.ensures ∙ c.if-not-page_ok.true)) c.refused-then-not-page_ok.ensures
 
 pub take-requires : goal.take-requires
 take-requires c =
-    let x = entered c.enter-entered.ensures c.if-entered-ne0.false in let rs = is-some _ (sym c.page_ok.ensures ∙ not-false _ c.if-not-page_ok.false) in (
+    let x = entered c.enter-entered.ensures c.if-entered-ne0.false in let rs = is-some _ (sym c.page_ok.ensures ∙ c.if-not-page_ok.false) in (
       _,
       record {
         found = x.0;
@@ -45,7 +45,7 @@ take-requires c =
         count = sym (x.2.lent 0).tabled.counted;
         hashed = x.2.hashed;
         is_uri =
-            (sym (c.is_graph.ensures x.0.checked.schema x.0.state.store.terms (x.2.lent 0).least_of (sym (x.2.lent 0).tabled.counted)) ∙ not-false _ c.if-not-is_graph.false);
+            (sym (c.is_graph.ensures x.0.checked.schema x.0.state.store.terms (x.2.lent 0).least_of (sym (x.2.lent 0).tabled.counted)) ∙ c.if-not-is_graph.false);
         triples = rs.0;
         reads = rs.1;
       },
@@ -53,4 +53,4 @@ take-requires c =
 
 pub returns : goal.returns
 unfolding take-requires
-returns c = c.take.ensures _ (take-requires ⟪c₁.before⟫ c.take.lifetimes).1
+returns c = c.take.ensures _ (take-requires c c.take.lifetimes).1

@@ -23,12 +23,12 @@ returns-then-b-eq36 c =
 pub returns-then-not-may_follow : goal.returns-then-not-may_follow
 returns-then-not-may_follow c =
     sym (c.loop-i.invariant ∙ pieces-bad c.args.s.now c.loop-i.i c.args.end c.loop-i.atom (omega arith) (omega arith) c.if-b-eq0.false c.if-b-eq36.false
-    (sym c.may_follow.ensures ∙ not-true c.may_follow.result c.if-not-may_follow.true))
+    (sym c.may_follow.ensures ∙ c.if-not-may_follow.true))
 
 pub loop-i-preserved : goal.loop-i-preserved
 loop-i-preserved c =
     c.loop-i.invariant ∙ pieces-turn c.args.s.now c.loop-i.i c.args.end c.loop-i.atom (omega arith) (omega arith) c.if-b-eq0.false c.if-b-eq36.false
-    (sym c.may_follow.ensures ∙ not-false c.may_follow.result c.if-not-may_follow.false)
+    (sym c.may_follow.ensures ∙ c.if-not-may_follow.false)
 
 pub returns : goal.returns
 returns c = sym (c.loop-i.invariant ∙ pieces-done c.args.s.now c.loop-i.i c.args.end c.loop-i.atom (omega arith))

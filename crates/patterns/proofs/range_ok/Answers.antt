@@ -32,12 +32,12 @@ returns-then-b-eq42 c =
 pub returns-then-not-tag_byte : goal.returns-then-not-tag_byte
 returns-then-not-tag_byte c =
     sym (c.loop-i.invariant ∙ tag-bad c.args.s.now c.loop-i.i (c.args.at + 8) c.loop-i.letter c.loop-i.hyphen (omega arith) (omega arith) c.if-b-eq0.false
-    c.if-b-eq42.false (sym c.tag_byte.ensures ∙ not-true c.tag_byte.result c.if-not-tag_byte.true))
+    c.if-b-eq42.false (sym c.tag_byte.ensures ∙ c.if-not-tag_byte.true))
 
 pub loop-i-preserved : goal.loop-i-preserved
 loop-i-preserved c =
     c.loop-i.invariant ∙ tag-turn c.args.s.now c.loop-i.i (c.args.at + 8) c.loop-i.letter c.loop-i.hyphen (omega arith) (omega arith) c.if-b-eq0.false c.if-b-eq42.false
-    (sym c.tag_byte.ensures ∙ not-false c.tag_byte.result c.if-not-tag_byte.false)
+    (sym c.tag_byte.ensures ∙ c.if-not-tag_byte.false)
 
 pub returns : goal.returns
 returns c =

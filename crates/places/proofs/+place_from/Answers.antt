@@ -8,9 +8,6 @@ use Rattle.places.proofs.PlaceLaws.{success-place, named-place, block-place, seq
 use Prim.Native.Nat.{ℕ, ◌<◌}
 use Rattle.places.proofs.+place_from.Goals as goal
 
--- ?? measure: abbrev μ-place-from : Measures 1 place-from-kinds.ps ℕ
--- ?? μ-place-from κs a = a.1.1.1.0
-
 pub after_name-next-requires : goal.after_name-next-requires
 after_name-next-requires t c =
     let here : ScriptAt t c.args.script.now c.args.terms c.args.left c.args.at = script-at _ _ _ _ _ c.requires.loads c.requires.left_bound.0 in (here.from_named c.in-114.is).first
@@ -46,26 +43,38 @@ place_from-d-requires t c =
 pub returns-in-113 : goal.returns-in-113
 returns-in-113 t c =
     let here : ScriptAt t c.args.script.now c.args.terms c.args.left c.args.at = script-at _ _ _ _ _ c.requires.loads c.requires.left_bound.0 in
-    let a = c.args in
-    leaf_walked (here.success c.in-113.is) (success-place a.wanted a.at a.depth c.own_place-place.ensures refl)
+    leaf_walked (here.success c.in-113.is) (success-place c.args.wanted c.args.at c.args.depth c.own_place-place.ensures refl)
 
 pub returns-in-114 : goal.returns-in-114
 returns-in-114 t c =
     let here : ScriptAt t c.args.script.now c.args.terms c.args.left c.args.at = script-at _ _ _ _ _ c.requires.loads c.requires.left_bound.0 in
-    let a = c.args in
     (here.from_named c.in-114.is).node c.after_name-next.ensures c.place_from-c.ensures
-    (λ n d u h. named-place a.wanted a.at a.depth c.own_place-place-in-114.ensures n d h)
+    (λ n d u h. named-place c.args.wanted c.args.at c.args.depth c.own_place-place-in-114.ensures n d h)
 
 pub returns-in-115 : goal.returns-in-115
 returns-in-115 t c =
     let here : ScriptAt t c.args.script.now c.args.terms c.args.left c.args.at = script-at _ _ _ _ _ c.requires.loads c.requires.left_bound.0 in
-    let a = c.args in
     (here.block c.in-115.is).parts.node c.after_query-next.ensures c.place_from-c-in-115.ensures
-    (λ q d u h. block-place a.wanted a.at a.depth c.own_place-place-in-115.ensures _ _ q d h)
+    (λ q d u h. block-place c.args.wanted c.args.at c.args.depth c.own_place-place-in-115.ensures _ _ q d h)
 
 pub returns-in_default : goal.returns-in_default
 returns-in_default t c =
     let here : ScriptAt t c.args.script.now c.args.terms c.args.left c.args.at = script-at _ _ _ _ _ c.requires.loads c.requires.left_bound.0 in
-    let i = c.args in
     (here.sequence c.in_default.in_default-own.rest).node c.place_from-c-in_default.ensures
-    c.place_from-d.ensures (λ a d g h. sequence-place i.wanted i.at i.depth c.own_place-place-in_default.ensures a d c.first_place-inner.ensures g h)
+    c.place_from-d.ensures (λ a d g h. sequence-place c.args.wanted c.args.at c.args.depth c.own_place-place-in_default.ensures a d c.first_place-inner.ensures g h)
+
+pub bounds-script-at : goal.bounds-script-at
+bounds-script-at t c =
+    let here : ScriptAt t c.args.script.now c.args.terms c.args.left c.args.at = script-at _ _ _ _ _ c.requires.loads c.requires.left_bound.0 in here.inside
+
+pub overflow_add-first : goal.overflow_add-first
+overflow_add-first t c =
+    let here : ScriptAt t c.args.script.now c.args.terms c.args.left c.args.at = script-at _ _ _ _ _ c.requires.loads c.requires.left_bound.0 in omega (arith, here.inside)
+
+pub overflow_sub-below : goal.overflow_sub-below
+overflow_sub-below t c =
+    let here : ScriptAt t c.args.script.now c.args.terms c.args.left c.args.at = script-at _ _ _ _ _ c.requires.loads c.requires.left_bound.0 in here.pos
+
+pub overflow_add-deeper : goal.overflow_add-deeper
+overflow_add-deeper t c =
+    let here : ScriptAt t c.args.script.now c.args.terms c.args.left c.args.at = script-at _ _ _ _ _ c.requires.loads c.requires.left_bound.0 in omega (arith, here.pos)

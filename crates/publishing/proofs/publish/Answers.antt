@@ -22,18 +22,18 @@ pub returns-then-not-both_fit : goal.returns-then-not-both_fit
 returns-then-not-both_fit c =
     let lent_at : Lent = lent_of [] c.args.terms.now c.args.schema.now c.args.script.now c.args.table.now c.args.store.now in
     λ ranks. ranks-unread ranks [] _ _ _ _ _ _ _ _
-    ∙ wrong-length lent_at.args.saved c.args.graph c.args.out.now (sym c.both_fit.ensures ∙ not-true _ c.if-not-both_fit.true)
+    ∙ wrong-length lent_at.args.saved c.args.graph c.args.out.now (sym c.both_fit.ensures ∙ c.if-not-both_fit.true)
 
 pub sound-entered-requires : goal.sound-entered-requires
 sound-entered-requires c =
     let lent_at : Lent = lent_of [] c.args.terms.now c.args.schema.now c.args.script.now c.args.table.now c.args.store.now in
-    let fits : both_tables_fit (lengths_of lent_at) ≡ true = sym c.both_fit.ensures ∙ not-false _ c.if-not-both_fit.false in let w = both-fit (lengths_of lent_at) (true_is _ fits) in record { table_len = w.0; store_len = w.1; keys_len = search rules; leasts_len = search rules }
+    let fits : both_tables_fit (lengths_of lent_at) ≡ true = sym c.both_fit.ensures ∙ c.if-not-both_fit.false in let w = both-fit (lengths_of lent_at) (true_is _ fits) in record { table_len = w.0; store_len = w.1; keys_len = search rules; leasts_len = search rules }
 
 pub returns-then-entered-ne0 : goal.returns-then-entered-ne0
 returns-then-entered-ne0 c =
     let lent_at : Lent = lent_of [] c.args.terms.now c.args.schema.now c.args.script.now c.args.table.now c.args.store.now in
-    let fits : both_tables_fit (lengths_of lent_at) ≡ true = sym c.both_fit.ensures ∙ not-false _ c.if-not-both_fit.false in
-    let s = start₁ ⟪c₂⟫ in
+    let fits : both_tables_fit (lengths_of lent_at) ≡ true = sym c.both_fit.ensures ∙ c.if-not-both_fit.false in
+    let s = start₁ c in
     λ ranks. ranks-unread ranks [] _ _ _ _ _ _ _ _ ∙ not_sound lent_at.args.saved s.args.graph s.args.out.now fits (c.sound-entered.ensures []) c.if-entered-ne0.true
 
 -- ?? -- ── where the state is sound ────────────────────────────────────────────────────────────────
@@ -41,7 +41,7 @@ returns-then-entered-ne0 c =
 pub is_listed-requires : goal.is_listed-requires
 is_listed-requires c =
     let lent_at : Lent = lent_of [] c.args.terms.now c.args.schema.now c.args.script.now c.args.table.now c.args.store.now in
-    let fits : both_tables_fit (lengths_of lent_at) ≡ true = sym c.both_fit.ensures ∙ not-false _ c.if-not-both_fit.false in
+    let fits : both_tables_fit (lengths_of lent_at) ≡ true = sym c.both_fit.ensures ∙ c.if-not-both_fit.false in
     let keys : List ℕ = c.sound-entered.new.keys in
     let leasts : List ℕ = c.sound-entered.new.leasts in
     let passed : Passed lent_at.args.saved c.sound-entered.result keys = has-passed lent_at.args.saved fits (λ k. omega (arith, c.type_inv.table k)) (c.sound-entered.ensures []) c.if-entered-ne0.false in record { graphs_le_graph_limit = graphs-few passed; count_le_term_limit = terms-few passed }
@@ -49,42 +49,42 @@ is_listed-requires c =
 pub returns-then-not-is_listed : goal.returns-then-not-is_listed
 returns-then-not-is_listed c =
     let lent_at : Lent = lent_of [] c.args.terms.now c.args.schema.now c.args.script.now c.args.table.now c.args.store.now in
-    let fits : both_tables_fit (lengths_of lent_at) ≡ true = sym c.both_fit.ensures ∙ not-false _ c.if-not-both_fit.false in
+    let fits : both_tables_fit (lengths_of lent_at) ≡ true = sym c.both_fit.ensures ∙ c.if-not-both_fit.false in
     let keys : List ℕ = c.sound-entered.new.keys in
     let leasts : List ℕ = c.sound-entered.new.leasts in
     let passed : Passed lent_at.args.saved c.sound-entered.result keys = has-passed lent_at.args.saved fits (λ k. omega (arith, c.type_inv.table k)) (c.sound-entered.ensures []) c.if-entered-ne0.false in
-    let s = start₂ ⟪c₂⟫ in
+    let s = start₂ c in
     let w = passed in
     λ ranks. ranks-unread ranks [] _ _ _ _ _ _ _ _
     ∙ not-fetched lent_at.args.saved s.args.graph s.args.out.now w.fits w.found w.passes
-    (sym (listed-is w s.args.graph c.is_listed.ensures) ∙ not-true _ c.if-not-is_listed.true)
+    (sym (listed-is w s.args.graph c.is_listed.ensures) ∙ c.if-not-is_listed.true)
 
 -- ?? -- ── where the graph is fetched ──────────────────────────────────────────────────────────────
 
 pub overflow_mul-first : goal.overflow_mul-first
 overflow_mul-first c =
     let lent_at : Lent = lent_of [] c.args.terms.now c.args.schema.now c.args.script.now c.args.table.now c.args.store.now in
-    let fits : both_tables_fit (lengths_of lent_at) ≡ true = sym c.both_fit.ensures ∙ not-false _ c.if-not-both_fit.false in
+    let fits : both_tables_fit (lengths_of lent_at) ≡ true = sym c.both_fit.ensures ∙ c.if-not-both_fit.false in
     let keys : List ℕ = c.sound-entered.new.keys in
     let leasts : List ℕ = c.sound-entered.new.leasts in
     let passed : Passed lent_at.args.saved c.sound-entered.result keys = has-passed lent_at.args.saved fits (λ k. omega (arith, c.type_inv.table k)) (c.sound-entered.ensures []) c.if-entered-ne0.false in
-    let small : c.args.graph < term_limit = let b : c.args.graph < c.sound-entered.result.count = below-count _ _ _ c.is_listed.ensures (not-false _ c.if-not-is_listed.false) in
+    let small : c.args.graph < term_limit = let b : c.args.graph < c.sound-entered.result.count = below-count _ _ _ c.is_listed.ensures c.if-not-is_listed.false in
     omega (arith, b, terms-few passed) in omega (arith, small)
 
 pub overflow_add-last : goal.overflow_add-last
 overflow_add-last c =
     let lent_at : Lent = lent_of [] c.args.terms.now c.args.schema.now c.args.script.now c.args.table.now c.args.store.now in
-    let fits : both_tables_fit (lengths_of lent_at) ≡ true = sym c.both_fit.ensures ∙ not-false _ c.if-not-both_fit.false in
+    let fits : both_tables_fit (lengths_of lent_at) ≡ true = sym c.both_fit.ensures ∙ c.if-not-both_fit.false in
     let keys : List ℕ = c.sound-entered.new.keys in
     let leasts : List ℕ = c.sound-entered.new.leasts in
     let passed : Passed lent_at.args.saved c.sound-entered.result keys = has-passed lent_at.args.saved fits (λ k. omega (arith, c.type_inv.table k)) (c.sound-entered.ensures []) c.if-entered-ne0.false in
-    let small : c.args.graph < term_limit = let b : c.args.graph < c.sound-entered.result.count = below-count _ _ _ c.is_listed.ensures (not-false _ c.if-not-is_listed.false) in
+    let small : c.args.graph < term_limit = let b : c.args.graph < c.sound-entered.result.count = below-count _ _ _ c.is_listed.ensures c.if-not-is_listed.false in
     omega (arith, b, terms-few passed) in omega (arith, small)
 
 pub lower-low-requires : goal.lower-low-requires
 lower-low-requires c =
     let lent_at : Lent = lent_of [] c.args.terms.now c.args.schema.now c.args.script.now c.args.table.now c.args.store.now in
-    let fits : both_tables_fit (lengths_of lent_at) ≡ true = sym c.both_fit.ensures ∙ not-false _ c.if-not-both_fit.false in
+    let fits : both_tables_fit (lengths_of lent_at) ≡ true = sym c.both_fit.ensures ∙ c.if-not-both_fit.false in
     let keys : List ℕ = c.sound-entered.new.keys in
     let leasts : List ℕ = c.sound-entered.new.leasts in
     let passed : Passed lent_at.args.saved c.sound-entered.result keys = has-passed lent_at.args.saved fits (λ k. omega (arith, c.type_inv.table k)) (c.sound-entered.ensures []) c.if-entered-ne0.false in let w = passed in record { n_in_bounds = (w.finds.lent 0).stored.room; keys_value = (w.finds.lent 0).stored.rises }
@@ -92,7 +92,7 @@ lower-low-requires c =
 pub upper-high-requires : goal.upper-high-requires
 upper-high-requires c =
     let lent_at : Lent = lent_of [] c.args.terms.now c.args.schema.now c.args.script.now c.args.table.now c.args.store.now in
-    let fits : both_tables_fit (lengths_of lent_at) ≡ true = sym c.both_fit.ensures ∙ not-false _ c.if-not-both_fit.false in
+    let fits : both_tables_fit (lengths_of lent_at) ≡ true = sym c.both_fit.ensures ∙ c.if-not-both_fit.false in
     let keys : List ℕ = c.sound-entered.new.keys in
     let leasts : List ℕ = c.sound-entered.new.leasts in
     let passed : Passed lent_at.args.saved c.sound-entered.result keys = has-passed lent_at.args.saved fits (λ k. omega (arith, c.type_inv.table k)) (c.sound-entered.ensures []) c.if-entered-ne0.false in let w = passed in record { n_in_bounds = (w.finds.lent 0).stored.room; keys_value = (w.finds.lent 0).stored.rises }
@@ -102,7 +102,7 @@ upper-high-requires c =
 pub slice_bounds-publish_keys-count : goal.slice_bounds-publish_keys-count
 slice_bounds-publish_keys-count c =
     let lent_at : Lent = lent_of [] c.args.terms.now c.args.schema.now c.args.script.now c.args.table.now c.args.store.now in
-    let fits : both_tables_fit (lengths_of lent_at) ≡ true = sym c.both_fit.ensures ∙ not-false _ c.if-not-both_fit.false in
+    let fits : both_tables_fit (lengths_of lent_at) ≡ true = sym c.both_fit.ensures ∙ c.if-not-both_fit.false in
     let keys : List ℕ = c.sound-entered.new.keys in
     let leasts : List ℕ = c.sound-entered.new.leasts in
     let passed : Passed lent_at.args.saved c.sound-entered.result keys = has-passed lent_at.args.saved fits (λ k. omega (arith, c.type_inv.table k)) (c.sound-entered.ensures []) c.if-entered-ne0.false in
@@ -111,7 +111,7 @@ slice_bounds-publish_keys-count c =
 pub slice_bounds-keys-start : goal.slice_bounds-keys-start
 slice_bounds-keys-start c =
     let lent_at : Lent = lent_of [] c.args.terms.now c.args.schema.now c.args.script.now c.args.table.now c.args.store.now in
-    let fits : both_tables_fit (lengths_of lent_at) ≡ true = sym c.both_fit.ensures ∙ not-false _ c.if-not-both_fit.false in
+    let fits : both_tables_fit (lengths_of lent_at) ≡ true = sym c.both_fit.ensures ∙ c.if-not-both_fit.false in
     let keys : List ℕ = c.sound-entered.new.keys in
     let leasts : List ℕ = c.sound-entered.new.leasts in
     let passed : Passed lent_at.args.saved c.sound-entered.result keys = has-passed lent_at.args.saved fits (λ k. omega (arith, c.type_inv.table k)) (c.sound-entered.ensures []) c.if-entered-ne0.false in
@@ -120,7 +120,7 @@ slice_bounds-keys-start c =
 pub slice_bounds-keys-end : goal.slice_bounds-keys-end
 slice_bounds-keys-end c =
     let lent_at : Lent = lent_of [] c.args.terms.now c.args.schema.now c.args.script.now c.args.table.now c.args.store.now in
-    let fits : both_tables_fit (lengths_of lent_at) ≡ true = sym c.both_fit.ensures ∙ not-false _ c.if-not-both_fit.false in
+    let fits : both_tables_fit (lengths_of lent_at) ≡ true = sym c.both_fit.ensures ∙ c.if-not-both_fit.false in
     let keys : List ℕ = c.sound-entered.new.keys in
     let leasts : List ℕ = c.sound-entered.new.leasts in
     let passed : Passed lent_at.args.saved c.sound-entered.result keys = has-passed lent_at.args.saved fits (λ k. omega (arith, c.type_inv.table k)) (c.sound-entered.ensures []) c.if-entered-ne0.false in
@@ -129,7 +129,7 @@ slice_bounds-keys-end c =
 pub publish_keys-requires : goal.publish_keys-requires
 publish_keys-requires c =
     let lent_at : Lent = lent_of [] c.args.terms.now c.args.schema.now c.args.script.now c.args.table.now c.args.store.now in
-    let fits : both_tables_fit (lengths_of lent_at) ≡ true = sym c.both_fit.ensures ∙ not-false _ c.if-not-both_fit.false in
+    let fits : both_tables_fit (lengths_of lent_at) ≡ true = sym c.both_fit.ensures ∙ c.if-not-both_fit.false in
     let keys : List ℕ = c.sound-entered.new.keys in
     let leasts : List ℕ = c.sound-entered.new.leasts in
     let passed : Passed lent_at.args.saved c.sound-entered.result keys = has-passed lent_at.args.saved fits (λ k. omega (arith, c.type_inv.table k)) (c.sound-entered.ensures []) c.if-entered-ne0.false in
@@ -138,12 +138,12 @@ publish_keys-requires c =
 pub returns : goal.returns
 returns c =
     let lent_at : Lent = lent_of [] c.args.terms.now c.args.schema.now c.args.script.now c.args.table.now c.args.store.now in
-    let fits : both_tables_fit (lengths_of lent_at) ≡ true = sym c.both_fit.ensures ∙ not-false _ c.if-not-both_fit.false in
+    let fits : both_tables_fit (lengths_of lent_at) ≡ true = sym c.both_fit.ensures ∙ c.if-not-both_fit.false in
     let keys : List ℕ = c.sound-entered.new.keys in
     let leasts : List ℕ = c.sound-entered.new.leasts in
     let passed : Passed lent_at.args.saved c.sound-entered.result keys = has-passed lent_at.args.saved fits (λ k. omega (arith, c.type_inv.table k)) (c.sound-entered.ensures []) c.if-entered-ne0.false in
-    let listed : is_in c.args.graph passed.found.state.store.fetched ≡ true = sym (listed-is passed.args.graph c.is_listed.ensures) ∙ not-false _ c.if-not-is_listed.false in
+    let listed : is_in c.args.graph passed.found.state.store.fetched ≡ true = sym (listed-is passed.args.graph c.is_listed.ensures) ∙ c.if-not-is_listed.false in
     let own : Stretch c.args.table.now keys.args.graph c.lower-low.result c.upper-high.result passed.found.state.store = graph-stretch passed.args.graph c.lower-low.ensures.splits c.upper-high.ensures.splits in
     let w = passed in
     λ ranks. ranks-unread ranks [] _ _ _ _ _ _ _ _
-    ∙ (of-page lent_at.args.saved c.args.graph c.args.out.now w.fits w.found w.passes listed.page ∙ c.publish_keys.ensures)
+    ∙ (of-page lent_at.args.saved c.args.graph c.args.out.now w.fits w.found w.passes listed own.page ∙ c.publish_keys.ensures)

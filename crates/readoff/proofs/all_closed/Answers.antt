@@ -19,10 +19,10 @@ pub closed-requires : goal.closed-requires
 closed-requires c = (c.requires.0, omega arith, c.requires.1)
 
 pub returns-then-not-closed : goal.returns-then-not-closed
-returns-then-not-closed c = below_fails _ _ _ c.loop-x-test.true c.closed.ensures (not-true _ c.if-not-closed.true)
+returns-then-not-closed c = below_fails _ _ _ c.loop-x-test.true c.closed.ensures c.if-not-closed.true
 
 pub loop-x-preserved : goal.loop-x-preserved
-loop-x-preserved c = (omega arith, below_more _ _ c.loop-x.invariant.1 c.closed.ensures (not-false _ c.if-not-closed.false))
+loop-x-preserved c = (omega arith, below_more _ _ c.loop-x.invariant.1 c.closed.ensures c.if-not-closed.false)
 
 pub returns : goal.returns
 returns c = below-done _ _ _ c.loop-x.invariant.0 (omega arith) c.loop-x.invariant.1

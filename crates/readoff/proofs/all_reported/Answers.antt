@@ -25,4 +25,4 @@ loop-x-preserved c = (
 )
 
 pub returns : goal.returns
-returns c = let i = c.loop-x.invariant in filled-all _ _ _ (written-length _ c.requires.1) i.1 (λ k l. i.2 k (omega arith))
+returns c = filled-all _ _ _ (written-length _ c.requires.1) c.loop-x.invariant.1 (λ k l. c.loop-x.invariant.2 k (omega arith))

@@ -16,10 +16,10 @@ pub tight_with-requires : goal.tight_with-requires
 tight_with-requires c = (c.requires, omega arith)
 
 pub returns-then-not-tight_with : goal.returns-then-not-tight_with
-returns-then-not-tight_with c = below_fails _ _ _ c.loop-p-test.true c.tight_with.ensures (not-true _ c.if-not-tight_with.true)
+returns-then-not-tight_with c = below_fails _ _ _ c.loop-p-test.true c.tight_with.ensures c.if-not-tight_with.true
 
 pub loop-p-preserved : goal.loop-p-preserved
-loop-p-preserved c = (omega arith, below_more _ _ c.loop-p.invariant.1 c.tight_with.ensures (not-false _ c.if-not-tight_with.false))
+loop-p-preserved c = (omega arith, below_more _ _ c.loop-p.invariant.1 c.tight_with.ensures c.if-not-tight_with.false)
 
 pub returns : goal.returns
 returns c = below-done _ _ _ c.loop-p.invariant.0 (omega arith) c.loop-p.invariant.1

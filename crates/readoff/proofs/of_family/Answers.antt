@@ -7,4 +7,4 @@ pub returns-in-2 : goal.returns-in-2
 returns-in-2 c = numbers-family _ _ c.requires c.in-2.is
 
 pub returns-in_default : goal.returns-in_default
-returns-in_default c = let n = c.in_default.in_default-own.rest in last-family _ _ c.requires n.0.0.1 n.0.1 n.1
+returns-in_default c = last-family _ _ c.requires c.in_default.in_default-own.rest.0.0.1 c.in_default.in_default-own.rest.0.1 c.in_default.in_default-own.rest.1

@@ -5,16 +5,16 @@ use Rattle.readoff.proofs.ReadOffLaws.{off-joined, off-open, off-loose, off-type
 use Rattle.readoff.proofs.read_off.Goals as goal
 
 pub returns-then-not-apart : goal.returns-then-not-apart
-returns-then-not-apart c = off-joined _ _ c.apart.ensures (not-true _ c.if-not-apart.true)
+returns-then-not-apart c = off-joined _ _ c.apart.ensures c.if-not-apart.true
 
 pub returns-then-not-all_closed : goal.returns-then-not-all_closed
-returns-then-not-all_closed c = off-open _ _ c.apart.ensures (not-false _ c.if-not-apart.false) c.all_closed.ensures (not-true _ c.if-not-all_closed.true)
+returns-then-not-all_closed c = off-open _ _ c.apart.ensures c.if-not-apart.false c.all_closed.ensures c.if-not-all_closed.true
 
 pub returns-then-not-all_tight : goal.returns-then-not-all_tight
 returns-then-not-all_tight c =
-    off-loose _ _ c.apart.ensures (not-false _ c.if-not-apart.false) c.all_closed.ensures (not-false _ c.if-not-all_closed.false) c.all_tight.ensures (not-true _ c.if-not-all_tight.true)
+    off-loose _ _ c.apart.ensures c.if-not-apart.false c.all_closed.ensures c.if-not-all_closed.false c.all_tight.ensures c.if-not-all_tight.true
 
 pub returns : goal.returns
 returns c =
-    off-types _ _ c.apart.ensures (not-false _ c.if-not-apart.false) c.all_closed.ensures (not-false _ c.if-not-all_closed.false) c.all_tight.ensures (not-false _ c.if-not-all_tight.false)
+    off-types _ _ c.apart.ensures c.if-not-apart.false c.all_closed.ensures c.if-not-all_closed.false c.all_tight.ensures c.if-not-all_tight.false
     c.all_reported-types.ensures

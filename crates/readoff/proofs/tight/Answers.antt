@@ -5,7 +5,7 @@ use Rattle.readoff.proofs.ReadOffLaws.{tight-apart, tight-edge}
 use Rattle.readoff.proofs.tight.Goals as goal
 
 pub returns-then-not-t-at : goal.returns-then-not-t-at
-returns-then-not-t-at c = tight-apart _ _ _ (not-true _ c.if-not-t-at.true)
+returns-then-not-t-at c = tight-apart _ _ _ c.if-not-t-at.true
 
 pub returns : goal.returns
-returns c = tight-edge _ _ _ (not-false _ c.if-not-t-at.false) c.root-numbers.ensures
+returns c = tight-edge _ _ _ c.if-not-t-at.false c.root-numbers.ensures

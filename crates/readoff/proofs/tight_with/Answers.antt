@@ -16,10 +16,10 @@ pub tight-requires : goal.tight-requires
 tight-requires c = (c.requires.0, c.requires.1, omega arith)
 
 pub returns-then-not-tight : goal.returns-then-not-tight
-returns-then-not-tight c = below_fails _ _ _ c.loop-x-test.true c.tight.ensures (not-true _ c.if-not-tight.true)
+returns-then-not-tight c = below_fails _ _ _ c.loop-x-test.true c.tight.ensures c.if-not-tight.true
 
 pub loop-x-preserved : goal.loop-x-preserved
-loop-x-preserved c = (omega arith, below_more _ _ c.loop-x.invariant.1 c.tight.ensures (not-false _ c.if-not-tight.false))
+loop-x-preserved c = (omega arith, below_more _ _ c.loop-x.invariant.1 c.tight.ensures c.if-not-tight.false)
 
 pub returns : goal.returns
 returns c = below-done _ _ _ c.loop-x.invariant.0 (omega arith) c.loop-x.invariant.1

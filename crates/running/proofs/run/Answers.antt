@@ -25,7 +25,7 @@ returns-then-not-in_limits c =
     let lent_at : Lent = lent_of c.args.ranks.now c.args.terms.now c.args.schema.now c.args.script.now c.args.table.now c.args.store.now in
     let x = entered c.enter-entered.ensures c.if-entered-ne0.false in
     ap (λ (z : ℤ). run_call lent_at.args.saved c.args.budget z) (sym (c.bits-second.ensures ∙ to_z-of_z c.ranges.clock)) ∙ refused-11 lent_at.args.saved
-    c.args.budget (signed c.bits-second.result) x.0 x.1 (sym c.in_limits.ensures ∙ not-true _ c.if-not-in_limits.true) c.refused-then-not-in_limits.ensures
+    c.args.budget (signed c.bits-second.result) x.0 x.1 (sym c.in_limits.ensures ∙ c.if-not-in_limits.true) c.refused-then-not-in_limits.ensures
 
 pub canonical_control-clean-requires : goal.canonical_control-clean-requires
 canonical_control-clean-requires c =
@@ -44,7 +44,7 @@ overflow_cast-steps c =
     omega (
       arith,
       budget-small _ _ _ _ _ _ _ x.0 x.1 _ _ _ x.2 marks c.canonical_control-clean.ensures _ c.canonical_store-kept.ensures
-          c.args.budget c.bits-second.result (sym c.in_limits.ensures ∙ not-false _ c.if-not-in_limits.false),
+          c.args.budget c.bits-second.result (sym c.in_limits.ensures ∙ c.if-not-in_limits.false),
     )
 
 pub run_steps-end-requires : goal.run_steps-end-requires
@@ -54,7 +54,7 @@ run_steps-end-requires c =
     let levels : length c.args.saved.control.items ≡ depth_limit = search (length-mapped, rules) in
     let x = entered c.enter-entered.ensures c.if-entered-ne0.false in record {
       lends_store = lends _ _ _ _ _ _ _ x.0 x.1 _ _ _ x.2 marks c.canonical_control-clean.ensures _ c.canonical_store-kept.ensures c.args.budget
-          c.bits-second.result (sym c.in_limits.ensures ∙ not-false _ c.if-not-in_limits.false);
+          c.bits-second.result (sym c.in_limits.ensures ∙ c.if-not-in_limits.false);
       script_len_bound = script-short _ _ _ _ _ _ _ x.0 x.1;
     }
 
@@ -66,5 +66,5 @@ returns c =
     let levels : length c.args.saved.control.items ≡ depth_limit = search (length-mapped, rules) in
     let x = entered c.enter-entered.ensures c.if-entered-ne0.false in
     ap (λ (z : ℤ). run_call lent_at.args.saved c.args.budget z) (sym (c.bits-second.ensures ∙ to_z-of_z c.ranges.clock)) ∙ ran-is _ _ _ _ _ _ _ x.0 x.1 _ _ _ x.2
-    marks levels c.canonical_control-clean.ensures _ c.canonical_store-kept.ensures c.args.budget c.bits-second.result
-    (sym c.in_limits.ensures ∙ not-false _ c.if-not-in_limits.false) _ c.run_steps-end.ensures refl
+    marks c.canonical_control-clean.ensures _ c.canonical_store-kept.ensures c.args.budget c.bits-second.result
+    (sym c.in_limits.ensures ∙ c.if-not-in_limits.false) _ c.run_steps-end.ensures refl

@@ -13,7 +13,7 @@ pub returns-then-codes : goal.returns-then-codes
 returns-then-codes c = c.least_by_graph.ensures
 
 pub least_by_stretch-requires : goal.least_by_stretch-requires
-least_by_stretch-requires c = let whole = ⟪c.before.before.before.before.requires⟫ in record { n_in_bounds = whole.0; keys_value = whole.1.0; end_le_sought_code = whole.1.1 }
+least_by_stretch-requires c = record { n_in_bounds = c.requires.n_in_bounds; keys_value = c.requires.keys_value; end_le_sought_code = c.requires.end_le_sought_code }
 
 pub returns : goal.returns
 returns c = c.least_by_stretch.ensures

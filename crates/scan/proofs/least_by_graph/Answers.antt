@@ -22,15 +22,13 @@ upper-i-requires c = record { n_in_bounds = c.requires.n_in_bounds; keys_value =
 
 pub loop-i-smaller : goal.loop-i-smaller
 loop-i-smaller c =
-    let g = c.graph_of-graph in
-    let t = passed c.args.codes _ _ g.ensures.1 c.requires.sought_code_lt_graph _ _ c.requires.keys_value _ c.loop-i-test.true g.ensures.0 _ c.upper-i.ensures.splits
+    let t = passed c.args.codes _ _ c.graph_of-graph.ensures.1 c.requires.sought_code_lt_graph _ _ c.requires.keys_value _ c.loop-i-test.true c.graph_of-graph.ensures.0 _ c.upper-i.ensures.splits
     c.loop-i.invariant.3 _ _ _ c.loop-i.invariant.2 c.least_by_stretch-best.ensures in
     omega (arith, t.0)
 
 pub loop-i-preserved : goal.loop-i-preserved
 loop-i-preserved c =
-    let g = c.graph_of-graph in
-    let t = passed c.args.codes _ _ g.ensures.1 c.requires.sought_code_lt_graph _ _ c.requires.keys_value _ c.loop-i-test.true g.ensures.0 _ c.upper-i.ensures.splits
+    let t = passed c.args.codes _ _ c.graph_of-graph.ensures.1 c.requires.sought_code_lt_graph _ _ c.requires.keys_value _ c.loop-i-test.true c.graph_of-graph.ensures.0 _ c.upper-i.ensures.splits
     c.loop-i.invariant.3 _ _ _ c.loop-i.invariant.2 c.least_by_stretch-best.ensures in
     (c.upper-i.ensures.splits.within, omega (arith, t.1, c.loop-i.invariant.1), t.2, t.3)
 

@@ -13,8 +13,7 @@ returns-then-property_of-number c = c.loop-i.invariant
 
 pub loop-i-preserved : goal.loop-i-preserved
 loop-i-preserved c =
-    let inv = c.loop-i.invariant in
-    (omega arith, omega arith, one_more c.args.keys.now (λ q. q.property) _ _ _ _ inv.2 c.property_of.ensures.0 c.if-property_of-number.false)
+    (omega arith, omega arith, one_more c.args.keys.now (λ q. q.property) _ _ _ _ c.loop-i.invariant.2 c.property_of.ensures.0 c.if-property_of-number.false)
 
 pub returns : goal.returns
 returns c = c.loop-i.invariant

@@ -16,16 +16,16 @@ returns-then-not-is_in c =
 
 pub returns-then-not-is_uri : goal.returns-then-not-is_uri
 returns-then-not-is_uri c =
-    let g = c.graph_of-graph.ensures.0 in no-graph _ _ _ _ (c.is_in.ensures ∙ ap (λ x. is_in x c.args.fetched.now) g) c.if-not-is_in.false
-    (c.is_uri.ensures ∙ ap (uri_number c.args.leasts.now c.args.count) g) c.if-not-is_uri.true
+    no-graph _ _ _ _ (c.is_in.ensures ∙ ap (λ x. is_in x c.args.fetched.now) c.graph_of-graph.ensures.0) c.if-not-is_in.false
+    (c.is_uri.ensures ∙ ap (uri_number c.args.leasts.now c.args.count) c.graph_of-graph.ensures.0) c.if-not-is_uri.true
 
 pub overflow_cast-subject : goal.overflow_cast-subject
 overflow_cast-subject c = omega (arith, c.subject_of-subject.ensures.1)
 
 pub returns-then-not-is_uri-2 : goal.returns-then-not-is_uri-2
 returns-then-not-is_uri-2 c =
-    let g = c.graph_of-graph.ensures.0 in no-subject _ _ _ _ (c.is_in.ensures ∙ ap (λ x. is_in x c.args.fetched.now) g) c.if-not-is_in.false
-    (c.is_uri.ensures ∙ ap (uri_number c.args.leasts.now c.args.count) g) c.if-not-is_uri.false
+    no-subject _ _ _ _ (c.is_in.ensures ∙ ap (λ x. is_in x c.args.fetched.now) c.graph_of-graph.ensures.0) c.if-not-is_in.false
+    (c.is_uri.ensures ∙ ap (uri_number c.args.leasts.now c.args.count) c.graph_of-graph.ensures.0) c.if-not-is_uri.false
     (c.is_uri-2.ensures ∙ ap (uri_number c.args.leasts.now c.args.count) c.subject_of-subject.ensures.0) c.if-not-is_uri-2.true
 
 pub overflow_cast-property : goal.overflow_cast-property
@@ -36,7 +36,7 @@ overflow_cast-object c = omega (arith, c.object_of-object.ensures.1)
 
 pub returns : goal.returns
 returns c =
-    let g = c.graph_of-graph.ensures.0 in quad_is _ _ _ _ (c.is_in.ensures ∙ ap (λ x. is_in x c.args.fetched.now) g) c.if-not-is_in.false
-    (c.is_uri.ensures ∙ ap (uri_number c.args.leasts.now c.args.count) g) c.if-not-is_uri.false
+    quad_is _ _ _ _ (c.is_in.ensures ∙ ap (λ x. is_in x c.args.fetched.now) c.graph_of-graph.ensures.0) c.if-not-is_in.false
+    (c.is_uri.ensures ∙ ap (uri_number c.args.leasts.now c.args.count) c.graph_of-graph.ensures.0) c.if-not-is_uri.false
     (c.is_uri-2.ensures ∙ ap (uri_number c.args.leasts.now c.args.count) c.subject_of-subject.ensures.0) c.if-not-is_uri-2.false
     (c.pair_fits.ensures ∙ ap₂ (pair_numbers c.args.leasts.now c.args.count) c.property_of-property.ensures.0 c.object_of-object.ensures.0)

@@ -17,12 +17,12 @@ loop-i-init c =
 pub returns-then-not-quad_sound : goal.returns-then-not-quad_sound
 returns-then-not-quad_sound c =
     row-fails c.args.keys.now c.args.n (quad_numbers c.args.leasts.now c.args.count c.args.fetched.now) c.loop-i.i c.loop-i.invariant (omega arith)
-    (sym c.quad_sound.ensures ∙ not-true _ c.if-not-quad_sound.true)
+    (sym c.quad_sound.ensures ∙ c.if-not-quad_sound.true)
 
 pub loop-i-preserved : goal.loop-i-preserved
 loop-i-preserved c =
     row-passes c.args.keys.now c.args.n (quad_numbers c.args.leasts.now c.args.count c.args.fetched.now) c.loop-i.i c.loop-i.invariant (omega arith)
-    (sym c.quad_sound.ensures ∙ not-false _ c.if-not-quad_sound.false)
+    (sym c.quad_sound.ensures ∙ c.if-not-quad_sound.false)
 
 pub returns : goal.returns
 returns c =

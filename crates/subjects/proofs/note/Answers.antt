@@ -14,9 +14,8 @@ use Rattle.subjects.proofs.note.Goals as goal
 pub find_subject-i-requires : goal.find_subject-i-requires
 find_subject-i-requires c =
     let sizes : (length c.args.subjects.offsets ≡ subject_limit) × (length c.args.subjects.hashes ≡ subject_limit) × (length c.args.subjects.codes ≡ subject_limit) = (search (rules, c.well_formed.1.1.1.0), search (rules, c.well_formed.1.1.1.0), search (rules, c.well_formed.1.1.1.0)) in
-    let z = sizes in let h = c.requires.noted.1 in
-    let a : c.args.subjects.count ≤ length c.args.subjects.offsets = omega (arith, z.0, c.requires.count_lt_subject_limit) in
-    let b : c.args.subjects.count ≤ length c.args.subjects.hashes = omega (arith, z.1, c.requires.count_lt_subject_limit) in record { n_in_bounds = a; n_in_bounds_2 = b; fields_within = h.within; fields_hashed = h.hashed; hash_value = c.hash_of-hash.ensures ∙ ap hash_of c.slot_of-slot.ensures }
+    let z = sizes in let a : c.args.subjects.count ≤ length c.args.subjects.offsets = omega (arith, z.0, c.requires.count_lt_subject_limit) in
+    let b : c.args.subjects.count ≤ length c.args.subjects.hashes = omega (arith, z.1, c.requires.count_lt_subject_limit) in record { n_in_bounds = a; n_in_bounds_2 = b; fields_within = c.requires.noted.1.within; fields_hashed = c.requires.noted.1.hashed; hash_value = c.hash_of-hash.ensures ∙ ap hash_of c.slot_of-slot.ensures }
 
 pub returns-then-i-n : goal.returns-then-i-n
 returns-then-i-n c =

@@ -10,18 +10,17 @@ use Rattle.text_order.proofs.OrderLaws.{Ordered}
 use Rattle.text_order.proofs.before.Goals as goal
 
 pub loop-i-init : goal.loop-i-init
-loop-i-init c = let p = ⟪c.before.before.before.requires.1.1⟫ in order-start _ _ _ p.0 p.1
+loop-i-init c = order-start _ _ _ c.requires.t c.requires.t_2
 
 pub bounds-b-i : goal.bounds-b-i
 bounds-b-i c = omega (arith, c.requires.a_len)
 
 pub returns-then-y-eq0 : goal.returns-then-y-eq0
-returns-then-y-eq0 c = let w = c.requires.a_len in order-end _ _ _ _ c.loop-i.invariant (omega arith) (omega (arith, w)) c.if-y-eq0.true
+returns-then-y-eq0 c = order-end _ _ _ _ c.loop-i.invariant (omega arith) (omega (arith, c.requires.a_len)) c.if-y-eq0.true
 
 pub returns-then-x-eq0 : goal.returns-then-x-eq0
 returns-then-x-eq0 c =
-    let w = c.requires.a_len in
-    order-first _ _ _ _ c.loop-i.invariant (omega arith) (omega (arith, w)) c.if-y-eq0.false c.if-x-eq0.true
+    order-first _ _ _ _ c.loop-i.invariant (omega arith) (omega (arith, c.requires.a_len)) c.if-y-eq0.false c.if-x-eq0.true
 
 pub rank-p-requires : goal.rank-p-requires
 rank-p-requires c = record { ranks_len = c.requires.ranks_len; t = byte-passes c.args.a.now c.loop-i.i text_byte (omega arith) c.if-x-eq0.false c.loop-i.invariant.left }
@@ -31,13 +30,11 @@ rank-q-requires c = record { ranks_len = c.requires.ranks_len; t = byte-passes c
 
 pub returns-then-p-q : goal.returns-then-p-q
 returns-then-p-q c =
-    let w = c.requires.a_len in
-    order_other _ _ _ _ c.loop-i.invariant (omega arith) (omega (arith, w)) c.if-y-eq0.false c.if-x-eq0.false _ _ c.rank-p.ensures c.rank-q.ensures c.if-p-q.true
+    order_other _ _ _ _ c.loop-i.invariant (omega arith) (omega (arith, c.requires.a_len)) c.if-y-eq0.false c.if-x-eq0.false _ _ c.rank-p.ensures c.rank-q.ensures c.if-p-q.true
 
 pub loop-i-preserved : goal.loop-i-preserved
 loop-i-preserved c =
-    let w = c.requires.a_len in
-    order-more _ _ _ _ c.loop-i.invariant (omega arith) (omega (arith, w)) c.if-y-eq0.false c.if-x-eq0.false _ _ c.rank-p.ensures c.rank-q.ensures c.if-p-q.false
+    order-more _ _ _ _ c.loop-i.invariant (omega arith) (omega (arith, c.requires.a_len)) c.if-y-eq0.false c.if-x-eq0.false _ _ c.rank-p.ensures c.rank-q.ensures c.if-p-q.false
 
 pub returns : goal.returns
 returns c = order-out _ _ _ _ c.loop-i.invariant (omega arith) (omega (arith, c.requires.a_len))

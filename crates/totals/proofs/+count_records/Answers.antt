@@ -11,9 +11,6 @@ use Rattle.totals.proofs.TotalLaws.{counted-fits}
 use Prim.Native.Nat.{ℕ, ◌+◌, ◌<◌}
 use Rattle.totals.proofs.+count_records.Goals as goal
 
--- ?? measure: abbrev μ-count-records : Measures 1 count-records-kinds.ps ℕ
--- ?? μ-count-records κs a = a.1.1.1.0
-
 pub after_name-next-requires : goal.after_name-next-requires
 after_name-next-requires t c =
     let here : ScriptAt t c.args.script.now c.args.terms c.args.left c.args.at = script-at _ _ _ _ _ c.requires.0 c.requires.1 in (here.from_named c.in-114.is).first
@@ -75,9 +72,8 @@ pub returns-in-115 : goal.returns-in-115
 unfolding script_records has_each
 returns-in-115 t c =
     let here : ScriptAt t c.args.script.now c.args.terms c.args.left c.args.at = script-at _ _ _ _ _ c.requires.0 c.requires.1 in
-    let a = c.args in
     (here.block c.in-115.is).parts.node c.after_query-next.ensures c.count_records-inner.ensures
-    (λ q d u h. (omega (arith, h.0), ap (λ (e : Bool). eqb (byte a.script.now (a.at + 1)) 1 || e) h.1))
+    (λ q d u h. (omega (arith, h.0), ap (λ (e : Bool). eqb (byte c.args.script.now (c.args.at + 1)) 1 || e) h.1))
 
 pub returns-in_default : goal.returns-in_default
 unfolding script_records has_each
@@ -85,3 +81,15 @@ returns-in_default t c =
     let here : ScriptAt t c.args.script.now c.args.terms c.args.left c.args.at = script-at _ _ _ _ _ c.requires.0 c.requires.1 in
     (here.sequence c.in_default.in_default-own.rest).node c.count_records-a.ensures
     c.count_records-b.ensures (λ a d g h. (omega (arith, g.0, h.0), ap₂ ◌||◌ g.1 h.1))
+
+pub bounds-script-at : goal.bounds-script-at
+bounds-script-at t c =
+    let here : ScriptAt t c.args.script.now c.args.terms c.args.left c.args.at = script-at _ _ _ _ _ c.requires.0 c.requires.1 in here.inside
+
+pub overflow_add-first : goal.overflow_add-first
+overflow_add-first t c =
+    let here : ScriptAt t c.args.script.now c.args.terms c.args.left c.args.at = script-at _ _ _ _ _ c.requires.0 c.requires.1 in omega (arith, here.inside)
+
+pub overflow_sub-below : goal.overflow_sub-below
+overflow_sub-below t c =
+    let here : ScriptAt t c.args.script.now c.args.terms c.args.left c.args.at = script-at _ _ _ _ _ c.requires.0 c.requires.1 in here.pos

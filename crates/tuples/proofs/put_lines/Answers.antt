@@ -19,8 +19,7 @@ top-item-requires c = let whole = height-low c.requires.lends.here c.if-run-eq0.
 
 pub bounds-script-at : goal.bounds-script-at
 bounds-script-at c =
-    let h = c.requires.lends.here in
-    item-inside h _ (first-item h c.if-run-eq0.false _ (ap (λ (y : SavedItem). y.«at») c.top-item.ensures))
+    item-inside c.requires.lends.here _ (first-item c.requires.lends.here c.if-run-eq0.false _ (ap (λ (y : SavedItem). y.«at») c.top-item.ensures))
 
 pub put_text-requires-then-script-at-ne115 : goal.put_text-requires-then-script-at-ne115
 put_text-requires-then-script-at-ne115 c =

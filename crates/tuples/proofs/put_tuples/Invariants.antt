@@ -13,8 +13,8 @@ use Rattle.tuples.proofs.put_tuples.Given as goal
 
 abbrev pub invariant-loop-k : goal.invariant-loop-k
 invariant-loop-k l =
-    (l.k ≤ length l.tuples / tuple_width) × (l.end ≤ line_room * l.k) × (length l.out ≡ length l.count)
-    × ((w : Lends l.script l.ranks l.table l.quads l.leasts l.context l.run) (t : Top w.here l.at) → TuplesWritten w t l.k l.tuples l.count l.out l.end)
+    (l.k ≤ length l.tuples / tuple_width) × (l.end ≤ line_room * l.k) × (length l.out ≡ length l.initial.out)
+    × ((w : Lends l.script l.ranks l.table l.quads l.leasts l.context l.run) (t : Top w.here l.at) → TuplesWritten w t l.k l.tuples l.initial.out l.out l.end)
 
 abbrev pub decreases-loop-k : goal.decreases-loop-k
 decreases-loop-k l = length l.tuples / tuple_width - l.k

@@ -26,4 +26,4 @@ loop-other-preserved c =
 
 pub returns : goal.returns
 unfolding flagged
-returns c = let i = c.loop-other.invariant in sym (made-is false _ _ i.1 (λ k l. sym (i.2 k (omega arith))))
+returns c = sym (made-is false _ _ c.loop-other.invariant.1 (λ k l. sym (c.loop-other.invariant.2 k (omega arith))))

@@ -41,10 +41,10 @@ hashed_distinct-requires c = record { s_value = (counted-some _ (sym c.count_ent
 pub returns-then-not-hashed_distinct : goal.returns-then-not-hashed_distinct
 returns-then-not-hashed_distinct c = record {
   by_index = λ terms e. c.unhashed-then-not-hashed_distinct.ensures
-      ∙ five _ _ e c.if-first-ne0.false c.count_entries.ensures c.in-Count.is c.hashed_distinct.ensures (not-true _ c.if-not-hashed_distinct.true);
+      ∙ five _ _ e c.if-first-ne0.false c.count_entries.ensures c.in-Count.is c.hashed_distinct.ensures c.if-not-hashed_distinct.true;
   hashed_entries = λ z l. absurd
       (omega (arith, c.unhashed-then-not-hashed_distinct.ensures, z));
 }
 
 pub returns : goal.returns
-returns c = record { by_index = λ terms e. all_pass _ _ e c.if-first-ne0.false c.count_entries.ensures c.in-Count.is c.hashed_distinct.ensures (not-false _ c.if-not-hashed_distinct.false); hashed_entries = λ z l. c.hash_entries-entries.ensures }
+returns c = record { by_index = λ terms e. all_pass _ _ e c.if-first-ne0.false c.count_entries.ensures c.in-Count.is c.hashed_distinct.ensures c.if-not-hashed_distinct.false; hashed_entries = λ z l. c.hash_entries-entries.ensures }

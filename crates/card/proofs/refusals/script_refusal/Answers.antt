@@ -15,7 +15,7 @@ pub returns-then-not-script_ok : goal.returns-then-not-script_ok
 returns-then-not-script_ok c = malformed _ _ _ c.if-schema-gt-SCHEMA_WIDTH.false c.if-script-gt-SCRIPT_LIMIT.false c.script_ok.ensures c.if-not-script_ok.true
 
 pub in_scope-requires : goal.in_scope-requires
-in_scope-requires c = sym c.script_ok.ensures ∙ not-false _ c.if-not-script_ok.false
+in_scope-requires c = sym c.script_ok.ensures ∙ c.if-not-script_ok.false
 
 pub returns-then-not-in_scope : goal.returns-then-not-in_scope
 returns-then-not-in_scope c =

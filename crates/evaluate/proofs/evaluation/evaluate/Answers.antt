@@ -8,8 +8,7 @@ use borrow.Author.Rules.{rules}
 use Rattle.evaluate.proofs.evaluation.evaluate.Goals as goal
 
 pub put_whole-requires : goal.put_whole-requires
-put_whole-requires c =
-    let e = c.shape_of.ensures in let w = c.in-Whole.is in record { input_len_bound = whole-short _ e w; input_value = whole-uncut _ e w; out_len = c.requires }
+put_whole-requires c = record { input_len_bound = whole-short _ c.shape_of.ensures c.in-Whole.is; input_value = whole-uncut _ c.shape_of.ensures c.in-Whole.is; out_len = c.requires }
 
 pub returns-in-TooLong : goal.returns-in-TooLong
 unfolding ascii line
@@ -20,4 +19,4 @@ unfolding ascii line
 returns-in-CutOff c = record { written = written_as c.put_text-in-CutOff.ensures (cut_off _ c.shape_of.ensures c.in-CutOff.is); upper_bound = omega (arith, c.put_text-in-CutOff.ensures.end, c.requires) }
 
 pub returns-in-Whole : goal.returns-in-Whole
-returns-in-Whole c = let whole = ⟪c₁.put_whole.ensures⟫ in record { written = whole.0; upper_bound = whole.1 }
+returns-in-Whole c = record { written = c.put_whole.ensures.written; upper_bound = c.put_whole.ensures.upper_bound }

@@ -15,12 +15,11 @@ pub loop-i-init : goal.loop-i-init
 loop-i-init c = (omega arith, c.requires.schema_len, λ all h. putting-first _ _ _ h _)
 
 pub put_entry-at-requires : goal.put_entry-at-requires
-put_entry-at-requires c =
-    let h = c.requires.noted.1 in record {
-      text_width_in_bounds = omega (arith, c.number_index-field.ensures, h.within c.loop-i.i c.loop-i-test.true);
-      entry_width_in_bounds = λ n. omega
-          (arith, c.loop-i.invariant.1, putting-room _ _ _ h _ _ _ _ (c.loop-i.invariant.2 _ h) c.loop-i-test.true c.requires.noted.2 n);
-    }
+put_entry-at-requires c = record {
+  text_width_in_bounds = omega (arith, c.number_index-field.ensures, c.requires.noted.1.within c.loop-i.i c.loop-i-test.true);
+  entry_width_in_bounds = λ n. omega
+      (arith, c.loop-i.invariant.1, putting-room _ _ _ c.requires.noted.1 _ _ _ _ (c.loop-i.invariant.2 _ c.requires.noted.1) c.loop-i-test.true c.requires.noted.2 n);
+}
 
 pub loop-i-preserved : goal.loop-i-preserved
 loop-i-preserved c = (

@@ -12,7 +12,7 @@ use Rattle.gathering.proofs.entries.put_entries.Given as goal
 
 abbrev pub invariant-loop-i : goal.invariant-loop-i
 invariant-loop-i l =
-    (l.i ≤ l.initial.schema.count) × (length l.schema ≡ schema_width) × ((all : List Asking) → Noted l.page all l.initial.schema → Putting l.page all l.initial.schema l.subjects l.schema l.at l.i)
+    (l.i ≤ l.subjects.count) × (length l.schema ≡ schema_width) × ((all : List Asking) → Noted l.page all l.subjects → Putting l.page all l.subjects l.initial.schema l.schema l.at l.i)
 
 abbrev pub decreases-loop-i : goal.decreases-loop-i
-decreases-loop-i l = l.initial.schema.count - l.i
+decreases-loop-i l = l.subjects.count - l.i

@@ -12,14 +12,12 @@ use Rattle.layout.proofs.reading.marks_good.Goals as goal
 
 pub returns-then-marks-i-gt1 : goal.returns-then-marks-i-gt1
 returns-then-marks-i-gt1 c =
-    let marks = c.args.marks.now in
-    every-stop (λ m. leb m 1) marks c.loop-i.i 0 c.loop-i.invariant.1 (omega arith) (lt-leb (get_or marks c.loop-i.i 0) 1 (omega arith))
+    every-stop (λ m. leb m 1) c.args.marks.now c.loop-i.i 0 c.loop-i.invariant.1 (omega arith) (lt-leb (get_or c.args.marks.now c.loop-i.i 0) 1 (omega arith))
 
 pub loop-i-preserved : goal.loop-i-preserved
 loop-i-preserved c =
-    let marks = c.args.marks.now in
-    let e = le-leb (get_or marks c.loop-i.i 0) 1 (omega arith) in
-    (omega arith, every-next (λ m. leb m 1) marks c.loop-i.i 0 c.loop-i.invariant.1 (omega arith) e)
+    let e = le-leb (get_or c.args.marks.now c.loop-i.i 0) 1 (omega arith) in
+    (omega arith, every-next (λ m. leb m 1) c.args.marks.now c.loop-i.i 0 c.loop-i.invariant.1 (omega arith) e)
 
 pub returns : goal.returns
 returns c =

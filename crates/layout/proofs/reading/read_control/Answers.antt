@@ -11,9 +11,7 @@ use Rattle.layout.proofs.reading.read_control.Goals as goal
 
 pub returns : goal.returns
 returns c =
-    let b = c.args.b.now in
-    let l : length (part b types_offset 16) ≡ length (replicate {A = ℕ} 16 0) = search rules in
-    let t = c.copy_from_slice.ensures.after ∙ copied (part b types_offset 16) (replicate 16 0) l in
-    let e = c.number_at-height.ensures in
-    let i = c.read_items.ensures ∙ ap (λ n. items_from 24 n b items_offset) e in
-    λ k. record { height = e k; types = t k; bound = c.read_marks.ensures k; bindings = c.read_words.ensures k; items = i k }
+    let l : length (part c.args.b.now types_offset 16) ≡ length (replicate {A = ℕ} 16 0) = search rules in
+    let t = c.copy_from_slice.ensures.after ∙ copied (part c.args.b.now types_offset 16) (replicate 16 0) l in
+    let i = c.read_items.ensures ∙ ap (λ n. items_from 24 n c.args.b.now items_offset) c.number_at-height.ensures in
+    λ k. record { height = c.number_at-height.ensures k; types = t k; bound = c.read_marks.ensures k; bindings = c.read_words.ensures k; items = i k }

@@ -7,8 +7,4 @@ use Rattle.layout.proofs.reading.read_item.Goals as goal
 
 pub returns : goal.returns
 returns c =
-    let e = c.number_at.ensures in
-    let b = c.args.b.now in
-    let a = c.args.«at» in
-    let f = c.read_words.ensures in
-    λ k. record { «at» = e k; started = eqb (get_or b (a + 2) 0) 1; last = f k }
+    λ k. record { «at» = c.number_at.ensures k; started = eqb (get_or c.args.b.now (c.args.«at» + 2) 0) 1; last = c.read_words.ensures k }

@@ -13,18 +13,18 @@ returns-then-height-gt-ITEM_LIMIT c =
 
 pub returns-then-not-marks_good : goal.returns-then-not-marks_good
 returns-then-not-marks_good c =
-    let m = sym c.marks_good.ensures ∙ not-true _ c.if-not-marks_good.true in
+    let m = sym c.marks_good.ensures ∙ c.if-not-marks_good.true in
     c.unsound-then-not-marks_good.ensures ∙ ap read_of (sym (bad-marks _ _ c.number_at-height.ensures c.if-height-gt-ITEM_LIMIT.false m))
 
 pub returns-then-not-items_good : goal.returns-then-not-items_good
 returns-then-not-items_good c =
-    let m = sym c.marks_good.ensures ∙ not-false _ c.if-not-marks_good.false in
-    let i = sym c.items_good.ensures ∙ not-true _ c.if-not-items_good.true in
+    let m = sym c.marks_good.ensures ∙ c.if-not-marks_good.false in
+    let i = sym c.items_good.ensures ∙ c.if-not-items_good.true in
     c.unsound-then-not-items_good.ensures ∙ ap read_of (sym (bad-items _ _ c.number_at-height.ensures c.if-height-gt-ITEM_LIMIT.false m i))
 
 pub returns : goal.returns
 returns c =
-    let m = sym c.marks_good.ensures ∙ not-false _ c.if-not-marks_good.false in
-    let i = sym c.items_good.ensures ∙ not-false _ c.if-not-items_good.false in
+    let m = sym c.marks_good.ensures ∙ c.if-not-marks_good.false in
+    let i = sym c.items_good.ensures ∙ c.if-not-items_good.false in
     let h = all-good _ _ c.number_at-height.ensures c.if-height-gt-ITEM_LIMIT.false m i in
     (λ k. record { ok = true; saved = record { control = c.read_control-control.ensures k; store = c.read_store-store.ensures k } }) ∙ ap read_of (sym h)

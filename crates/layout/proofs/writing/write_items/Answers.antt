@@ -18,10 +18,9 @@ pub loop-i-preserved : goal.loop-i-preserved
 loop-i-preserved c =
     let items-length : length c.args.items ≡ 24 = search rules in
     let n = items-length in
-    let part = c.write_item.new.out in
     let end = c.loop-i.«at» + item_width in
     let p =
-    put-joined item_bytes c.args.items c.loop-i.i no_item part end c.loop-i.invariant.3
+    put-joined item_bytes c.args.items c.loop-i.i no_item c.write_item.new.out end c.loop-i.invariant.3
     (omega (arith, n)) (omega arith) (omega arith) c.write_item.ensures c.write_item.auto.1.0 in
     (omega arith, omega arith, search rules, p)
 

@@ -12,7 +12,7 @@ use Rattle.layout.proofs.writing.write_items.Given as goal
 
 abbrev pub invariant-loop-i : goal.invariant-loop-i
 invariant-loop-i l =
-    (l.i ≤ 24) × (l.at ≡ item_width * l.i) × (length l.out ≡ length l.items) × Put l.items l.out (joined item_bytes (take l.i l.initial.out)) l.at
+    (l.i ≤ 24) × (l.at ≡ item_width * l.i) × (length l.out ≡ length l.initial.out) × Put l.initial.out l.out (joined item_bytes (take l.i l.items)) l.at
 
 abbrev pub decreases-loop-i : goal.decreases-loop-i
 decreases-loop-i l = 24 - l.i

@@ -12,10 +12,6 @@ use Rattle.machine.proofs.run.step.Goals as goal
 pub returns-then-run-eq0 : goal.returns-then-run-eq0
 returns-then-run-eq0 c = λ w. step-ends w.lends c.if-run-eq0.true _ c.stands.ensures
 
--- ?? helper: -- the item on top
--- ?? first : (c : tie.Else1) (h : Standing (start c).args.script.now (start c).args.context.loaded (start c).args.t1) → Top h (top_of (start c).args.t1).«at»
--- ?? first c h = first-item h c.if1.false _ refl
-
 pub overflow_sub-top : goal.overflow_sub-top
 overflow_sub-top c =
     let high : (0 < c.args.run.height) × (c.args.run.height ≤ 24) = height-low c.requires.lends_store.lends.here c.if-run-eq0.false in omega (arith, high)
@@ -30,41 +26,49 @@ bounds-run-under c =
 
 pub bounds-script-at : goal.bounds-script-at
 bounds-script-at c =
-    let inside : (top_of c.args.run).«at» < length c.args.script.now = item-inside c.requires.lends_store.lends.here _ (first c c.requires.lends_store.lends.here) in inside
+    let first : (h : Standing c.args.script.now c.args.context.loaded c.args.run) → Top h (top_of c.args.run).«at» = λ h. first-item h c.if-run-eq0.false _ refl in
+    let inside : (top_of c.args.run).«at» < length c.args.script.now = item-inside c.requires.lends_store.lends.here _ (first c.requires.lends_store.lends.here) in inside
 
 pub drop_success-requires : goal.drop_success-requires
 drop_success-requires c =
-    let on-top : OnTop c.args.script.now c.args.context.loaded c.args.run (top_of c.args.run).«at» = on_top c.requires.lends_store.lends.here (first c c.requires.lends_store.lends.here) in record { on_top = on-top; at_value = c.if-kind-eq113.true }
+    let first : (h : Standing c.args.script.now c.args.context.loaded c.args.run) → Top h (top_of c.args.run).«at» = λ h. first-item h c.if-run-eq0.false _ refl in
+    let on-top : OnTop c.args.script.now c.args.context.loaded c.args.run (top_of c.args.run).«at» = on_top c.requires.lends_store.lends.here (first c.requires.lends_store.lends.here) in record { on_top = on-top; at_value = c.if-kind-eq113.true }
 
 pub returns-then-kind-eq113 : goal.returns-then-kind-eq113
 returns-then-kind-eq113 c =
-    λ w. let t = first ⟪c.before.before.before⟫ w.lends.here in
+    let first : (h : Standing c.args.script.now c.args.context.loaded c.args.run) → Top h (top_of c.args.run).«at» = λ h. first-item h c.if-run-eq0.false _ refl in
+    λ w. let t = first w.lends.here in
     step-acts w.lends _ t _ (c.drop_success.ensures (on_top w.lends.here t) _ _)
 
 pub enter_named-requires : goal.enter_named-requires
 enter_named-requires c =
-    let on-top : OnTop c.args.script.now c.args.context.loaded c.args.run (top_of c.args.run).«at» = on_top c.requires.lends_store.lends.here (first c c.requires.lends_store.lends.here) in record { on_top = on-top; at_value = c.if-kind-eq114.true; graphs_le_graph_limit = graphs-low c.requires.lends_store }
+    let first : (h : Standing c.args.script.now c.args.context.loaded c.args.run) → Top h (top_of c.args.run).«at» = λ h. first-item h c.if-run-eq0.false _ refl in
+    let on-top : OnTop c.args.script.now c.args.context.loaded c.args.run (top_of c.args.run).«at» = on_top c.requires.lends_store.lends.here (first c.requires.lends_store.lends.here) in record { on_top = on-top; at_value = c.if-kind-eq114.true; graphs_le_graph_limit = graphs-low c.requires.lends_store }
 
 pub returns-then-kind-eq114 : goal.returns-then-kind-eq114
 returns-then-kind-eq114 c =
-    λ w. let t = first ⟪c.before.before.before.before⟫ w.lends.here in
+    let first : (h : Standing c.args.script.now c.args.context.loaded c.args.run) → Top h (top_of c.args.run).«at» = λ h. first-item h c.if-run-eq0.false _ refl in
+    λ w. let t = first w.lends.here in
     step-acts w.lends _ t _ (c.enter_named.ensures (on_top w.lends.here t) w.stored _ _)
 
 pub enter_sequence-requires : goal.enter_sequence-requires
 enter_sequence-requires c =
-    let on-top : OnTop c.args.script.now c.args.context.loaded c.args.run (top_of c.args.run).«at» = on_top c.requires.lends_store.lends.here (first c c.requires.lends_store.lends.here) in record { on_top = on-top; at_value = c.if-kind-eq116.true }
+    let first : (h : Standing c.args.script.now c.args.context.loaded c.args.run) → Top h (top_of c.args.run).«at» = λ h. first-item h c.if-run-eq0.false _ refl in
+    let on-top : OnTop c.args.script.now c.args.context.loaded c.args.run (top_of c.args.run).«at» = on_top c.requires.lends_store.lends.here (first c.requires.lends_store.lends.here) in record { on_top = on-top; at_value = c.if-kind-eq116.true }
 
 pub returns-then-kind-eq116 : goal.returns-then-kind-eq116
 returns-then-kind-eq116 c =
-    λ w. let t = first ⟪c.before.before.before.before.before⟫ w.lends.here in
+    let first : (h : Standing c.args.script.now c.args.context.loaded c.args.run) → Top h (top_of c.args.run).«at» = λ h. first-item h c.if-run-eq0.false _ refl in
+    λ w. let t = first w.lends.here in
     step-acts w.lends _ t _ (c.enter_sequence.ensures (on_top w.lends.here t) _ _)
 
 pub enter_block-requires : goal.enter_block-requires
 enter_block-requires c =
-    let w = c.requires.lends_store.lends in
-    let t = first ⟪p⟫ w.here in record { top = (w, t); at_value = is_block w.here _ t c.if-kind-eq113.false c.if-kind-eq114.false c.if-kind-eq116.false; ends_lent = c.requires.ends_lent }
+    let first : (h : Standing c.args.script.now c.args.context.loaded c.args.run) → Top h (top_of c.args.run).«at» = λ h. first-item h c.if-run-eq0.false _ refl in
+    let t = first c.requires.lends_store.lends.here in record { top = (c.requires.lends_store.lends, t); at_value = is_block c.requires.lends_store.lends.here _ t c.if-kind-eq113.false c.if-kind-eq114.false c.if-kind-eq116.false; ends_lent = c.requires.ends_lent }
 
 pub returns : goal.returns
 returns c =
-    λ w. let t = first ⟪c.before.before.before.before.before⟫ w.lends.here in
+    let first : (h : Standing c.args.script.now c.args.context.loaded c.args.run) → Top h (top_of c.args.run).«at» = λ h. first-item h c.if-run-eq0.false _ refl in
+    λ w. let t = first w.lends.here in
     step-acts w.lends _ t _ (c.enter_block.ensures w.lends t)

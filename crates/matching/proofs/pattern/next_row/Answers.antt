@@ -11,21 +11,21 @@ use Rattle.matching.proofs.PatternRows.{row-start, row_more}
 use Rattle.matching.proofs.pattern.next_row.Goals as goal
 
 pub bounds-row-size : goal.bounds-row-size
-bounds-row-size c = omega (arith, ⟪c.before.requires⟫)
+bounds-row-size c = omega (arith, c.requires)
 
 pub loop-k-init : goal.loop-k-init
 loop-k-init c = (
   length-set (replicate (pattern_width + 1) false) c.args.size true,
   omega arith,
   λ t h. row-start c.args.pattern.now _ (replicate (pattern_width + 1) false)
-      c.args.size c.requires.size_value (omega (arith, ⟪c₁.requires⟫)),
+      c.args.size c.requires.size_value (omega (arith, c.requires)),
 )
 
 pub cell-requires : goal.cell-requires
-cell-requires c = record { pattern_len = c.requires.pattern_len; size_value = c.requires.size_value; k_lt_size = omega (arith, ⟪c.before.before.before.requires⟫, c.loop-k.invariant) }
+cell-requires c = record { pattern_len = c.requires.pattern_len; size_value = c.requires.size_value; k_lt_size = omega (arith, c.requires, c.loop-k.invariant) }
 
 pub bounds-row-k : goal.bounds-row-k
-bounds-row-k c = omega (arith, ⟪c.before.before.before.before.requires⟫, c.loop-k.invariant)
+bounds-row-k c = omega (arith, c.requires, c.loop-k.invariant)
 
 pub loop-k-preserved : goal.loop-k-preserved
 loop-k-preserved c = (
@@ -33,7 +33,7 @@ loop-k-preserved c = (
       ∙ c.loop-k.invariant.0,
   omega (arith, c.loop-k.invariant),
   λ t h. row_more c.args.pattern.now _ c.loop-k.row c.loop-k.k _ (omega arith)
-      (omega (arith, ⟪c₂.requires⟫, c.loop-k.invariant)) (c.loop-k.invariant.2 t h) (c.cell.ensures t h),
+      (omega (arith, c.requires, c.loop-k.invariant)) (c.loop-k.invariant.2 t h) (c.cell.ensures t h),
 )
 
 pub returns : goal.returns

@@ -7,10 +7,10 @@ use Rattle.matching.proofs.PatternRows.{Swept, sweep-start, sweep-more, sweep-en
 use Rattle.matching.proofs.pattern.search.Goals as goal
 
 pub next_row-row-requires : goal.next_row-row-requires
-next_row-row-requires c = record { pattern_len = c.requires.pattern_len; size_value = c.text_length-size.ensures; size_le_pattern_width = omega (arith, ⟪c₁.requires⟫, c.text_length-size.ensures, text-fits c.args.pattern.now) }
+next_row-row-requires c = record { pattern_len = c.requires.pattern_len; size_value = c.text_length-size.ensures; size_le_pattern_width = omega (arith, c.requires, c.text_length-size.ensures, text-fits c.args.pattern.now) }
 
 pub bounds-row-start : goal.bounds-row-start
-bounds-row-start c = omega (arith, ⟪c.before.before.before.before.requires⟫, text-fits c.args.pattern.now)
+bounds-row-start c = omega (arith, c.requires, text-fits c.args.pattern.now)
 
 pub loop-i-init : goal.loop-i-init
 loop-i-init c =
@@ -20,18 +20,18 @@ pub bounds-field-i : goal.bounds-field-i
 bounds-field-i c = omega (arith, c.loop-i.invariant.within, text-fits c.args.field.now)
 
 pub next_row-row-requires-in-loop-i : goal.next_row-row-requires-in-loop-i
-next_row-row-requires-in-loop-i c = record { pattern_len = c.requires.pattern_len; size_value = c.text_length-size.ensures; size_le_pattern_width = omega (arith, ⟪c₂.requires⟫, c.text_length-size.ensures, text-fits c.args.pattern.now) }
+next_row-row-requires-in-loop-i c = record { pattern_len = c.requires.pattern_len; size_value = c.text_length-size.ensures; size_le_pattern_width = omega (arith, c.requires, c.text_length-size.ensures, text-fits c.args.pattern.now) }
 
 pub bounds-row-start-in-loop-i : goal.bounds-row-start-in-loop-i
 bounds-row-start-in-loop-i c =
-    omega (arith, ⟪c₁.requires⟫, text-fits c.args.pattern.now)
+    omega (arith, c.requires, text-fits c.args.pattern.now)
 
 pub loop-i-preserved : goal.loop-i-preserved
 loop-i-preserved c =
     sweep-more c.args.pattern.now c.args.start c.requires.start_in_bounds c.args.field.now _ _ _ c.loop-i.invariant (omega arith) _ c.next_row-row-in-loop-i.ensures
 
 pub bounds-row-start-2 : goal.bounds-row-start-2
-bounds-row-start-2 c = omega (arith, ⟪c.before.before.before.before.before.before.before.requires⟫, text-fits c.args.pattern.now)
+bounds-row-start-2 c = omega (arith, c.requires, text-fits c.args.pattern.now)
 
 pub returns : goal.returns
 returns c =

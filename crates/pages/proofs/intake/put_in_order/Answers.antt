@@ -6,12 +6,10 @@ use Rattle.pages.proofs.DoneLaws.{held-rise, ordered}
 use Rattle.pages.proofs.intake.put_in_order.Goals as goal
 
 pub read_keys-requires : goal.read_keys-requires
-read_keys-requires c =
-    let h = c.requires.held_some.1 in record { table_len = quads-width _ _ _ h; count_le_quad_limit = h.few; count_in_bounds = omega (arith, h.few, c.requires.m_le_record_limit.2) }
+read_keys-requires c = record { table_len = quads-width _ _ _ c.requires.held_some.1; count_le_quad_limit = c.requires.held_some.1.few; count_in_bounds = omega (arith, c.requires.held_some.1.few, c.requires.m_le_record_limit.2) }
 
 pub take_page-requires : goal.take_page-requires
-take_page-requires c =
-    let p = ⟪c₂.requires⟫ in let h = p.0.1 in record { keys_value = held-rise _ _ _ h _ c.read_keys.ensures; graph_lt_place_limit = search rules; m_in_bounds = omega (arith, p.1.0, p.1.1); m_in_bounds_2 = omega (arith, h.few, p.1.0, p.1.2); m_in_bounds_3 = omega (arith, h.few, p.1.0) }
+take_page-requires c = record { keys_value = held-rise _ _ _ c.requires.held_some.1 _ c.read_keys.ensures; graph_lt_place_limit = search rules; m_in_bounds = omega (arith, c.requires.m_le_record_limit.0, c.requires.m_le_record_limit.1); m_in_bounds_2 = omega (arith, c.requires.held_some.1.few, c.requires.m_le_record_limit.0, c.requires.m_le_record_limit.2); m_in_bounds_3 = omega (arith, c.requires.held_some.1.few, c.requires.m_le_record_limit.0) }
 
 pub returns : goal.returns
 returns c = record { value = (λ qs after h k. ordered _ _ _ h _ c.read_keys.ensures _ _ _ _ _ after k c.take_page.ensures.keys_after); upper_bound = omega (arith, c.take_page.ensures.upper_bound, c.requires.held_some.1.few, c.requires.m_le_record_limit.0) }

@@ -14,41 +14,35 @@ use Rattle.pages.proofs.intake.take_in.Goals as goal
 
 pub returns-then-not-graph_fits : goal.returns-then-not-graph_fits
 returns-then-not-graph_fits c =
-    let a = c.args in
-    λ S rs σ e r h. not_done S a.graph rs σ a.store a.lent.now a.stored.now _ c.refused.ensures
-    (graphs-over S a.graph rs σ (no_room a.lent.now a.stored.now a.n a.store σ h a.graph (sym c.graph_fits.ensures ∙ not-true _ c.if-not-graph_fits.true)))
+    λ S rs σ e r h. not_done S c.args.graph rs σ c.args.store c.args.lent.now c.args.stored.now _ c.refused.ensures
+    (graphs-over S c.args.graph rs σ (no_room c.args.lent.now c.args.stored.now c.args.n c.args.store σ h c.args.graph (sym c.graph_fits.ensures ∙ c.if-not-graph_fits.true)))
 
 pub take_copies-end-requires : goal.take_copies-end-requires
-take_copies-end-requires c =
-    let p = ⟪c₁.requires⟫ in let σ = p.1.1.1 in record { page_reads = p.0; page_len_bound = p.1.0; reads = p.1.1.0; held = (σ.0.terms, σ.1.terms); terms_len = length-replicate {A = ℕ} term_table_width 0; keys_len = length-replicate {A = ℕ} record_limit 0 }
+take_copies-end-requires c = record { page_reads = c.requires.page_reads; page_len_bound = c.requires.page_len_bound; reads = c.requires.reads; held = (σ.0.terms, σ.1.terms); terms_len = length-replicate {A = ℕ} term_table_width 0; keys_len = length-replicate {A = ℕ} record_limit 0 }
 
 pub returns-then-end-gt-TERM_LIMIT : goal.returns-then-end-gt-TERM_LIMIT
 returns-then-end-gt-TERM_LIMIT c =
-    let a = c.args in
-    λ S rs σ e r h. not_done S a.graph rs σ a.store a.lent.now a.stored.now _ c.refused-then-end-gt-TERM_LIMIT.ensures (terms-passed S a.graph rs σ a.store a.lent.now
-    a.stored.now _ _ _ (took_of S a.graph rs σ a.lent.now a.stored.now a.n a.store h _ _ _ (λ ts o. c.take_copies-end.ensures.took S rs ts o e r)) c.if-end-gt-TERM_LIMIT.true)
+    λ S rs σ e r h. not_done S c.args.graph rs σ c.args.store c.args.lent.now c.args.stored.now _ c.refused-then-end-gt-TERM_LIMIT.ensures (terms-passed S c.args.graph rs σ c.args.store c.args.lent.now
+    c.args.stored.now _ _ _ (took_of S c.args.graph rs σ c.args.lent.now c.args.stored.now c.args.n c.args.store h _ _ _ (λ ts o. c.take_copies-end.ensures.took S rs ts o e r)) c.if-end-gt-TERM_LIMIT.true)
 
 pub put_in_order-count-requires : goal.put_in_order-count-requires
-put_in_order-count-requires c =
-    let σ = c.requires.held_tables in record { held_some = (σ.0.quads, σ.1.quads); m_le_record_limit = (c.take_copies-end.ensures.keys_le_record_limit, omega (arith, c.take_copies-end.auto, length-replicate {A = ℕ} record_limit 0), length-replicate {A = ℕ} gathered_limit 0) }
+put_in_order-count-requires c = record { held_some = (σ.0.quads, σ.1.quads); m_le_record_limit = (c.take_copies-end.ensures.keys_le_record_limit, omega (arith, c.take_copies-end.auto, length-replicate {A = ℕ} record_limit 0), length-replicate {A = ℕ} gathered_limit 0) }
 
 pub returns-then-count-gt-QUAD_LIMIT : goal.returns-then-count-gt-QUAD_LIMIT
 returns-then-count-gt-QUAD_LIMIT c =
-    let a = c.args in
-    λ S rs σ e r h. not_done S a.graph rs σ a.store a.lent.now a.stored.now _ c.refused-then-count-gt-QUAD_LIMIT.ensures (quads-passed S a.graph rs σ a.store a.lent.now
-    a.stored.now _ _ _ (took_of S a.graph rs σ a.lent.now a.stored.now a.n a.store h _ _ _ (λ ts o. c.take_copies-end.ensures.took S rs ts o e r)) c.if-end-gt-TERM_LIMIT.false _ _
+    λ S rs σ e r h. not_done S c.args.graph rs σ c.args.store c.args.lent.now c.args.stored.now _ c.refused-then-count-gt-QUAD_LIMIT.ensures (quads-passed S c.args.graph rs σ c.args.store c.args.lent.now
+    c.args.stored.now _ _ _ (took_of S c.args.graph rs σ c.args.lent.now c.args.stored.now c.args.n c.args.store h _ _ _ (λ ts o. c.take_copies-end.ensures.took S rs ts o e r)) c.if-end-gt-TERM_LIMIT.false _ _
     (λ after k. c.put_in_order-count.ensures.value σ.quads after h.quads k) c.if-count-gt-QUAD_LIMIT.true)
 
 pub write_keys-requires : goal.write_keys-requires
 write_keys-requires c = record { count_in_bounds = omega (arith, c.put_in_order-count.ensures.upper_bound, c.put_in_order-count.auto, length-replicate {A = ℕ} gathered_limit 0); count_le_quad_limit = c.if-count-gt-QUAD_LIMIT.false; table_value = empty-table }
 
 pub with_page-after-requires : goal.with_page-after-requires
-with_page-after-requires c = record { graphs_le_graph_limit = c.requires.held_tables.1.graphs; graph_value = sym c.graph_fits.ensures ∙ not-false _ c.if-not-graph_fits.false }
+with_page-after-requires c = record { graphs_le_graph_limit = c.requires.held_tables.1.graphs; graph_value = sym c.graph_fits.ensures ∙ c.if-not-graph_fits.false }
 
 pub returns : goal.returns
 returns c =
-    let a = c.args in
-    λ S rs σ e r h. done S a.graph rs σ a.store a.lent.now a.stored.now _ _ c.take_copies-end.result (took_of S a.graph rs σ a.lent.now a.stored.now a.n
-    a.store h _ _ _ (λ ts o. c.take_copies-end.ensures.took S rs ts o e r)) c.if-end-gt-TERM_LIMIT.false _ _ (λ after k. c.put_in_order-count.ensures.value σ.quads after h.quads k)
-    (held-width _ _ _ h.terms) (quads-width _ _ _ h.quads) c.if-count-gt-QUAD_LIMIT.false (has_room a.lent.now a.stored.now a.n a.store σ h a.graph
-    (sym c.graph_fits.ensures ∙ not-false _ c.if-not-graph_fits.false)) _ _ _ c.write_keys.ensures c.copy_from_slice.ensures.after c.copy_from_slice-2.ensures.after _ c.with_page-after.ensures
+    λ S rs σ e r h. done S c.args.graph rs σ c.args.store c.args.lent.now c.args.stored.now _ _ c.take_copies-end.result (took_of S c.args.graph rs σ c.args.lent.now c.args.stored.now c.args.n
+    c.args.store h _ _ _ (λ ts o. c.take_copies-end.ensures.took S rs ts o e r)) c.if-end-gt-TERM_LIMIT.false _ _ (λ after k. c.put_in_order-count.ensures.value σ.quads after h.quads k)
+    (held-width _ _ _ h.terms) (quads-width _ _ _ h.quads) c.if-count-gt-QUAD_LIMIT.false (has_room c.args.lent.now c.args.stored.now c.args.n c.args.store σ h c.args.graph
+    (sym c.graph_fits.ensures ∙ c.if-not-graph_fits.false)) _ _ _ c.write_keys.ensures c.copy_from_slice.ensures.after c.copy_from_slice-2.ensures.after _ c.with_page-after.ensures

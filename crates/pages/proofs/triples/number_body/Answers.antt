@@ -11,14 +11,13 @@ slot_of-slot-requires c =
     body-short _ c.args.body.now c.requires.says.0 c.requires.says.1 (λ k. omega (arith, c.type_inv.body k))
 
 pub add_term-requires : goal.add_term-requires
-add_term-requires c =
-    let p = ⟪c₃.requires⟫ in record {
-      holds_terms = held-holds _ _ p.0.0 p.0.1;
-      hashes_len = p.1.0.room;
-      hashed = p.1.0.each p.0.1.few;
-      good_slot = slot-is-good _ c.args.body.now p.1.1.0 p.1.1.1 (λ k. omega (arith, c.type_inv.body k)) _
-          c.slot_of-slot.ensures;
-    }
+add_term-requires c = record {
+  holds_terms = held-holds _ _ c.requires.held.0 c.requires.held.1;
+  hashes_len = c.requires.held_hashes.room;
+  hashed = c.requires.held_hashes.each c.requires.held.1.few;
+  good_slot = slot-is-good _ c.args.body.now c.requires.says.0 c.requires.says.1 (λ k. omega (arith, c.type_inv.body k)) _
+      c.slot_of-slot.ensures;
+}
 
 pub returns : goal.returns
 returns c = record {

@@ -23,9 +23,7 @@ returns-then-one-gt-TERM_LIMIT c = record {
 
 pub number_body-property-requires : goal.number_body-property-requires
 number_body-property-requires c =
-    let x = c.requires.record_at.0 in
-    let r = c.requires.record_at.1 in
-    let j = c.number_body-subject.ensures.joins c.requires.held.0 (Term.uri x.subject) c.requires.held.1 (subject-body c.args.page.now c.args.at c.args.next x r) in record { held = (_, j.held (omega arith)); held_hashes = c.number_body-subject.ensures.held_hashes_2; says = (Term.uri x.property, property-body c.args.page.now c.args.at c.args.next x r) }
+    let j = c.number_body-subject.ensures.joins c.requires.held.0 (Term.uri c.requires.record_at.0.subject) c.requires.held.1 (subject-body c.args.page.now c.args.at c.args.next c.requires.record_at.0 c.requires.record_at.1) in record { held = (_, j.held (omega arith)); held_hashes = c.number_body-subject.ensures.held_hashes_2; says = (Term.uri c.requires.record_at.0.property, property-body c.args.page.now c.args.at c.args.next c.requires.record_at.0 c.requires.record_at.1) }
 
 pub returns-then-two-gt-TERM_LIMIT : goal.returns-then-two-gt-TERM_LIMIT
 returns-then-two-gt-TERM_LIMIT c = record {
@@ -37,11 +35,9 @@ returns-then-two-gt-TERM_LIMIT c = record {
 
 pub number_body-object-requires : goal.number_body-object-requires
 number_body-object-requires c =
-    let x = c.requires.record_at.0 in
-    let r = c.requires.record_at.1 in
-    let j = c.number_body-subject.ensures.joins c.requires.held.0 (Term.uri x.subject) c.requires.held.1 (subject-body c.args.page.now c.args.at c.args.next x r) in
-    let k = c.number_body-property.ensures.joins (subject_in c.requires.held.0 x).terms (Term.uri x.property) (j.held (omega (arith, c.if-one-gt-TERM_LIMIT.false)))
-    (property-body c.args.page.now c.args.at c.args.next x r) in record { held = (_, k.held (omega (arith, c.if-two-gt-TERM_LIMIT.false))); held_hashes = c.number_body-property.ensures.held_hashes_2; says = (x.object, object-body c.args.page.now c.args.at c.args.next x r) }
+    let j = c.number_body-subject.ensures.joins c.requires.held.0 (Term.uri c.requires.record_at.0.subject) c.requires.held.1 (subject-body c.args.page.now c.args.at c.args.next c.requires.record_at.0 c.requires.record_at.1) in
+    let k = c.number_body-property.ensures.joins (subject_in c.requires.held.0 c.requires.record_at.0).terms (Term.uri c.requires.record_at.0.property) (j.held (omega (arith, c.if-one-gt-TERM_LIMIT.false)))
+    (property-body c.args.page.now c.args.at c.args.next c.requires.record_at.0 c.requires.record_at.1) in record { held = (_, k.held (omega (arith, c.if-two-gt-TERM_LIMIT.false))); held_hashes = c.number_body-property.ensures.held_hashes_2; says = (c.requires.record_at.0.object, object-body c.args.page.now c.args.at c.args.next c.requires.record_at.0 c.requires.record_at.1) }
 
 pub returns : goal.returns
 returns c = record {

@@ -12,18 +12,17 @@ use Rattle.pages.proofs.triples.take_records.Goals as goal
 
 pub loop-at-init : goal.loop-at-init
 loop-at-init c =
-    let p = ⟪c.before.before.before.before.before.before.requires⟫ in let z = p.1.1.1.1.1 in
-    (omega arith, omega (arith, z.0), omega (arith, z.1), held-width _ _ _ p.1.1.1.0.2.terms, z.2, p.1.1.1.1.0, going-first _ _ _ _ _ _)
+    (omega arith, omega (arith, c.requires.skipped_value.0), omega (arith, c.requires.skipped_value.1), held-width _ _ _ c.requires.held_both.2.terms, c.requires.skipped_value.2, c.requires.held_hashes, going-first _ _ _ _ _ _)
 
 pub next_record-next-requires : goal.next_record-next-requires
 next_record-next-requires c =
-    let p = ⟪c₂.requires⟫ in let k = p.1.1.1.0 in let l = c.loop-at.invariant.6 p.1.1.0.0 p.0.0 k.0 k.1 p.1.1.0.1 p.0.1 k.2 in
+    let l = c.loop-at.invariant.6 c.requires.reads.0 c.requires.page_reads.0 c.requires.held_both.0 c.requires.held_both.1 c.requires.reads.1 c.requires.page_reads.1 c.requires.held_both.2 in
     left-reads _ _ _ _ _ _ _ _ _ l c.loop-at-test.true
 
 pub take_record-counts-requires : goal.take_record-counts-requires
 take_record-counts-requires c =
-    let p = ⟪c₄.requires⟫ in let k = p.1.1.1.0 in let i = c.loop-at.invariant in let l = i.6 p.1.1.0.0 p.0.0 k.0 k.1 p.1.1.0.1 p.0.1 k.2 in
-    let h = here-at _ _ _ _ _ _ _ _ _ l c.loop-at-test.true _ c.next_record-next.ensures in record { record_at = (_, h); reads = p.1.1.0; held_both = (_, _, l.holds); held_hashes = i.5; skipped_le_at = i.1; at_le_page_limit = omega (arith, i.0, p.1.0); keys_lt_record_limit = (omega (arith, i.2, record-long _ _ _ _ h, h.fits, p.1.0), i.4) }
+    let l = c.loop-at.invariant.6 c.requires.reads.0 c.requires.page_reads.0 c.requires.held_both.0 c.requires.held_both.1 c.requires.reads.1 c.requires.page_reads.1 c.requires.held_both.2 in
+    let h = here-at _ _ _ _ _ _ _ _ _ l c.loop-at-test.true _ c.next_record-next.ensures in record { record_at = (_, h); reads = c.requires.reads; held_both = (_, _, l.holds); held_hashes = c.loop-at.invariant.5; skipped_le_at = c.loop-at.invariant.1; at_le_page_limit = omega (arith, c.loop-at.invariant.0, c.requires.page_len_bound); keys_lt_record_limit = (omega (arith, c.loop-at.invariant.2, record-long _ _ _ _ h, h.fits, c.requires.page_len_bound), c.loop-at.invariant.4) }
 
 pub shape_of-terms-then-counts-gt-TERM_LIMIT : goal.shape_of-terms-then-counts-gt-TERM_LIMIT
 shape_of-terms-then-counts-gt-TERM_LIMIT c =
@@ -39,32 +38,29 @@ shape_of-keys-then-counts-gt-TERM_LIMIT c =
 
 pub returns-then-counts-gt-TERM_LIMIT : goal.returns-then-counts-gt-TERM_LIMIT
 returns-then-counts-gt-TERM_LIMIT c =
-    let p = ⟪c₅.requires⟫ in let k = p.1.1.1.0 in let i = c.loop-at.invariant in let l = i.6 p.1.1.0.0 p.0.0 k.0 k.1 p.1.1.0.1 p.0.1 k.2 in
-    let x = here-at _ _ _ _ _ _ _ _ _ l c.loop-at-test.true _ c.next_record-next.ensures in record {
-      took = (λ S rs o k e r h. let l = c.loop-at.invariant.6 S rs o k e r h in
+    let l = c.loop-at.invariant.6 c.requires.reads.0 c.requires.page_reads.0 c.requires.held_both.0 c.requires.held_both.1 c.requires.reads.1 c.requires.page_reads.1 c.requires.held_both.2 in
+    let x = here-at _ _ _ _ _ _ _ _ _ l c.loop-at-test.true _ c.next_record-next.ensures in record { took = (λ S rs o c.requires.held_both e r h. let l = c.loop-at.invariant.6 S rs o c.requires.held_both e r h in
           left-terms _ _ _ _ _ _ _ _ _ l c.loop-at-test.true _ _ _ (c.take_record-counts.ensures.took S _ o _ e (here-at _ _ _ _ _ _ _ _ _ l c.loop-at-test.true _ c.next_record-next.ensures)
-          l.holds) c.if-counts-gt-TERM_LIMIT.true);
-      keys_le_record_limit = omega (arith, c.take_record-counts.ensures.keys_bound, i.2, record-long _ _ _ _ x, x.fits, p.1.0);
-    }
+          l.holds) c.if-counts-gt-TERM_LIMIT.true); keys_le_record_limit = omega (arith, c.take_record-counts.ensures.keys_bound, c.loop-at.invariant.2, record-long _ _ _ _ x, x.fits, c.requires.page_len_bound) }
 
 pub loop-at-smaller : goal.loop-at-smaller
 loop-at-smaller c =
-    let p = ⟪c₄.requires⟫ in let k = p.1.1.1.0 in let l = c.loop-at.invariant.6 p.1.1.0.0 p.0.0 k.0 k.1 p.1.1.0.1 p.0.1 k.2 in
+    let l = c.loop-at.invariant.6 c.requires.reads.0 c.requires.page_reads.0 c.requires.held_both.0 c.requires.held_both.1 c.requires.reads.1 c.requires.page_reads.1 c.requires.held_both.2 in
     let z = left_one _ _ _ _ _ _ _ _ _ l c.loop-at-test.true in let e = end-next _ _ _ _ _ _ _ _ _ l c.loop-at-test.true _ c.next_record-next.ensures in
     omega (arith, e, z.farther, c.loop-at-test.true)
 
 pub loop-at-preserved : goal.loop-at-preserved
 loop-at-preserved c =
-    let p = ⟪c₅.requires⟫ in let k = p.1.1.1.0 in let i = c.loop-at.invariant in let l = i.6 p.1.1.0.0 p.0.0 k.0 k.1 p.1.1.0.1 p.0.1 k.2 in
+    let l = c.loop-at.invariant.6 c.requires.reads.0 c.requires.page_reads.0 c.requires.held_both.0 c.requires.held_both.1 c.requires.reads.1 c.requires.page_reads.1 c.requires.held_both.2 in
     let x = here-at _ _ _ _ _ _ _ _ _ l c.loop-at-test.true _ c.next_record-next.ensures in let z = left_one _ _ _ _ _ _ _ _ _ l c.loop-at-test.true in
-    let e = end-next _ _ _ _ _ _ _ _ _ l c.loop-at-test.true _ c.next_record-next.ensures in let w = c.take_record-counts.ensures.took _ _ _ _ p.1.1.0.1 x l.holds in (
+    let e = end-next _ _ _ _ _ _ _ _ _ l c.loop-at-test.true _ c.next_record-next.ensures in let w = c.take_record-counts.ensures.took _ _ _ _ c.requires.reads.1 x l.holds in (
       omega (arith, x.fits),
-      omega (arith, e, z.farther, c.take_record-counts.ensures.skipped_bound, i.1),
-      omega (arith, c.take_record-counts.ensures.keys_bound, i.2, record-long _ _ _ _ x),
+      omega (arith, e, z.farther, c.take_record-counts.ensures.skipped_bound, c.loop-at.invariant.1),
+      omega (arith, c.take_record-counts.ensures.keys_bound, c.loop-at.invariant.2, record-long _ _ _ _ x),
       w.term_width,
-      omega (arith, i.4, c.take_record-counts.auto),
+      omega (arith, c.loop-at.invariant.4, c.take_record-counts.auto),
       c.take_record-counts.ensures.held_hashes_2,
-      λ S rs o k e r h. let l = c.loop-at.invariant.6 S rs o k e r h in
+      λ S rs o c.requires.held_both e r h. let l = c.loop-at.invariant.6 S rs o c.requires.held_both e r h in
           left-next _ _ _ _ _ _ _ _ _ l c.loop-at-test.true _ _ _ (c.take_record-counts.ensures.took S _ o _ e (here-at _ _ _ _ _ _ _ _ _ l c.loop-at-test.true _ c.next_record-next.ensures)
           l.holds) _ c.next_record-next.ensures c.if-counts-gt-TERM_LIMIT.false,
     )

@@ -13,15 +13,12 @@ use Rattle.query.proofs.EvalLaws.{good-value, holds-gives, name-value, open-valu
 use Prim.Native.Nat.{ℕ, ◌<◌}
 use Rattle.query.proofs.eval.+eval_expr.Goals as goal
 
--- ?? measure: abbrev μ-eval-expr : Measures 3 eval-expr-kinds.ps ℕ
--- ?? μ-eval-expr κs a = a.1.1.1.0
-
 pub name_at-n-requires : goal.name_at-n-requires
 name_at-n-requires t c =
     let here : ExprAt t c.args.script.now c.args.context.loaded c.args.left c.args.at = expr-at _ _ _ _ _ c.requires.loads c.requires.lent.0 in record { loads = (here.name c.if-kind-lt65.true).child; known_len = c.requires.lent.1.variables }
 
 pub term_value-value-requires : goal.term_value-value-requires
-term_value-value-requires t c = let l = c.requires.lent.1 in record { tabled = (l.terms, l.tabled); told = l.told }
+term_value-value-requires t c = record { tabled = (c.requires.lent.1.terms, c.requires.lent.1.tabled); told = c.requires.lent.1.told }
 
 pub returns-then-kind-lt65 : goal.returns-then-kind-lt65
 unfolding expr_known
@@ -40,8 +37,7 @@ pub returns-then-not-a : goal.returns-then-not-a
 unfolding expr_known
 returns-then-not-a t c =
     let here : ExprAt t c.args.script.now c.args.context.loaded c.args.left c.args.at = expr-at _ _ _ _ _ c.requires.loads c.requires.lent.0 in
-    let n = here.str c.in-66.is in
-    let a = ⟪c₁.eval-expr.ensures⟫ in record { walked = n.node a.1 (λ e h. open-value _ _ _ (Expr.str e) (sym h ∙ not-true _ c.if-not-a.true) (good-value _ _ _ c.requires.lent.1 a.0)); walked_2 = n.node a.1 (λ e h. h) }
+    let n = here.str c.in-66.is in record { walked = n.node c.eval_expr-a.ensures.walked_2 (λ e h. open-value _ _ _ (Expr.str e) (sym h ∙ c.if-not-a.true) (good-value _ _ _ c.requires.lent.1 c.eval_expr-a.ensures.walked)); walked_2 = n.node c.eval_expr-a.ensures.walked_2 (λ e h. h) }
 
 pub text_of-value-requires : goal.text_of-value-requires
 text_of-value-requires t c = good-value _ _ _ c.requires.lent.1 c.eval_expr-a.ensures.walked
@@ -54,8 +50,7 @@ pub returns-then-not-a-2 : goal.returns-then-not-a-2
 unfolding expr_known
 returns-then-not-a-2 t c =
     let here : ExprAt t c.args.script.now c.args.context.loaded c.args.left c.args.at = expr-at _ _ _ _ _ c.requires.loads c.requires.lent.0 in
-    let n = here.abs c.in-67.is in
-    let a = ⟪c₁.eval-expr2.ensures⟫ in record { walked = n.node a.1 (λ e h. open-value _ _ _ (Expr.abs e) (sym h ∙ not-true _ c.if-not-a-2.true) (good-value _ _ _ c.requires.lent.1 a.0)); walked_2 = n.node a.1 (λ e h. h) }
+    let n = here.abs c.in-67.is in record { walked = n.node c.eval_expr-a-in-67.ensures.walked_2 (λ e h. open-value _ _ _ (Expr.abs e) (sym h ∙ c.if-not-a-2.true) (good-value _ _ _ c.requires.lent.1 c.eval_expr-a-in-67.ensures.walked)); walked_2 = n.node c.eval_expr-a-in-67.ensures.walked_2 (λ e h. h) }
 
 pub abs-value-requires : goal.abs-value-requires
 abs-value-requires t c = good-value _ _ _ c.requires.lent.1 c.eval_expr-a-in-67.ensures.walked
@@ -75,13 +70,10 @@ unfolding expr_known
 returns-then-not-a-b t c =
     let here : ExprAt t c.args.script.now c.args.context.loaded c.args.left c.args.at = expr-at _ _ _ _ _ c.requires.loads c.requires.lent.0 in
     let n = here.plus c.in-68.is in
-    let a = ⟪c₂.eval-expr3.ensures⟫ in
-    let b = ⟪c₁.eval-expr4.ensures⟫ in
-    let some-open = not-true _ c.if-not-a-b.true in record { walked = n.node a.1 b.1 (λ e f h k. open-value _ _ _ (Expr.plus e f) (sym (ap₂ ◌&&◌ h k) ∙ some-open) (good-value _ _ _ c.requires.lent.1 a.0)); walked_2 = n.node a.1 b.1 (λ e f h k. sym some-open ∙ ap₂ ◌&&◌ h k) }
+    let some-open = c.if-not-a-b.true in record { walked = n.node c.eval_expr-a-in-68.ensures.walked_2 c.eval_expr-b.ensures.walked_2 (λ e f h k. open-value _ _ _ (Expr.plus e f) (sym (ap₂ ◌&&◌ h k) ∙ some-open) (good-value _ _ _ c.requires.lent.1 c.eval_expr-a-in-68.ensures.walked)); walked_2 = n.node c.eval_expr-a-in-68.ensures.walked_2 c.eval_expr-b.ensures.walked_2 (λ e f h k. sym some-open ∙ ap₂ ◌&&◌ h k) }
 
 pub plus-value-requires : goal.plus-value-requires
-plus-value-requires t c =
-    let l = c.requires.lent.1 in record { good = good-value _ _ _ l c.eval_expr-a-in-68.ensures.walked; good_2 = good-value _ _ _ l c.eval_expr-b.ensures.walked }
+plus-value-requires t c = record { good = good-value _ _ _ c.requires.lent.1 c.eval_expr-a-in-68.ensures.walked; good_2 = good-value _ _ _ c.requires.lent.1 c.eval_expr-b.ensures.walked }
 
 pub eval_expr-a-requires-in_default : goal.eval_expr-a-requires-in_default
 eval_expr-a-requires-in_default t c =
@@ -98,13 +90,10 @@ unfolding expr_known
 returns-then-not-a-b-2 t c =
     let here : ExprAt t c.args.script.now c.args.context.loaded c.args.left c.args.at = expr-at _ _ _ _ _ c.requires.loads c.requires.lent.0 in
     let n = here.minus_last c.if-kind-lt65.false c.in_default.in_default-own.rest in
-    let a = ⟪c₂.eval-expr5.ensures⟫ in
-    let b = ⟪c₁.eval-expr6.ensures⟫ in
-    let some-open = not-true _ c.if-not-a-b-2.true in record { walked = n.node a.1 b.1 (λ e f h k. open-value _ _ _ (Expr.minus e f) (sym (ap₂ ◌&&◌ h k) ∙ some-open) (good-value _ _ _ c.requires.lent.1 a.0)); walked_2 = n.node a.1 b.1 (λ e f h k. sym some-open ∙ ap₂ ◌&&◌ h k) }
+    let some-open = c.if-not-a-b-2.true in record { walked = n.node c.eval_expr-a-in_default.ensures.walked_2 c.eval_expr-b-in_default.ensures.walked_2 (λ e f h k. open-value _ _ _ (Expr.minus e f) (sym (ap₂ ◌&&◌ h k) ∙ some-open) (good-value _ _ _ c.requires.lent.1 c.eval_expr-a-in_default.ensures.walked)); walked_2 = n.node c.eval_expr-a-in_default.ensures.walked_2 c.eval_expr-b-in_default.ensures.walked_2 (λ e f h k. sym some-open ∙ ap₂ ◌&&◌ h k) }
 
 pub minus-value-requires : goal.minus-value-requires
-minus-value-requires t c =
-    let l = c.requires.lent.1 in record { good = good-value _ _ _ l c.eval_expr-a-in_default.ensures.walked; good_2 = good-value _ _ _ l c.eval_expr-b-in_default.ensures.walked }
+minus-value-requires t c = record { good = good-value _ _ _ c.requires.lent.1 c.eval_expr-a-in_default.ensures.walked; good_2 = good-value _ _ _ c.requires.lent.1 c.eval_expr-b-in_default.ensures.walked }
 
 pub returns-in-65 : goal.returns-in-65
 unfolding expr_known
@@ -116,28 +105,34 @@ pub returns-else-not-a : goal.returns-else-not-a
 unfolding expr_known
 returns-else-not-a t c =
     let here : ExprAt t c.args.script.now c.args.context.loaded c.args.left c.args.at = expr-at _ _ _ _ _ c.requires.loads c.requires.lent.0 in
-    let n = here.str c.in-66.is in
-    let a = ⟪c.before.before.before.eval-expr.ensures⟫ in record { walked = n.node a.0 (λ e h. str-value _ _ _ e h (holds-gives c.text_of-value.ensures)); walked_2 = n.node a.1 (λ e h. sym (not-false _ c.if-not-a.false) ∙ h) }
+    let n = here.str c.in-66.is in record { walked = n.node c.eval_expr-a.ensures.walked (λ e h. str-value _ _ _ e h (holds-gives c.text_of-value.ensures)); walked_2 = n.node c.eval_expr-a.ensures.walked_2 (λ e h. sym c.if-not-a.false ∙ h) }
 
 pub returns-else-not-a-2 : goal.returns-else-not-a-2
 unfolding expr_known
 returns-else-not-a-2 t c =
     let here : ExprAt t c.args.script.now c.args.context.loaded c.args.left c.args.at = expr-at _ _ _ _ _ c.requires.loads c.requires.lent.0 in
-    let n = here.abs c.in-67.is in
-    let a = ⟪c.before.before.before.eval-expr2.ensures⟫ in record { walked = n.node a.0 (λ e h. abs-value _ _ _ e h c.abs-value.ensures); walked_2 = n.node a.1 (λ e h. sym (not-false _ c.if-not-a-2.false) ∙ h) }
+    let n = here.abs c.in-67.is in record { walked = n.node c.eval_expr-a-in-67.ensures.walked (λ e h. abs-value _ _ _ e h c.abs-value.ensures); walked_2 = n.node c.eval_expr-a-in-67.ensures.walked_2 (λ e h. sym c.if-not-a-2.false ∙ h) }
 
 pub returns-else-not-a-b : goal.returns-else-not-a-b
 unfolding expr_known
 returns-else-not-a-b t c =
     let here : ExprAt t c.args.script.now c.args.context.loaded c.args.left c.args.at = expr-at _ _ _ _ _ c.requires.loads c.requires.lent.0 in
-    let n = here.plus c.in-68.is in
-    let a = ⟪c.before.before.before.before.before.eval-expr3.ensures⟫ in
-    let b = ⟪c.before.before.before.before.eval-expr4.ensures⟫ in record { walked = n.node a.0 b.0 (λ e f h k. plus-value _ _ _ e h f k c.plus-value.ensures); walked_2 = n.node a.1 b.1 (λ e f h k. sym (not-false _ c.if-not-a-b.false) ∙ ap₂ ◌&&◌ h k) }
+    let n = here.plus c.in-68.is in record { walked = n.node c.eval_expr-a-in-68.ensures.walked c.eval_expr-b.ensures.walked (λ e f h k. plus-value _ _ _ e h f k c.plus-value.ensures); walked_2 = n.node c.eval_expr-a-in-68.ensures.walked_2 c.eval_expr-b.ensures.walked_2 (λ e f h k. sym c.if-not-a-b.false ∙ ap₂ ◌&&◌ h k) }
 
 pub returns-else-not-a-b-2 : goal.returns-else-not-a-b-2
 unfolding expr_known
 returns-else-not-a-b-2 t c =
     let here : ExprAt t c.args.script.now c.args.context.loaded c.args.left c.args.at = expr-at _ _ _ _ _ c.requires.loads c.requires.lent.0 in
-    let n = here.minus_last c.if-kind-lt65.false c.in_default.in_default-own.rest in
-    let a = ⟪c₂.eval-expr5.ensures⟫ in
-    let b = ⟪c₁.eval-expr6.ensures⟫ in record { walked = n.node a.0 b.0 (λ e f h k. minus-value _ _ _ e h f k c.minus-value.ensures); walked_2 = n.node a.1 b.1 (λ e f h k. sym (not-false _ c.if-not-a-b-2.false) ∙ ap₂ ◌&&◌ h k) }
+    let n = here.minus_last c.if-kind-lt65.false c.in_default.in_default-own.rest in record { walked = n.node c.eval_expr-a-in_default.ensures.walked c.eval_expr-b-in_default.ensures.walked (λ e f h k. minus-value _ _ _ e h f k c.minus-value.ensures); walked_2 = n.node c.eval_expr-a-in_default.ensures.walked_2 c.eval_expr-b-in_default.ensures.walked_2 (λ e f h k. sym c.if-not-a-b-2.false ∙ ap₂ ◌&&◌ h k) }
+
+pub bounds-script-at : goal.bounds-script-at
+bounds-script-at t c =
+    let here : ExprAt t c.args.script.now c.args.context.loaded c.args.left c.args.at = expr-at _ _ _ _ _ c.requires.loads c.requires.lent.0 in here.inside
+
+pub overflow_add-first : goal.overflow_add-first
+overflow_add-first t c =
+    let here : ExprAt t c.args.script.now c.args.context.loaded c.args.left c.args.at = expr-at _ _ _ _ _ c.requires.loads c.requires.lent.0 in omega (arith, here.inside)
+
+pub overflow_sub-below : goal.overflow_sub-below
+overflow_sub-below t c =
+    let here : ExprAt t c.args.script.now c.args.context.loaded c.args.left c.args.at = expr-at _ _ _ _ _ c.requires.loads c.requires.lent.0 in here.pos

@@ -16,7 +16,7 @@ pub returns-then-script-at-ge65 : goal.returns-then-script-at-ge65
 returns-then-script-at-ge65 c = λ e. absurd (true≢false (sym e))
 
 pub name_at-name-requires : goal.name_at-name-requires
-name_at-name-requires c = let p = ⟪c.before.before.before.before.requires⟫ in record { loads = ((expr-at _ _ _ _ _ refl p.0).name c.if-script-at-ge65.false).child; known_len = p.1 }
+name_at-name-requires c = record { loads = ((expr-at _ _ _ _ _ refl c.requires.loads).name c.if-script-at-ge65.false).child; known_len = c.requires.known_len }
 
 pub returns : goal.returns
 unfolding expr_known

@@ -7,7 +7,7 @@ use Rattle.query.proofs.MayLaws.{first-waits, second-waits}
 use Rattle.query.proofs.may.pair_open.Goals as goal
 
 pub is_open-requires : goal.is_open-requires
-is_open-requires c = let p = ⟪c.before.before.before.requires⟫ in record { loads = p.0.0; known_len = p.1.1 }
+is_open-requires c = record { loads = c.requires.pair_loads.0; known_len = c.requires.known_len }
 
 pub returns-then-is_open : goal.returns-then-is_open
 returns-then-is_open c = λ e. first-waits _ (read_expr _ _ _) _ (c.is_open.ensures c.if-is_open.true)

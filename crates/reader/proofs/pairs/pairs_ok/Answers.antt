@@ -19,12 +19,12 @@ loop-k-init c = (let e : c.args.count - 0 ≡ c.args.count = omega arith in rw e
 pub returns-then-not-pair_ok : goal.returns-then-not-pair_ok
 returns-then-not-pair_ok c =
     sym (c.loop-k.invariant.0
-    ∙ pair-bad c.args.s.now c.args.count c.loop-k.k c.loop-k.next (omega arith) (sym c.pair_ok.ensures ∙ not-true c.pair_ok.result c.if-not-pair_ok.true))
+    ∙ pair-bad c.args.s.now c.args.count c.loop-k.k c.loop-k.next (omega arith) (sym c.pair_ok.ensures ∙ c.if-not-pair_ok.true))
 
 pub loop-k-preserved : goal.loop-k-preserved
 loop-k-preserved c = (
   c.loop-k.invariant.0 ∙ pair_turn c.args.s.now c.args.count c.loop-k.k c.loop-k.next (omega arith)
-      (sym c.pair_ok.ensures ∙ not-false c.pair_ok.result c.if-not-pair_ok.false),
+      (sym c.pair_ok.ensures ∙ c.if-not-pair_ok.false),
   omega arith,
   omega arith,
 )

@@ -10,9 +10,6 @@ use Rattle.definitions.specs.Reading.{CondShape}
 use Prim.Native.Nat.{ℕ, ◌<◌}
 use Rattle.reader.proofs.script.+read_cond.Goals as goal
 
--- ?? measure: abbrev μ-read-cond : Measures 1 read-cond-kinds.ps ℕ
--- ?? μ-read-cond κs a = a.1.1.1.0
-
 pub returns-then-left-eq0 : goal.returns-then-left-eq0
 returns-then-left-eq0 t c = none-ends (rw c.if-left-eq0.true (cond-none _ _ _))
 
@@ -25,7 +22,7 @@ returns-then-script-at-lt-REGEX_TEXT_OFFSET t c = body-short _ _ _ _ _ _ (cond-i
 pub returns-then-not-pattern_ok : goal.returns-then-not-pattern_ok
 returns-then-not-pattern_ok t c =
     body-fails _ _ _ _ _ _ (cond-is _ _ _ _ (omega arith) 0x55 c.in-85.is) (omega arith) c.pattern_ok.ensures
-    (not-true c.pattern_ok.result c.if-not-pattern_ok.true)
+    c.if-not-pattern_ok.true
 
 pub returns-then-script-at-lt-LANG_MATCHES_TEXT_OFFSET : goal.returns-then-script-at-lt-LANG_MATCHES_TEXT_OFFSET
 returns-then-script-at-lt-LANG_MATCHES_TEXT_OFFSET t c = body-short _ _ _ _ _ _ (cond-is _ _ _ _ (omega arith) 0x56 c.in-86.is) (omega arith)
@@ -33,7 +30,7 @@ returns-then-script-at-lt-LANG_MATCHES_TEXT_OFFSET t c = body-short _ _ _ _ _ _ 
 pub returns-then-not-range_ok : goal.returns-then-not-range_ok
 returns-then-not-range_ok t c =
     body-fails _ _ _ _ _ _ (cond-is _ _ _ _ (omega arith) 0x56 c.in-86.is) (omega arith) c.range_ok.ensures
-    (not-true c.range_ok.result c.if-not-range_ok.true)
+    c.if-not-range_ok.true
 
 pub returns-in_default-read_cond : goal.returns-in_default-read_cond
 returns-in_default-read_cond t c =
@@ -49,12 +46,12 @@ returns-in-84 t c = one-ends _ _ (cond-is _ _ _ _ (omega arith) 0x54 c.in-84.is)
 pub returns-else-not-pattern_ok : goal.returns-else-not-pattern_ok
 returns-else-not-pattern_ok t c =
     body-ends _ _ _ _ _ _ (cond-is _ _ _ _ (omega arith) 0x55 c.in-85.is) (omega arith) c.pattern_ok.ensures
-    (not-false c.pattern_ok.result c.if-not-pattern_ok.false) c.read_expr.ensures
+    c.if-not-pattern_ok.false c.read_expr.ensures
 
 pub returns-else-not-range_ok : goal.returns-else-not-range_ok
 returns-else-not-range_ok t c =
     body-ends _ _ _ _ _ _ (cond-is _ _ _ _ (omega arith) 0x56 c.in-86.is) (omega arith) c.range_ok.ensures
-    (not-false c.range_ok.result c.if-not-range_ok.false) c.read_expr-in-86.ensures
+    c.if-not-range_ok.false c.read_expr-in-86.ensures
 
 pub returns-in-80-to-81 : goal.returns-in-80-to-81
 returns-in-80-to-81 t c = leaf-ends (cond_either _ _ _ _ (omega arith) 0x50 (omega arith) (omega arith) CondShape.leaf refl refl).1

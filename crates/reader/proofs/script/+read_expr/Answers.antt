@@ -10,9 +10,6 @@ use Rattle.definitions.specs.Reading.{ExprShape}
 use Prim.Native.Nat.{ℕ, ◌<◌}
 use Rattle.reader.proofs.script.+read_expr.Goals as goal
 
--- ?? measure: abbrev μ-read-expr : Measures 1 read-expr-kinds.ps ℕ
--- ?? μ-read-expr κs a = a.1.1.1.0
-
 pub returns-then-left-eq0 : goal.returns-then-left-eq0
 returns-then-left-eq0 t c = none-ends (rw c.if-left-eq0.true (expr-none _ _ _))
 

@@ -8,9 +8,6 @@ use Rattle.definitions.specs.Reading.{QueryShape}
 use Prim.Native.Nat.{ℕ, ◌<◌}
 use Rattle.reader.proofs.script.+read_query.Goals as goal
 
--- ?? measure: abbrev μ-read-query : Measures 1 read-query-kinds.ps ℕ
--- ?? μ-read-query κs a = a.1.1.1.0
-
 pub returns-then-left-eq0 : goal.returns-then-left-eq0
 returns-then-left-eq0 t c = none-ends (rw c.if-left-eq0.true (query-none _ _ _))
 

@@ -8,9 +8,6 @@ use Rattle.reader.proofs.ReadLaws.{block-short, block-mode, block-fails, query-f
 use Prim.Native.Nat.{ℕ, ◌<◌}
 use Rattle.reader.proofs.script.+read_script.Goals as goal
 
--- ?? measure: abbrev μ-read-script : Measures 1 read-script-kinds.ps ℕ
--- ?? μ-read-script κs a = a.1.1.1.0
-
 pub returns-then-left-eq0 : goal.returns-then-left-eq0
 returns-then-left-eq0 t c = none-ends (rw c.if-left-eq0.true (script-none _ _ _))
 
@@ -29,12 +26,12 @@ returns-then-script-at-gt1 t c = block-mode _ _ _ _ (script-is _ _ _ _ (omega ar
 pub returns-then-not-pairs_ok : goal.returns-then-not-pairs_ok
 returns-then-not-pairs_ok t c =
     block-fails _ _ _ _ (script-is _ _ _ _ (omega arith) 0x73 c.in-115.is) (omega arith) (omega arith) c.pairs_ok.ensures
-    (not-true c.pairs_ok.result c.if-not-pairs_ok.true)
+    c.if-not-pairs_ok.true
 
 pub returns-in_default-read_query : goal.returns-in_default-read_query
 returns-in_default-read_query t c =
     query-fails _ _ _ _ (script-is _ _ _ _ (omega arith) 0x73 c.in-115.is) (omega arith) (omega arith) c.pairs_ok.ensures
-    (not-false c.pairs_ok.result c.if-not-pairs_ok.false) c.read_query.ensures c.in_default-read_query.is
+    c.if-not-pairs_ok.false c.read_query.ensures c.in_default-read_query.is
 
 pub returns-in_default-read_script : goal.returns-in_default-read_script
 returns-in_default-read_script t c = two-fails _ _ _ _ (script-is _ _ _ _ (omega arith) 0x74 c.in-116.is) c.read_script-in-116.ensures c.in_default-read_script.is
@@ -50,7 +47,7 @@ returns-in-Next t c =
 pub returns-in-Next-read_query : goal.returns-in-Next-read_query
 returns-in-Next-read_query t c =
     block-ends _ _ _ _ (script-is _ _ _ _ (omega arith) 0x73 c.in-115.is) (omega arith) (omega arith) c.pairs_ok.ensures
-    (not-false c.pairs_ok.result c.if-not-pairs_ok.false)
+    c.if-not-pairs_ok.false
     c.read_query.ensures c.in-Next-read_query.is c.read_script-in-115.ensures
 
 pub returns-in-Next-read_script : goal.returns-in-Next-read_script

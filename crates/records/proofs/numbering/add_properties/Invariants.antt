@@ -12,7 +12,7 @@ use Rattle.records.proofs.NumberingLaws.{Adding, held-width, held-holds, count-h
 use Rattle.records.proofs.numbering.add_properties.Given as goal
 
 abbrev pub invariant-loop-at : goal.invariant-loop-at
-invariant-loop-at l = Adding l.schema (list_of (terms_in l.n)) l.table l.at l.used × (length l.hashes ≡ term_limit) × Hashed l.table l.used l.hashes
+invariant-loop-at l = Adding l.schema (list_of (terms_in l.initial.table)) l.table l.at l.used × (length l.hashes ≡ term_limit) × Hashed l.table l.used l.hashes
 
 abbrev pub decreases-loop-at : goal.decreases-loop-at
 decreases-loop-at l = length l.schema - l.at

@@ -45,5 +45,4 @@ returns-in-20 c =
 
 pub returns-in_default : goal.returns-in_default
 returns-in_default c =
-    let n = c.in_default.in_default-own.rest in
-    least-last _ c.requires.schema_value c.args.slot.now c.requires.good_slot.good n.0.0.0.1 n.0.0.1 n.0.1 n.1
+    least-last _ c.requires.schema_value c.args.slot.now c.requires.good_slot.good c.in_default.in_default-own.rest.0.0.0.1 c.in_default.in_default-own.rest.0.0.1 c.in_default.in_default-own.rest.0.1 c.in_default.in_default-own.rest.1

@@ -9,9 +9,6 @@ use Rattle.scope.proofs.BindLaws.{pairs-at, block-binds, two-binds}
 use Prim.Native.Nat.{ℕ, ◌<◌}
 use Rattle.scope.proofs.scope.+bind_script.Goals as goal
 
--- ?? measure: abbrev μ-bind-script : Measures 1 bind-script-kinds.ps ℕ
--- ?? μ-bind-script κs a = a.1.1.1.0
-
 pub after_name-next-requires : goal.after_name-next-requires
 after_name-next-requires t c =
     let here : ScriptAt t c.args.script.now c.args.terms c.args.left c.args.at = script-at _ _ _ _ _ c.requires.0 c.requires.1 in (here.from_named c.in-114.is).first
@@ -58,9 +55,8 @@ unfolding binders_of
 returns-in-115 t c =
     let here : ScriptAt t c.args.script.now c.args.terms c.args.left c.args.at = script-at _ _ _ _ _ c.requires.0 c.requires.1 in
     let n = here.block c.in-115.is in
-    let a = c.args in
     n.parts.node c.after_query-next.ensures c.bind_script-in-115.ensures
-    (λ q d u. block-binds a.script.now a.at n.binders n.listed a.bound (binders_of d) c.bind_pairs-pairs.ensures)
+    (λ q d u. block-binds c.args.script.now c.args.at n.binders n.listed c.args.bound (binders_of d) c.bind_pairs-pairs.ensures)
 
 pub returns-in_default : goal.returns-in_default
 unfolding binders_of
@@ -68,3 +64,15 @@ returns-in_default t c =
     let here : ScriptAt t c.args.script.now c.args.terms c.args.left c.args.at = script-at _ _ _ _ _ c.requires.0 c.requires.1 in
     (here.sequence c.in_default.in_default-own.rest).node c.bind_script-a.ensures c.bind_script-in_default.ensures
     (λ a d. two-binds c.args.bound (binders_of a) (binders_of d))
+
+pub bounds-script-at : goal.bounds-script-at
+bounds-script-at t c =
+    let here : ScriptAt t c.args.script.now c.args.terms c.args.left c.args.at = script-at _ _ _ _ _ c.requires.0 c.requires.1 in here.inside
+
+pub overflow_add-first : goal.overflow_add-first
+overflow_add-first t c =
+    let here : ScriptAt t c.args.script.now c.args.terms c.args.left c.args.at = script-at _ _ _ _ _ c.requires.0 c.requires.1 in omega (arith, here.inside)
+
+pub overflow_sub-below : goal.overflow_sub-below
+overflow_sub-below t c =
+    let here : ScriptAt t c.args.script.now c.args.terms c.args.left c.args.at = script-at _ _ _ _ _ c.requires.0 c.requires.1 in here.pos

@@ -12,9 +12,6 @@ use Rattle.scope.proofs.BindLaws.{pairs-at, block-hides}
 use Prim.Native.Nat.{ℕ, ◌<◌}
 use Rattle.scope.proofs.scope.+script_uses.Goals as goal
 
--- ?? measure: abbrev μ-script-uses : Measures 1 script-uses-kinds.ps ℕ
--- ?? μ-script-uses κs a = a.1.1.1.0
-
 pub name_uses-n-requires : goal.name_uses-n-requires
 name_uses-n-requires t c =
     let here : ScriptAt t c.args.script.now c.args.terms c.args.left c.args.at = script-at _ _ _ _ _ c.requires.0 c.requires.1 in (here.from_named c.in-114.is).first
@@ -52,32 +49,40 @@ pub returns-in-113 : goal.returns-in-113
 unfolding is_free
 returns-in-113 t c =
     let here : ScriptAt t c.args.script.now c.args.terms c.args.left c.args.at = script-at _ _ _ _ _ c.requires.0 c.requires.1 in
-    let a = c.args in
-    let n : length a.free ≡ variable_limit = search rules in
-    leaf_walked (here.success c.in-113.is) (uses-none a.hidden a.free n)
+    let n : length c.args.free ≡ variable_limit = search rules in
+    leaf_walked (here.success c.in-113.is) (uses-none c.args.hidden c.args.free n)
 
 pub returns-in-114 : goal.returns-in-114
 unfolding is_free
 returns-in-114 t c =
     let here : ScriptAt t c.args.script.now c.args.terms c.args.left c.args.at = script-at _ _ _ _ _ c.requires.0 c.requires.1 in
-    let a = c.args in
     (here.from_named c.in-114.is).node c.name_uses-n.ensures c.script_uses.ensures
-    (λ n d. uses-both a.hidden a.free (λ v. in_name v n) (λ v. is_free v d))
+    (λ n d. uses-both c.args.hidden c.args.free (λ v. in_name v n) (λ v. is_free v d))
 
 pub returns-in-115 : goal.returns-in-115
 unfolding is_free
 returns-in-115 t c =
     let here : ScriptAt t c.args.script.now c.args.terms c.args.left c.args.at = script-at _ _ _ _ _ c.requires.0 c.requires.1 in
     let b = here.block c.in-115.is in
-    let a = c.args in
-    let n : length a.hidden ≡ variable_limit = search rules in
+    let n : length c.args.hidden ≡ variable_limit = search rules in
     b.parts.node c.query_uses-q.ensures c.script_uses-in-115.ensures
-    (λ q d. block-hides a.script.now a.at b.binders b.listed a.hidden a.free (λ v. in_query v q) (λ v. is_free v d) n c.hide_pairs-inside.ensures)
+    (λ q d. block-hides c.args.script.now c.args.at b.binders b.listed c.args.hidden c.args.free (λ v. in_query v q) (λ v. is_free v d) n c.hide_pairs-inside.ensures)
 
 pub returns-in_default : goal.returns-in_default
 unfolding is_free
 returns-in_default t c =
     let here : ScriptAt t c.args.script.now c.args.terms c.args.left c.args.at = script-at _ _ _ _ _ c.requires.0 c.requires.1 in
-    let i = c.args in
     (here.sequence c.in_default.in_default-own.rest).node c.script_uses-a.ensures c.script_uses-in_default.ensures
-    (λ a d. uses-both i.hidden i.free (λ v. is_free v a) (λ v. is_free v d))
+    (λ a d. uses-both c.args.hidden c.args.free (λ v. is_free v a) (λ v. is_free v d))
+
+pub bounds-script-at : goal.bounds-script-at
+bounds-script-at t c =
+    let here : ScriptAt t c.args.script.now c.args.terms c.args.left c.args.at = script-at _ _ _ _ _ c.requires.0 c.requires.1 in here.inside
+
+pub overflow_add-first : goal.overflow_add-first
+overflow_add-first t c =
+    let here : ScriptAt t c.args.script.now c.args.terms c.args.left c.args.at = script-at _ _ _ _ _ c.requires.0 c.requires.1 in omega (arith, here.inside)
+
+pub overflow_sub-below : goal.overflow_sub-below
+overflow_sub-below t c =
+    let here : ScriptAt t c.args.script.now c.args.terms c.args.left c.args.at = script-at _ _ _ _ _ c.requires.0 c.requires.1 in here.pos

@@ -11,9 +11,6 @@ use Rattle.scope.proofs.UseLaws.{uses-none, uses-both}
 use Prim.Native.Nat.{ℕ, ◌<◌}
 use Rattle.scope.proofs.uses.+cond_uses.Goals as goal
 
--- ?? measure: abbrev μ-cond-uses : Measures 1 cond-uses-kinds.ps ℕ
--- ?? μ-cond-uses κs a = a.1.1.1.0
-
 pub cond_uses-a-requires : goal.cond_uses-a-requires
 cond_uses-a-requires t c =
     let here : CondAt t c.args.script.now c.args.terms c.args.left c.args.at = cond-at _ _ _ _ _ c.requires.0 c.requires.1 in let n = here.or c.in-82.is in (n.falls, n.first)
@@ -69,28 +66,26 @@ expr_uses-requires-in_default t c =
 pub returns-in-80 : goal.returns-in-80
 unfolding in_cond
 returns-in-80 t c =
-    let here : CondAt t c.args.script.now c.args.terms c.args.left c.args.at = cond-at _ _ _ _ _ c.requires.0 c.requires.1 in let a = c.args in let n : length a.free ≡ variable_limit = search rules in leaf_walked (here.no c.in-80.is) (uses-none a.hidden a.free n)
+    let here : CondAt t c.args.script.now c.args.terms c.args.left c.args.at = cond-at _ _ _ _ _ c.requires.0 c.requires.1 in let n : length c.args.free ≡ variable_limit = search rules in leaf_walked (here.no c.in-80.is) (uses-none c.args.hidden c.args.free n)
 
 pub returns-in-81 : goal.returns-in-81
 unfolding in_cond
 returns-in-81 t c =
-    let here : CondAt t c.args.script.now c.args.terms c.args.left c.args.at = cond-at _ _ _ _ _ c.requires.0 c.requires.1 in let a = c.args in let n : length a.free ≡ variable_limit = search rules in leaf_walked (here.yes c.in-81.is) (uses-none a.hidden a.free n)
+    let here : CondAt t c.args.script.now c.args.terms c.args.left c.args.at = cond-at _ _ _ _ _ c.requires.0 c.requires.1 in let n : length c.args.free ≡ variable_limit = search rules in leaf_walked (here.yes c.in-81.is) (uses-none c.args.hidden c.args.free n)
 
 pub returns-in-82 : goal.returns-in-82
 unfolding in_cond
 returns-in-82 t c =
     let here : CondAt t c.args.script.now c.args.terms c.args.left c.args.at = cond-at _ _ _ _ _ c.requires.0 c.requires.1 in
-    let i = c.args in
     (here.or c.in-82.is).node c.cond_uses-a.ensures c.cond_uses.ensures
-    (λ a b. uses-both i.hidden i.free (λ v. in_cond v a) (λ v. in_cond v b))
+    (λ a b. uses-both c.args.hidden c.args.free (λ v. in_cond v a) (λ v. in_cond v b))
 
 pub returns-in-83 : goal.returns-in-83
 unfolding in_cond
 returns-in-83 t c =
     let here : CondAt t c.args.script.now c.args.terms c.args.left c.args.at = cond-at _ _ _ _ _ c.requires.0 c.requires.1 in
-    let i = c.args in
     (here.and c.in-83.is).node c.cond_uses-a-in-83.ensures c.cond_uses-in-83.ensures
-    (λ a b. uses-both i.hidden i.free (λ v. in_cond v a) (λ v. in_cond v b))
+    (λ a b. uses-both c.args.hidden c.args.free (λ v. in_cond v a) (λ v. in_cond v b))
 
 pub returns-in-84 : goal.returns-in-84
 unfolding in_cond
@@ -111,14 +106,24 @@ pub returns-in-87 : goal.returns-in-87
 unfolding in_cond
 returns-in-87 t c =
     let here : CondAt t c.args.script.now c.args.terms c.args.left c.args.at = cond-at _ _ _ _ _ c.requires.0 c.requires.1 in
-    let i = c.args in
     (here.equal c.in-87.is).node c.expr_uses-a.ensures c.expr_uses-in-87.ensures
-    (λ a b. uses-both i.hidden i.free (λ v. in_expr v a) (λ v. in_expr v b))
+    (λ a b. uses-both c.args.hidden c.args.free (λ v. in_expr v a) (λ v. in_expr v b))
 
 pub returns-in_default : goal.returns-in_default
 unfolding in_cond
 returns-in_default t c =
     let here : CondAt t c.args.script.now c.args.terms c.args.left c.args.at = cond-at _ _ _ _ _ c.requires.0 c.requires.1 in
-    let i = c.args in
     (here.less c.in_default.in_default-own.rest).node c.expr_uses-a-in_default.ensures c.expr_uses-in_default.ensures
-    (λ a b. uses-both i.hidden i.free (λ v. in_expr v a) (λ v. in_expr v b))
+    (λ a b. uses-both c.args.hidden c.args.free (λ v. in_expr v a) (λ v. in_expr v b))
+
+pub bounds-script-at : goal.bounds-script-at
+bounds-script-at t c =
+    let here : CondAt t c.args.script.now c.args.terms c.args.left c.args.at = cond-at _ _ _ _ _ c.requires.0 c.requires.1 in here.inside
+
+pub overflow_add-first : goal.overflow_add-first
+overflow_add-first t c =
+    let here : CondAt t c.args.script.now c.args.terms c.args.left c.args.at = cond-at _ _ _ _ _ c.requires.0 c.requires.1 in omega (arith, here.inside)
+
+pub overflow_sub-below : goal.overflow_sub-below
+overflow_sub-below t c =
+    let here : CondAt t c.args.script.now c.args.terms c.args.left c.args.at = cond-at _ _ _ _ _ c.requires.0 c.requires.1 in here.pos

@@ -11,9 +11,6 @@ use Rattle.scope.proofs.UseLaws.{uses-none, uses-both}
 use Prim.Native.Nat.{ℕ, ◌<◌}
 use Rattle.scope.proofs.uses.+expr_uses.Goals as goal
 
--- ?? measure: abbrev μ-expr-uses : Measures 1 expr-uses-kinds.ps ℕ
--- ?? μ-expr-uses κs a = a.1.1.1.0
-
 pub name_uses-requires : goal.name_uses-requires
 name_uses-requires t c =
     let here : ExprAt t c.args.script.now c.args.terms c.args.left c.args.at = expr-at _ _ _ _ _ c.requires.0 c.requires.1 in (here.name (omega (arith, c.in-49.is))).child
@@ -59,7 +56,7 @@ returns-in-50 t c =
 pub returns-in-65 : goal.returns-in-65
 unfolding in_expr
 returns-in-65 t c =
-    let here : ExprAt t c.args.script.now c.args.terms c.args.left c.args.at = expr-at _ _ _ _ _ c.requires.0 c.requires.1 in let a = c.args in let n : length a.free ≡ variable_limit = search rules in leaf_walked (here.now c.in-65.is) (uses-none a.hidden a.free n)
+    let here : ExprAt t c.args.script.now c.args.terms c.args.left c.args.at = expr-at _ _ _ _ _ c.requires.0 c.requires.1 in let n : length c.args.free ≡ variable_limit = search rules in leaf_walked (here.now c.in-65.is) (uses-none c.args.hidden c.args.free n)
 
 pub returns-in-66 : goal.returns-in-66
 unfolding in_expr
@@ -75,14 +72,24 @@ pub returns-in-68 : goal.returns-in-68
 unfolding in_expr
 returns-in-68 t c =
     let here : ExprAt t c.args.script.now c.args.terms c.args.left c.args.at = expr-at _ _ _ _ _ c.requires.0 c.requires.1 in
-    let i = c.args in
     (here.plus c.in-68.is).node c.expr_uses-a.ensures c.expr_uses-in-68.ensures
-    (λ a b. uses-both i.hidden i.free (λ v. in_expr v a) (λ v. in_expr v b))
+    (λ a b. uses-both c.args.hidden c.args.free (λ v. in_expr v a) (λ v. in_expr v b))
 
 pub returns-in_default : goal.returns-in_default
 unfolding in_expr
 returns-in_default t c =
     let here : ExprAt t c.args.script.now c.args.terms c.args.left c.args.at = expr-at _ _ _ _ _ c.requires.0 c.requires.1 in
-    let i = c.args in
     (here.minus c.in_default.in_default-own.rest).node c.expr_uses-a-in_default.ensures c.expr_uses-in_default.ensures
-    (λ a b. uses-both i.hidden i.free (λ v. in_expr v a) (λ v. in_expr v b))
+    (λ a b. uses-both c.args.hidden c.args.free (λ v. in_expr v a) (λ v. in_expr v b))
+
+pub bounds-script-at : goal.bounds-script-at
+bounds-script-at t c =
+    let here : ExprAt t c.args.script.now c.args.terms c.args.left c.args.at = expr-at _ _ _ _ _ c.requires.0 c.requires.1 in here.inside
+
+pub overflow_add-first : goal.overflow_add-first
+overflow_add-first t c =
+    let here : ExprAt t c.args.script.now c.args.terms c.args.left c.args.at = expr-at _ _ _ _ _ c.requires.0 c.requires.1 in omega (arith, here.inside)
+
+pub overflow_sub-below : goal.overflow_sub-below
+overflow_sub-below t c =
+    let here : ExprAt t c.args.script.now c.args.terms c.args.left c.args.at = expr-at _ _ _ _ _ c.requires.0 c.requires.1 in here.pos

@@ -11,9 +11,6 @@ use Rattle.scope.proofs.UseLaws.{uses-none, uses-both}
 use Prim.Native.Nat.{ℕ, ◌<◌}
 use Rattle.scope.proofs.uses.+query_uses.Goals as goal
 
--- ?? measure: abbrev μ-query-uses : Measures 1 query-uses-kinds.ps ℕ
--- ?? μ-query-uses κs a = a.1.1.1.0
-
 pub name_uses-g-requires : goal.name_uses-g-requires
 name_uses-g-requires t c =
     let here : QueryAt t c.args.script.now c.args.terms c.args.left c.args.at = query-at _ _ _ _ _ c.requires.0 c.requires.1 in (here.pattern c.in-97.is).first
@@ -56,28 +53,25 @@ pub returns-in-97 : goal.returns-in-97
 unfolding in_query
 returns-in-97 t c =
     let here : QueryAt t c.args.script.now c.args.terms c.args.left c.args.at = query-at _ _ _ _ _ c.requires.0 c.requires.1 in
-    let a = c.args in
     (here.pattern c.in-97.is).node c.name_uses-g.ensures
     c.name_uses-s.ensures c.name_uses-p.ensures c.name_uses.ensures
     (λ g s p o h i j k.
-    uses-both a.hidden a.free (λ v. in_name v g) _ h
-    (uses-both a.hidden _ (λ v. in_name v s) _ i (uses-both a.hidden _ (λ v. in_name v p) (λ v. in_name v o) j k)))
+    uses-both c.args.hidden c.args.free (λ v. in_name v g) _ h
+    (uses-both c.args.hidden _ (λ v. in_name v s) _ i (uses-both c.args.hidden _ (λ v. in_name v p) (λ v. in_name v o) j k)))
 
 pub returns-in-98 : goal.returns-in-98
 unfolding in_query
 returns-in-98 t c =
     let here : QueryAt t c.args.script.now c.args.terms c.args.left c.args.at = query-at _ _ _ _ _ c.requires.0 c.requires.1 in
-    let i = c.args in
     (here.both c.in-98.is).node c.query_uses-a.ensures c.query_uses.ensures
-    (λ a b. uses-both i.hidden i.free (λ v. in_query v a) (λ v. in_query v b))
+    (λ a b. uses-both c.args.hidden c.args.free (λ v. in_query v a) (λ v. in_query v b))
 
 pub returns-in-99 : goal.returns-in-99
 unfolding in_query
 returns-in-99 t c =
     let here : QueryAt t c.args.script.now c.args.terms c.args.left c.args.at = query-at _ _ _ _ _ c.requires.0 c.requires.1 in
-    let i = c.args in
     (here.union c.in-99.is).node c.query_uses-a-in-99.ensures c.query_uses-in-99.ensures
-    (λ a b. uses-both i.hidden i.free (λ v. in_query v a) (λ v. in_query v b))
+    (λ a b. uses-both c.args.hidden c.args.free (λ v. in_query v a) (λ v. in_query v b))
 
 pub returns-in-100 : goal.returns-in-100
 unfolding in_query
@@ -87,4 +81,16 @@ returns-in-100 t c =
 pub returns-in_default : goal.returns-in_default
 unfolding in_query
 returns-in_default t c =
-    let here : QueryAt t c.args.script.now c.args.terms c.args.left c.args.at = query-at _ _ _ _ _ c.requires.0 c.requires.1 in let a = c.args in let n : length a.free ≡ variable_limit = search rules in leaf_walked (here.empty c.in_default.in_default-own.rest) (uses-none a.hidden a.free n)
+    let here : QueryAt t c.args.script.now c.args.terms c.args.left c.args.at = query-at _ _ _ _ _ c.requires.0 c.requires.1 in let n : length c.args.free ≡ variable_limit = search rules in leaf_walked (here.empty c.in_default.in_default-own.rest) (uses-none c.args.hidden c.args.free n)
+
+pub bounds-script-at : goal.bounds-script-at
+bounds-script-at t c =
+    let here : QueryAt t c.args.script.now c.args.terms c.args.left c.args.at = query-at _ _ _ _ _ c.requires.0 c.requires.1 in here.inside
+
+pub overflow_add-first : goal.overflow_add-first
+overflow_add-first t c =
+    let here : QueryAt t c.args.script.now c.args.terms c.args.left c.args.at = query-at _ _ _ _ _ c.requires.0 c.requires.1 in omega (arith, here.inside)
+
+pub overflow_sub-below : goal.overflow_sub-below
+overflow_sub-below t c =
+    let here : QueryAt t c.args.script.now c.args.terms c.args.left c.args.at = query-at _ _ _ _ _ c.requires.0 c.requires.1 in here.pos

@@ -14,8 +14,7 @@ pub slice_bounds-find_after-end : goal.slice_bounds-find_after-end
 slice_bounds-find_after-end c = search (rules, c.parts_of-listed.ensures.size_le_parts_width.0, c.parts_of-listed.ensures.size_le_parts_width.1)
 
 pub find_after-requires : goal.find_after-requires
-find_after-requires c =
-    let p = ⟪c₂.requires⟫ in let l = c.parts_of-listed in record { world = p.0; ends_lent = p.1; parted = parted _ _ _ _ _ l.ensures.0.0 l.ensures.1 }
+find_after-requires c = record { world = c.requires.world; ends_lent = c.requires.ends_lent; parted = parted _ _ _ _ _ c.parts_of-listed.ensures.size_le_parts_width.0 c.parts_of-listed.ensures.parts_of }
 
 pub returns-then-started : goal.returns-then-started
 returns-then-started c =
@@ -25,8 +24,7 @@ pub slice_bounds-find-end : goal.slice_bounds-find-end
 slice_bounds-find-end c = search (rules, c.parts_of-listed.ensures.size_le_parts_width.0, c.parts_of-listed.ensures.size_le_parts_width.1)
 
 pub find-requires : goal.find-requires
-find-requires c =
-    let p = ⟪c₂.requires⟫ in let l = c.parts_of-listed in record { world = p.0; ends_lent = p.1; parted = parted _ _ _ _ _ l.ensures.0.0 l.ensures.1 }
+find-requires c = record { world = c.requires.world; ends_lent = c.requires.ends_lent; parted = parted _ _ _ _ _ c.parts_of-listed.ensures.size_le_parts_width.0 c.parts_of-listed.ensures.parts_of }
 
 pub returns : goal.returns
 returns c =

@@ -10,9 +10,6 @@ use Rattle.search.specs.Finding.{World}
 use Rattle.search.proofs.FindLaws.{loads-here, lent-here, few-terms, LevelFrom, level-starts, find-test, find_past, find_none, find-skip, find-on, find-hit}
 use Rattle.search.proofs.find.+find.Goals as goal
 
--- ?? measure: abbrev μ-find : Measures 7 find-kinds.ps ℕ
--- ?? μ-find κs a = a.1.1.1.0.size - a.1.1.1.1.1.1.1.1.1.1.0
-
 -- ?? helper: abbrev find-Inv-loop : lts.invariant-loop
 -- ?? find-Inv-loop script ends context block parts ranks table quads leasts k lo known at size count v from₀ from =
 -- ??     (lo ≤ from) × ((w : World script ranks table quads leasts context block) (below : k < block.size) → LevelFrom w known k below lo from)
@@ -22,8 +19,7 @@ use Rattle.search.proofs.find.+find.Goals as goal
 
 pub eval_query-t-requires : goal.eval_query-t-requires
 eval_query-t-requires t c =
-    let sixteen : length c.args.known ≡ 16 = search rules in
-    let w = c.requires.ends_lent in record { loads = loads-here w; ranks_lent = lent-here w _ sixteen; ends_lent = c.requires.parted.0; stored = w.lent.stored }
+    let sixteen : length c.args.known ≡ 16 = search rules in record { loads = loads-here c.requires.ends_lent; ranks_lent = lent-here c.requires.ends_lent _ sixteen; ends_lent = c.requires.parted.0; stored = c.requires.ends_lent.lent.stored }
 
 pub returns-then-size-k : goal.returns-then-size-k
 returns-then-size-k t c = record { find_of = λ w. find-test w _ _ c.if-size-k.true _ _ c.eval_query-t.ensures.walked; tuple_len = refl }
@@ -39,12 +35,10 @@ loop-from-init t c = (omega arith, λ w below. level-starts w _ _ below _)
 
 pub next-i-requires : goal.next-i-requires
 next-i-requires t c =
-    let sixteen : length c.args.known ≡ 16 = search rules in
-    let p = ⟪s.requires.1⟫ in record { world = p.0; ends_lent = p.1.0; parted = p.1.1; known_len = sixteen; k_lt_size = c.if-size-k.false }
+    let sixteen : length c.args.known ≡ 16 = search rules in record { world = c.requires.ends_lent; ends_lent = c.requires.parted.0; parted = c.requires.parted.1; known_len = sixteen; k_lt_size = c.if-size-k.false }
 
 pub returns-then-count-i : goal.returns-then-count-i
-returns-then-count-i t c =
-    let below = c.if-size-k.false in record { find_of = λ w. find_none w _ _ below _ _ (c.loop-from.invariant.1 w below) _ (c.next-i.ensures w) c.if-count-i.true _ c.nothing.ensures.0; tuple_len = c.nothing.ensures.1 }
+returns-then-count-i t c = record { find_of = λ w. find_none w _ _ c.if-size-k.false _ _ (c.loop-from.invariant.1 w c.if-size-k.false) _ (c.next-i.ensures w) c.if-count-i.true _ c.nothing.ensures.0; tuple_len = c.nothing.ensures.1 }
 
 pub offset_bounds-with-v : goal.offset_bounds-with-v
 offset_bounds-with-v t c =
@@ -54,8 +48,7 @@ pub bounds-with-v : goal.bounds-with-v
 bounds-with-v t c = c.requires.ends_lent.small _
 
 pub worth-requires : goal.worth-requires
-worth-requires t c =
-    let p = ⟪c.before.before.before.before.before.before.before.before.before.before.before.before.before.before.requires.1⟫ in record { world = p.0; ends_lent = p.1.0; parted = p.1.1; k_lt_size = c.if-size-k.false; number_lt_count = c.if-count-i.false }
+worth-requires t c = record { world = c.requires.ends_lent; ends_lent = c.requires.parted.0; parted = c.requires.parted.1; k_lt_size = c.if-size-k.false; number_lt_count = c.if-count-i.false }
 
 pub overflow_add-k : goal.overflow_add-k
 overflow_add-k t c =
@@ -63,7 +56,7 @@ overflow_add-k t c =
 
 pub find-r-requires : goal.find-r-requires
 find-r-requires t c =
-    (omega (arith, c.requires.world, c.if-size-k.false), ⟪c₂.requires.1⟫)
+    (omega (arith, c.requires.world, c.if-size-k.false), (c.requires.ends_lent, c.requires.parted))
 
 pub offset_bounds-tuple-k : goal.offset_bounds-tuple-k
 offset_bounds-tuple-k t c =
@@ -75,14 +68,10 @@ bounds-tuple-k t c =
 
 pub returns-then-r : goal.returns-then-r
 returns-then-r t c =
-    let sixteen : length c.args.known ≡ 16 = search rules in
-    let below = c.if-size-k.false in
-    let i = c.loop-from.invariant in
-    let g = c.requires.ends_lent in
-    let y = c.find-r in record {
-      find_of = λ w. find-hit w _ _ below _ _ (i.1 w below) _ (c.next-i.ensures w) c.if-count-i.false (omega (arith, g.small c.args.k, sixteen)) _ (y.ensures.0 w) c.if-r.true
-          (omega (arith, i.0, (c.next-i.ensures w).0, c.loop-from-test.true)) (omega (arith, y.ensures.1, g.size, below));
-      tuple_len = length-set y.result.tuple c.args.k c.next-i.result ∙ y.ensures.1;
+    let sixteen : length c.args.known ≡ 16 = search rules in record {
+      find_of = λ w. find-hit w _ _ c.if-size-k.false _ _ (c.loop-from.invariant.1 w c.if-size-k.false) _ (c.next-i.ensures w) c.if-count-i.false (omega (arith, c.requires.ends_lent.small c.args.k, sixteen)) _ (c.find-r.ensures.find_of w) c.if-r.true
+          (omega (arith, c.loop-from.invariant.0, (c.next-i.ensures w).0, c.loop-from-test.true)) (omega (arith, c.find-r.ensures.tuple_len, c.requires.ends_lent.size, c.if-size-k.false));
+      tuple_len = length-set c.find-r.result.tuple c.args.k c.next-i.result ∙ c.find-r.ensures.tuple_len;
     }
 
 pub overflow_add-from : goal.overflow_add-from
@@ -95,16 +84,13 @@ loop-from-smaller t c =
 
 pub loop-from-preserved : goal.loop-from-preserved
 loop-from-preserved t c =
-    let sixteen : length c.args.known ≡ 16 = search rules in
-    let i = c.loop-from.invariant in
-    let small = c.if-count-i.false in (
-      omega (arith, i.0, (c.next-i.ensures c.requires.ends_lent).0, c.loop-from-test.true),
+    let sixteen : length c.args.known ≡ 16 = search rules in (
+      omega (arith, c.loop-from.invariant.0, (c.next-i.ensures c.requires.ends_lent).0, c.loop-from-test.true),
       ⊎_elim
-          (λ h w below. find-on w _ _ below _ _ (i.1 w below) _ (c.next-i.ensures w) small (omega (arith, c.requires.ends_lent.small c.args.k, sixteen)) _ (h.1.ensures.0 w) h.2.left)
-          (λ h w below. find-skip w _ _ below _ _ (i.1 w below) _ (c.next-i.ensures w) small (omega (arith, c.requires.ends_lent.small c.args.k, sixteen)) (c.worth.ensures w) h.left)
+          (λ h w below. find-on w _ _ below _ _ (c.loop-from.invariant.1 w below) _ (c.next-i.ensures w) c.if-count-i.false (omega (arith, c.requires.ends_lent.small c.args.k, sixteen)) _ (h.1.ensures.0 w) h.2.left)
+          (λ h w below. find-skip w _ _ below _ _ (c.loop-from.invariant.1 w below) _ (c.next-i.ensures w) c.if-count-i.false (omega (arith, c.requires.ends_lent.small c.args.k, sixteen)) (c.worth.ensures w) h.left)
           c.if-worth.branch,
     )
 
 pub returns : goal.returns
-returns t c =
-    let below = c.if-size-k.false in record { find_of = λ w. find_past w _ _ below _ _ (c.loop-from.invariant.1 w below) c.loop-from-test.false _ c.nothing-2.ensures.0; tuple_len = c.nothing-2.ensures.1 }
+returns t c = record { find_of = λ w. find_past w _ _ c.if-size-k.false _ _ (c.loop-from.invariant.1 w c.if-size-k.false) c.loop-from-test.false _ c.nothing-2.ensures.0; tuple_len = c.nothing-2.ensures.1 }

@@ -8,9 +8,6 @@ use lib.ListN.{length, get_or, length-set}
 use Rattle.search.proofs.FindLaws.{few-terms, after-ends, after-past, after-find, own-untyped, own-none, own-hit}
 use Rattle.search.proofs.find.+find_after.Goals as goal
 
--- ?? measure: abbrev μ-find-after : Measures 7 find-after-kinds.ps ℕ
--- ?? μ-find-after κs a = a.1.1.1.0.size - a.1.1.1.1.1.1.1.1.1.1.0
-
 pub returns-then-size-k : goal.returns-then-size-k
 returns-then-size-k t c = record { after_of = λ w. after-ends w _ _ c.if-size-k.true _ c.nothing.ensures.0; tuple_len = c.nothing.ensures.1 }
 
@@ -52,7 +49,7 @@ overflow_add-k t c =
 
 pub find_after-r-requires : goal.find_after-r-requires
 find_after-r-requires t c =
-    (omega (arith, c.requires.world, c.if-size-k.false), ⟪c₂.requires.1⟫)
+    (omega (arith, c.requires.world, c.if-size-k.false), (c.requires.ends_lent, c.requires.parted))
 
 pub offset_bounds-tuple-k : goal.offset_bounds-tuple-k
 offset_bounds-tuple-k t c =
@@ -64,13 +61,10 @@ bounds-tuple-k t c =
 
 pub returns-then-r : goal.returns-then-r
 returns-then-r t c =
-    let sixteen : length c.args.known ≡ 16 = search rules in
-    let below = c.if-size-k.false in
-    let g = c.requires.ends_lent in
-    let y = c.find_after-r in record {
-      after_of = λ w. own-hit w _ _ below c.if-count-l.false (omega (arith, g.small c.args.k, sixteen)) c.has_type.ensures c.if-has_type.true _ (y.ensures.0 w) c.if-r.true
-          (omega (arith, y.ensures.1, g.size, below));
-      tuple_len = length-set y.result.tuple c.args.k (get_or c.args.block.last c.args.k 0) ∙ y.ensures.1;
+    let sixteen : length c.args.known ≡ 16 = search rules in record {
+      after_of = λ w. own-hit w _ _ c.if-size-k.false c.if-count-l.false (omega (arith, c.requires.ends_lent.small c.args.k, sixteen)) c.has_type.ensures c.if-has_type.true _ (c.find_after-r.ensures.after_of w) c.if-r.true
+          (omega (arith, c.find_after-r.ensures.tuple_len, c.requires.ends_lent.size, c.if-size-k.false));
+      tuple_len = length-set c.find_after-r.result.tuple c.args.k (get_or c.args.block.last c.args.k 0) ∙ c.find_after-r.ensures.tuple_len;
     }
 
 pub overflow_add-l : goal.overflow_add-l
@@ -78,17 +72,15 @@ overflow_add-l t c =
     omega (arith, few-terms c.requires.ends_lent, c.if-count-l.false)
 
 pub find-requires : goal.find-requires
-find-requires t c = let whole = ⟪c.before.before.before.before.before.before.before.before.before.before.before.before.before.before.before.requires.1⟫ in record { world = whole.0; ends_lent = whole.1.0; parted = whole.1.1 }
+find-requires t c = let whole = (c.requires.ends_lent, c.requires.parted) in record { world = whole.0; ends_lent = whole.1.0; parted = whole.1.1 }
 
 pub returns : goal.returns
 returns t c =
-    let sixteen : length c.args.known ≡ 16 = search rules in
-    let below = c.if-size-k.false in
-    let small = c.if-count-l.false in record {
-      after_of = λ w. after-find w _ _ below
+    let sixteen : length c.args.known ≡ 16 = search rules in record {
+      after_of = λ w. after-find w _ _ c.if-size-k.false
           (⊎_elim
-          (λ h. own-none w _ _ below small (omega (arith, c.requires.ends_lent.small c.args.k, sixteen)) c.has_type.ensures h.0.taken _ (h.1.ensures.0 w) h.2.left)
-          (λ h. own-untyped w _ _ below small c.has_type.ensures h.left)
+          (λ h. own-none w _ _ c.if-size-k.false c.if-count-l.false (omega (arith, c.requires.ends_lent.small c.args.k, sixteen)) c.has_type.ensures h.0.taken _ (h.1.ensures.0 w) h.2.left)
+          (λ h. own-untyped w _ _ c.if-size-k.false c.if-count-l.false c.has_type.ensures h.left)
           c.if-has_type.branch)
           c.find.result (c.find.ensures.find_of w);
       tuple_len = c.find.ensures.tuple_len;

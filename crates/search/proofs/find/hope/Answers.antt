@@ -11,18 +11,17 @@ use Rattle.search.proofs.FindLaws.{lent-here, parts-here, few-terms, hope-past, 
 use Rattle.search.proofs.find.hope.Goals as goal
 
 pub offset_bounds-vars-j : goal.offset_bounds-vars-j
-offset_bounds-vars-j c = let p = ⟪c.before.before.before.before.before.before.before.before.requires⟫ in omega (arith, p.0.size, p.1.1.1)
+offset_bounds-vars-j c = omega (arith, c.requires.world.size, c.requires.j_lt_size)
 
 pub bounds-vars-j : goal.bounds-vars-j
-bounds-vars-j c = let p = ⟪c.before.before.before.before.before.before.before.before.requires⟫ in omega (arith, p.0.size, p.1.1.1)
+bounds-vars-j c = omega (arith, c.requires.world.size, c.requires.j_lt_size)
 
 pub loop-lo-init : goal.loop-lo-init
 loop-lo-init c = λ w vs r δ p h l. omega arith
 
 pub next-number-requires : goal.next-number-requires
 next-number-requires c =
-    let sixteen : length c.args.known ≡ variable_limit = search rules in
-    let p = ⟪c₁.requires⟫ in record { world = p.0; ends_lent = p.1.0; parted = p.1.1.0; known_len = sixteen; k_lt_size = p.1.1.1 }
+    let sixteen : length c.args.known ≡ variable_limit = search rules in record { world = c.requires.world; ends_lent = c.requires.ends_lent; parted = c.requires.parted; known_len = sixteen; k_lt_size = c.requires.j_lt_size }
 
 pub returns-then-count-number : goal.returns-then-count-number
 returns-then-count-number c = λ w. hope-none w _ _ _ (c.loop-lo.invariant w) _ (c.next-number.ensures w) c.if-count-number.true
@@ -41,10 +40,7 @@ slice_bounds-agree-end c =
 pub agree-requires : goal.agree-requires
 agree-requires c =
     let sixteen : length c.args.known ≡ variable_limit = search rules in
-    let p = ⟪c₂.requires⟫ in
-    let w = p.0 in
-    let q = p.1.1.0 in
-    let sized = length-set c.args.known (get_or c.args.block.vars c.args.j 0) c.next-number.result ∙ sixteen in record { parts_len_bound = q.room; parts_of = (w.tree, parts-here w q); ranks_lent = lent-here w _ sized; ends_lent = p.1.0; stored = w.lent.stored; v_lt_variable_limit = w.small _; after_bound = omega arith; number_lt_count = c.if-count-number.false }
+    let sized = length-set c.args.known (get_or c.args.block.vars c.args.j 0) c.next-number.result ∙ sixteen in record { parts_len_bound = c.requires.parted.room; parts_of = (c.requires.world.tree, parts-here c.requires.world c.requires.parted); ranks_lent = lent-here c.requires.world _ sized; ends_lent = c.requires.ends_lent; stored = c.requires.world.lent.stored; v_lt_variable_limit = c.requires.world.small _; after_bound = omega arith; number_lt_count = c.if-count-number.false }
 
 pub returns-then-agree : goal.returns-then-agree
 returns-then-agree c = λ w e. absurd (true≢false e)

@@ -6,11 +6,11 @@ use Rattle.search.proofs.FindLaws.{hopeful-lost, hopeful-all}
 use Rattle.search.proofs.find.hopeful.Goals as goal
 
 pub hope-requires : goal.hope-requires
-hope-requires c = let p = ⟪c.before.before.before.before.before.before.before.before.before.requires⟫ in record { world = p.0; ends_lent = p.1.0; parted = p.1.1; j_lt_size = c.loop-j-test.true }
+hope-requires c = record { world = c.requires.world; ends_lent = c.requires.ends_lent; parted = c.requires.parted; j_lt_size = c.loop-j-test.true }
 
 pub returns-then-not-hope : goal.returns-then-not-hope
 returns-then-not-hope c =
-    λ w. hopeful-lost w _ _ _ c.loop-j.invariant c.loop-j-test.true (c.hope.ensures w) (not-true _ c.if-not-hope.true)
+    λ w. hopeful-lost w _ _ _ c.loop-j.invariant c.loop-j-test.true (c.hope.ensures w) c.if-not-hope.true
 
 pub loop-j-preserved : goal.loop-j-preserved
 loop-j-preserved c = omega (arith, c.loop-j.invariant)

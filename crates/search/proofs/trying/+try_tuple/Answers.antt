@@ -10,13 +10,9 @@ use Rattle.search.proofs.TriedLaws.{tried-all, no-term, wrong_type, one_more}
 use Prim.Native.Nat.{ℕ, ◌-◌, ◌<◌}
 use Rattle.search.proofs.trying.+try_tuple.Goals as goal
 
--- ?? measure: abbrev μ-try-tuple : Measures 6 try-tuple-kinds.ps ℕ
--- ?? μ-try-tuple κs a = a.1.1.1.0.size - a.1.1.1.1.1.1.1.1.1.1.0
-
 pub eval_query-t-requires : goal.eval_query-t-requires
 eval_query-t-requires t c =
-    let sixteen : length c.args.known ≡ 16 = search rules in
-    let w = c.requires.ends_lent.0 in record { loads = loads-here w; ranks_lent = lent-here w _ sixteen; ends_lent = c.requires.ends_lent.1; stored = w.lent.stored }
+    let sixteen : length c.args.known ≡ 16 = search rules in record { loads = loads-here c.requires.ends_lent.0; ranks_lent = lent-here c.requires.ends_lent.0 _ sixteen; ends_lent = c.requires.ends_lent.1; stored = c.requires.ends_lent.0.lent.stored }
 
 pub returns-then-size-k : goal.returns-then-size-k
 returns-then-size-k t c = λ w. tried-all w _ _ _ c.if-size-k.true c.eval_query-t.ensures.walked
@@ -38,7 +34,7 @@ bounds-types-k t c = omega (arith, c.requires.ends_lent.0.size, c.if-size-k.fals
 
 pub returns-then-not-has_type : goal.returns-then-not-has_type
 returns-then-not-has_type t c =
-    λ w. subst⁻¹ (TriedOf w _ _ _) c.unfit-then-not-has_type.ensures (wrong_type w _ _ _ c.if-size-k.false c.if-context-i.false c.has_type.ensures (not-true _ c.if-not-has_type.true))
+    λ w. subst⁻¹ (TriedOf w _ _ _) c.unfit-then-not-has_type.ensures (wrong_type w _ _ _ c.if-size-k.false c.if-context-i.false c.has_type.ensures c.if-not-has_type.true)
 
 pub offset_bounds-vars-k : goal.offset_bounds-vars-k
 offset_bounds-vars-k t c =
@@ -67,5 +63,5 @@ try_tuple-requires t c =
 pub returns : goal.returns
 returns t c =
     let sixteen : length c.args.known ≡ 16 = search rules in
-    λ w. one_more w _ _ _ c.if-size-k.false c.if-context-i.false c.has_type.ensures (not-false _ c.if-not-has_type.false)
+    λ w. one_more w _ _ _ c.if-size-k.false c.if-context-i.false c.has_type.ensures c.if-not-has_type.false
     (omega (arith, c.requires.ends_lent.0.small c.args.k, sixteen)) _ (c.try_tuple.ensures w)

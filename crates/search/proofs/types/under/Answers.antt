@@ -12,4 +12,4 @@ pub returns-in-13 : goal.returns-in-13
 returns-in-13 c = λ least. under-range least _ c.in-13.is
 
 pub returns-in_default : goal.returns-in_default
-returns-in_default c = let other = c.in_default.in_default-own.rest in λ least. under-other least _ other.0.0.1 other.0.1 other.1
+returns-in_default c = λ least. under-other least _ c.in_default.in_default-own.rest.0.0.1 c.in_default.in_default-own.rest.0.1 c.in_default.in_default-own.rest.1

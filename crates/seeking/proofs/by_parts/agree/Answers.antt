@@ -24,16 +24,14 @@ pub bounds-parts-second : goal.bounds-parts-second
 bounds-parts-second c = omega (arith, c.loop-i-test.true)
 
 pub is_asked-requires : goal.is_asked-requires
-is_asked-requires c =
-    let p = ⟪c₁.requires.1.1.1.1.1⟫ in record { v_lt_variable_limit = p.0; after_bound = p.1.0 }
+is_asked-requires c = record { v_lt_variable_limit = c.requires.v_lt_variable_limit; after_bound = c.requires.after_bound }
 
 pub bounds-script-at : goal.bounds-script-at
 bounds-script-at c =
     part-inside _ _ (c.requires.parts_of.1 _ (omega (arith, c.loop-i-test.true)))
 
 pub seek-s-requires : goal.seek-s-requires
-seek-s-requires c =
-    let p = ⟪c.before.before.before.before.before.before.before.before.before.before.before.before.before.before.requires.1⟫ in record { loads = part-loads _ _ (p.0.1 _ (omega (arith, c.loop-i-test.true))); ranks_lent = p.1.0; ends_lent = p.1.1.0; stored = p.1.1.1.0 }
+seek-s-requires c = record { loads = part-loads _ _ (c.requires.parts_of.1 _ (omega (arith, c.loop-i-test.true))); ranks_lent = c.requires.ranks_lent; ends_lent = c.requires.ends_lent; stored = c.requires.stored }
 
 pub returns-then-s-number : goal.returns-then-s-number
 returns-then-s-number c =

@@ -22,8 +22,7 @@ pub names_at-names-requires : goal.names_at-names-requires
 names_at-names-requires c = record { loads = ((query-at _ _ _ _ _ refl c.requires.loads).pattern c.if-script-at-eq97.true).all; known_len = c.requires.ranks_lent.terms.variables }
 
 pub least-requires : goal.least-requires
-least-requires c =
-    let p = ⟪c₁.requires.1⟫ in record { n_in_bounds = p.1.1.room; keys_value = p.1.1.rises; end_le_sought_code = omega (arith, few _ _ _ p.0.terms.tabled) }
+least-requires c = record { n_in_bounds = c.requires.stored.room; keys_value = c.requires.stored.rises; end_le_sought_code = omega (arith, few _ _ _ c.requires.ranks_lent.terms.tabled) }
 
 pub returns-then-script-at-eq97 : goal.returns-then-script-at-eq97
 returns-then-script-at-eq97 c =
@@ -32,7 +31,7 @@ returns-then-script-at-eq97 c =
     (walked_at (walked_as ((query-at _ _ _ _ _ refl c.requires.loads).pattern c.if-script-at-eq97.true).read c.names_at-names.ensures) e) c.least.ensures
 
 pub seek-s-requires : goal.seek-s-requires
-seek-s-requires c = let whole = ⟪c.before.before.before.before.before.before.before.before.before.requires⟫ in record { loads = whole.0; ranks_lent = whole.1.0; ends_lent = whole.1.1.0; stored = whole.1.1.1 }
+seek-s-requires c = record { loads = c.requires.loads; ranks_lent = c.requires.ranks_lent; ends_lent = c.requires.ends_lent; stored = c.requires.stored }
 
 pub returns : goal.returns
 returns c = λ q m e. walked_at c.seek-s.ensures e

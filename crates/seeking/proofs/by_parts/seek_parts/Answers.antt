@@ -40,19 +40,17 @@ bounds-parts-place c = omega (arith, c.loop-agreed.invariant.0 (omega (arith, c.
 
 pub seek_part-number-requires : goal.seek_part-number-requires
 seek_part-number-requires c =
-    let p = ⟪c.before.before.before.before.before.before.before.before.before.before.before.before.requires.1⟫ in
-    let i = c.loop-agreed.invariant.0 (omega (arith, c.loop-agreed-test.true)) in record { loads = part-loads _ _ (p.0.1 _ (omega (arith, i))); ranks_lent = p.1.0; ends_lent = p.1.1.0; stored = p.1.1.1.0 }
+    let i = c.loop-agreed.invariant.0 (omega (arith, c.loop-agreed-test.true)) in record { loads = part-loads _ _ (c.requires.parts_of.1 _ (omega (arith, i))); ranks_lent = c.requires.ranks_lent; ends_lent = c.requires.ends_lent; stored = c.requires.stored }
 
 pub returns-then-count-number : goal.returns-then-count-number
 returns-then-count-number c =
     λ q p.
-    let b = c.loop-agreed.invariant in
-    let x = p c.loop-agreed.i (omega (arith, b.0 (omega (arith, c.loop-agreed-test.true)))) in
-    ended _ _ _ _ _ _ _ _ q c.if-count-number.true (part-seeks _ _ _ _ _ _ _ q x _ _ _ (b.1 q p) (c.seek_part-number.ensures x.part x.end x.read))
+    let x = p c.loop-agreed.i (omega (arith, c.loop-agreed.invariant.0 (omega (arith, c.loop-agreed-test.true)))) in
+    ended _ _ _ _ _ _ _ _ q c.if-count-number.true (part-seeks _ _ _ _ _ _ _ q x _ _ _ (c.loop-agreed.invariant.1 q p) (c.seek_part-number.ensures x.part x.end x.read))
 
 pub overflow_add-agreed : goal.overflow_add-agreed
 overflow_add-agreed c =
-    let falls : let n = length c.args.parts.now / 2 in let count = c.args.context.count in (c.either-alike.result < n) × (number_weight * (count - c.seek_part-number.result) + (n - (c.either-alike.result + 1)) < number_weight * (count - c.loop-agreed.found) + (n - c.loop-agreed.agreed)) = let x = c.requires.parts_of.1 c.loop-agreed.i (omega (arith, c.loop-agreed.invariant.0 (omega (arith, c.loop-agreed-test.true)))) in
+    let falls : let n = length c.args.parts.now / 2 in (c.either-alike.result < n) × (number_weight * (c.args.context.count - c.seek_part-number.result) + (n - (c.either-alike.result + 1)) < number_weight * (c.args.context.count - c.loop-agreed.found) + (n - c.loop-agreed.agreed)) = let x = c.requires.parts_of.1 c.loop-agreed.i (omega (arith, c.loop-agreed.invariant.0 (omega (arith, c.loop-agreed-test.true)))) in
     turn-falls _ _ _ _ _ _ (omega (arith, c.requires.parts_len_bound)) c.loop-agreed-test.true c.if-count-number.false (c.seek_part-number.ensures x.part x.end x.read).0 c.either-alike.ensures in
     omega (arith, falls.0, c.requires.parts_len_bound)
 
@@ -62,16 +60,15 @@ overflow_add-next c =
 
 pub loop-agreed-smaller : goal.loop-agreed-smaller
 loop-agreed-smaller c =
-    let falls : let n = length c.args.parts.now / 2 in let count = c.args.context.count in (c.either-alike.result < n) × (number_weight * (count - c.seek_part-number.result) + (n - (c.either-alike.result + 1)) < number_weight * (count - c.loop-agreed.found) + (n - c.loop-agreed.agreed)) = let x = c.requires.parts_of.1 c.loop-agreed.i (omega (arith, c.loop-agreed.invariant.0 (omega (arith, c.loop-agreed-test.true)))) in
+    let falls : let n = length c.args.parts.now / 2 in (c.either-alike.result < n) × (number_weight * (c.args.context.count - c.seek_part-number.result) + (n - (c.either-alike.result + 1)) < number_weight * (c.args.context.count - c.loop-agreed.found) + (n - c.loop-agreed.agreed)) = let x = c.requires.parts_of.1 c.loop-agreed.i (omega (arith, c.loop-agreed.invariant.0 (omega (arith, c.loop-agreed-test.true)))) in
     turn-falls _ _ _ _ _ _ (omega (arith, c.requires.parts_len_bound)) c.loop-agreed-test.true c.if-count-number.false (c.seek_part-number.ensures x.part x.end x.read).0 c.either-alike.ensures in falls.1
 
 pub loop-agreed-preserved : goal.loop-agreed-preserved
 loop-agreed-preserved c = (
   λ h. turn-within _ _ _ h c.either-i.ensures,
   λ q p.
-      let b = c.loop-agreed.invariant in
-      let x = p c.loop-agreed.i (omega (arith, b.0 (omega (arith, c.loop-agreed-test.true)))) in
-      part-seeks _ _ _ _ _ _ _ q x _ _ _ (b.1 q p) (c.seek_part-number.ensures x.part x.end x.read),
+      let x = p c.loop-agreed.i (omega (arith, c.loop-agreed.invariant.0 (omega (arith, c.loop-agreed-test.true)))) in
+      part-seeks _ _ _ _ _ _ _ q x _ _ _ (c.loop-agreed.invariant.1 q p) (c.seek_part-number.ensures x.part x.end x.read),
 )
 
 pub returns : goal.returns

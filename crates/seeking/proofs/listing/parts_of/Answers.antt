@@ -37,8 +37,7 @@ loop-pending-smaller-then-splits c = omega (arith, c.loop-pending.invariant.0, (
 pub loop-pending-preserved-then-splits : goal.loop-pending-preserved-then-splits
 loop-pending-preserved-then-splits c =
     let k = c.splits.ensures c.if-splits.true in
-    let i = c.loop-pending.invariant in
-    (omega (arith, k.1), i.1, λ q m e. ((i.2 q m e).0, taken-apart _ _ q _ _ c.loop-pending-test.true k.0 (i.2 q m e).1))
+    (omega (arith, k.1), c.loop-pending.invariant.1, λ q m e. ((c.loop-pending.invariant.2 q m e).0, taken-apart _ _ q _ _ c.loop-pending-test.true k.0 (c.loop-pending.invariant.2 q m e).1))
 
 pub after-next-requires : goal.after-next-requires
 after-next-requires c = c.requires.ends_lent.room
@@ -76,19 +75,17 @@ pub loop-pending-smaller : goal.loop-pending-smaller
 loop-pending-smaller c = omega (arith, c.loop-pending.invariant.0, c.loop-pending-test.true)
 
 pub loop-pending-preserved : goal.loop-pending-preserved
-loop-pending-preserved c =
-    let i = c.loop-pending.invariant in
-    let h = c.loop-pending-test.true in (
-      omega (arith, i.0, h),
-      search rules,
-      λ q m e. (
-        listed_more _ _ q _ _ _ _ (omega (arith, i.0, h)) i.1 (i.2 q m e).0 (part-here _ _ q _ _ h (i.2 q m e).1),
-        goes_on _ _ q _ c.requires.ends_lent _ _ _ h (i.2 q m e).1 c.after-next.ensures,
-      ),
-    )
+loop-pending-preserved c = (
+  omega (arith, c.loop-pending.invariant.0, c.loop-pending-test.true),
+  search rules,
+  λ q m e. (
+    listed_more _ _ q _ _ _ _ (omega (arith, c.loop-pending.invariant.0, c.loop-pending-test.true)) c.loop-pending.invariant.1 (c.loop-pending.invariant.2 q m e).0 (part-here _ _ q _ _ c.loop-pending-test.true (c.loop-pending.invariant.2 q m e).1),
+    goes_on _ _ q _ c.requires.ends_lent _ _ _ c.loop-pending-test.true (c.loop-pending.invariant.2 q m e).1 c.after-next.ensures,
+  ),
+)
 
 pub overflow_mul-size : goal.overflow_mul-size
 overflow_mul-size c = omega (arith, c.loop-pending.invariant.0)
 
 pub returns : goal.returns
-returns c = let i = c.loop-pending.invariant in record { size_le_parts_width = (omega (arith, i.0), i.1); parts_of = λ q m e. listed-all _ _ q _ _ _ refl (i.2 q m e).0 }
+returns c = record { size_le_parts_width = (omega (arith, c.loop-pending.invariant.0), c.loop-pending.invariant.1); parts_of = λ q m e. listed-all _ _ q _ _ _ refl (c.loop-pending.invariant.2 q m e).0 }

@@ -11,8 +11,7 @@ after-next-requires c = c.requires.ends_lent.room
 
 pub returns-then-lo-count : goal.returns-then-lo-count
 returns-then-lo-count c =
-    let p = ⟪c.before.before.before.before.before.before.before.requires⟫ in
-    stepped-over p.0 (λ d n r. c.after-next.ensures ∙ cond-ends _ _ p.1.1.ended _ _ _ d n r) (λ d rows v. stays _ _ _ _ rows v _ _)
+    stepped-over c.requires.loads (λ d n r. c.after-next.ensures ∙ cond-ends _ _ c.requires.ends_lent.ended _ _ _ d n r) (λ d rows v. stays _ _ _ _ rows v _ _)
 
 pub returns-then-m : goal.returns-then-m
 returns-then-m c = walked_more c.may_cond-m.ensures (λ d h rows v. stays _ _ _ _ rows v _ _)

@@ -13,12 +13,12 @@ use Rattle.soundness.proofs.graphs.all_uris.Goals as goal
 pub returns-then-not-is_uri : goal.returns-then-not-is_uri
 returns-then-not-is_uri c =
     every-stop (uri_number c.args.leasts.now c.args.count) c.args.list.now c.loop-i.i 0 c.loop-i.invariant (omega arith)
-    (sym c.is_uri.ensures ∙ not-true _ c.if-not-is_uri.true)
+    (sym c.is_uri.ensures ∙ c.if-not-is_uri.true)
 
 pub loop-i-preserved : goal.loop-i-preserved
 loop-i-preserved c =
     every-next (uri_number c.args.leasts.now c.args.count) c.args.list.now c.loop-i.i 0 c.loop-i.invariant (omega arith)
-    (sym c.is_uri.ensures ∙ not-false _ c.if-not-is_uri.false)
+    (sym c.is_uri.ensures ∙ c.if-not-is_uri.false)
 
 pub returns : goal.returns
 returns c =

@@ -40,6 +40,6 @@ returns c =
           c.quads_sound.ensures;
       in_order = λ e. record {
         rows = rows;
-        rises = sym (table-order _ (λ j. omega (arith, c.slice_known-2-1.given j)) _) ∙ (sym c.quads_in_order.ensures ∙ not-false _ c.if-not-quads_in_order.false);
+        rises = sym (table-order _ (λ j. omega (arith, c.slice_known-2-1.given j)) _) ∙ (sym c.quads_in_order.ensures ∙ c.if-not-quads_in_order.false);
       };
     }

@@ -10,12 +10,11 @@ use Rattle.store.proofs.bare.bare_run.Goals as goal
 
 pub returns : goal.returns
 returns c =
-    let a = c.args in
     let filled_with : SavedItem → SavedRun = λ i.
     record {
       control = record {
-        height = a.height;
-        types = a.types;
+        height = c.args.height;
+        types = c.args.types;
         bound = replicate variable_limit false;
         bindings = replicate variable_limit 0;
         items = replicate depth_limit i;

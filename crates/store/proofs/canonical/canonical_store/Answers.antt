@@ -3,5 +3,4 @@ use Rattle.store.proofs.canonical.canonical_store.Goals as goal
 
 pub returns : goal.returns
 returns c =
-    let r = c.args.store in
-    λ t. record { quads = r.quads; graphs = r.graphs; fetched = c.clean_fetched-fetched.ensures t }
+    λ t. record { quads = c.args.store.quads; graphs = c.args.store.graphs; fetched = c.clean_fetched-fetched.ensures t }

@@ -5,7 +5,7 @@ use Rattle.store.proofs.canonical.clean_item.Goals as goal
 
 pub returns-then-not-started : goal.returns-then-not-started
 returns-then-not-started c =
-    not-started c.args.script.now c.args.item _ c.fresh_item.ensures (not-true _ c.if-not-started.true)
+    not-started c.args.script.now c.args.item _ c.fresh_item.ensures c.if-not-started.true
 
 pub returns-then-kind-ne115 : goal.returns-then-kind-ne115
 returns-then-kind-ne115 c =
@@ -17,7 +17,6 @@ returns-then-mode-ne1 c =
 
 pub returns : goal.returns
 returns c =
-    let a = c.args in
-    each-made a.script.now a.item _ _ c.first_numbers-last.ensures c.byte_at-count.ensures (not-false _ c.if-not-started.false)
+    each-made c.args.script.now c.args.item _ _ c.first_numbers-last.ensures c.byte_at-count.ensures c.if-not-started.false
     _ c.byte_at-kind.ensures c.if-kind-ne115.false _
     c.byte_at-mode.ensures c.if-mode-ne1.false

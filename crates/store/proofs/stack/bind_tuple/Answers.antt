@@ -26,11 +26,10 @@ bounds-bindings-v c =
 
 pub loop-k-preserved : goal.loop-k-preserved
 loop-k-preserved c =
-    let a = c.args in
-    let l : length a.t5 ≡ 4 = search rules in
-    let b = with_bound a.control c.loop-k.bound c.loop-k.bindings in (
+    let l : length c.args.tuple ≡ 4 = search rules in
+    let b = with_bound c.args.control c.loop-k.bound c.loop-k.bindings in (
       omega arith,
-      bind-next a.control b a.script.now a.t5 a.at a.count c.loop-k.k (c.loop-k.k - 1) _ _ (omega arith) (omega arith) (omega arith)
+      bind-next c.args.control b c.args.script.now c.args.tuple c.args.at c.args.count c.loop-k.k (c.loop-k.k - 1) _ _ (omega arith) (omega arith) (omega arith)
           c.index-v.ensures refl c.loop-k.invariant.1,
     )
 

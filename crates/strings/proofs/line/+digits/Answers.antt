@@ -5,9 +5,6 @@ use Rattle.strings.proofs.LineLaws.{puts-no-digits, puts-digits, digits-length}
 use Prim.Native.Nat.{ℕ, ◌<◌}
 use Rattle.strings.proofs.line.+digits.Goals as goal
 
--- ?? measure: abbrev μ-digits : Measures 0 digits-kinds.ps ℕ
--- ?? μ-digits κs a = a.1.0
-
 pub returns-then-count-eq0 : goal.returns-then-count-eq0
 returns-then-count-eq0 t c = puts-no-digits c.args.line c.args.count c.args.n c.if-count-eq0.true
 

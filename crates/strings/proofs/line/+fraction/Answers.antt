@@ -4,9 +4,6 @@ use Rattle.strings.proofs.LineLaws.{puts-last, puts-shorter, puts-fraction}
 use Prim.Native.Nat.{ℕ, ◌<◌}
 use Rattle.strings.proofs.line.+fraction.Goals as goal
 
--- ?? measure: abbrev μ-fraction : Measures 0 fraction-kinds.ps ℕ
--- ?? μ-fraction κs a = a.1.0
-
 pub returns-then-count-eq1 : goal.returns-then-count-eq1
 returns-then-count-eq1 t c = puts-last c.args.count c.args.m c.if-count-eq1.true c.digits.ensures
 

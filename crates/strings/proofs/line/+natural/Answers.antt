@@ -5,9 +5,6 @@ use Rattle.strings.proofs.LineLaws.{puts-nothing, puts-small, puts-natural, shor
 use Prim.Native.Nat.{ℕ, ◌<◌}
 use Rattle.strings.proofs.line.+natural.Goals as goal
 
--- ?? measure: abbrev μ-natural : Measures 0 natural-kinds.ps ℕ
--- ?? μ-natural κs a = a.1.0
-
 pub returns-then-left-eq0 : goal.returns-then-left-eq0
 returns-then-left-eq0 t c = puts-nothing c.args.line c.args.left c.args.n c.if-left-eq0.true
 
@@ -19,5 +16,4 @@ push_digit-requires-2 t c = omega (arith, c.natural-front.ensures.size, short-le
 
 pub returns : goal.returns
 returns t c =
-    let a = c.args in
-    puts-natural a.left a.n (omega arith) (omega arith) c.natural-front.ensures c.push_digit-2.ensures
+    puts-natural c.args.left c.args.n (omega arith) (omega arith) c.natural-front.ensures c.push_digit-2.ensures

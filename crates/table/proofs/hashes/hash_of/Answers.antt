@@ -24,7 +24,7 @@ overflow_mul-last c = omega (arith, c.index-last.ensures, c.type_inv.slot (2 * s
 
 pub overflow_add-whole : goal.overflow_add-whole
 overflow_add-whole c =
-    let i = c.loop-at.invariant in omega (arith, c.index-last.ensures, c.type_inv.slot (2 * slot_words), i.low, i.place)
+    omega (arith, c.index-last.ensures, c.type_inv.slot (2 * slot_words), c.loop-at.invariant.low, c.loop-at.invariant.place)
 
 pub returns : goal.returns
 returns c = hash-end _ _ _ c.loop-at.invariant c.loop-at-test.false c.index-last.ensures

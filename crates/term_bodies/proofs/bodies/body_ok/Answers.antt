@@ -77,5 +77,4 @@ returns-in-21 c =
 
 pub returns-in_default : goal.returns-in_default
 returns-in_default c =
-    let n = c.in_default.in_default-own.rest in
-    none_of c.args.kind c.args.body.now c.requires (kind-others c.args.kind n.0.0.0.0.1 n.0.0.0.1 n.0.0.1 n.0.1 n.1)
+    none_of c.args.kind c.args.body.now c.requires (kind-others c.args.kind c.in_default.in_default-own.rest.0.0.0.0.1 c.in_default.in_default-own.rest.0.0.0.1 c.in_default.in_default-own.rest.0.0.1 c.in_default.in_default-own.rest.0.1 c.in_default.in_default-own.rest.1)

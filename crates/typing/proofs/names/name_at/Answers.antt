@@ -29,8 +29,7 @@ returns-then-kind-eq49 c = leaf_walked (variable-of _ _ _ _ c.requires.loads c.i
 
 pub word_at-number-requires : goal.word_at-number-requires
 word_at-number-requires c =
-    let l = c.requires.loads in
-    omega (arith, constant_of _ _ _ _ l (name-last _ _ _ _ l (tt, c.if-kind-eq49.false)))
+    omega (arith, constant_of _ _ _ _ c.requires.loads (name-last _ _ _ _ c.requires.loads (tt, c.if-kind-eq49.false)))
 
 pub bounds-leasts-number : goal.bounds-leasts-number
 bounds-leasts-number c =

@@ -10,9 +10,6 @@ use Rattle.typing.proofs.PairLaws.{block_noted, two-noted}
 use Prim.Native.Nat.{ℕ, ◌<◌}
 use Rattle.typing.proofs.pairs.+note_script.Goals as goal
 
--- ?? measure: abbrev μ-note-script : Measures 1 note-script-kinds.ps ℕ
--- ?? μ-note-script κs a = a.1.1.1.0
-
 pub after_name-next-requires : goal.after_name-next-requires
 after_name-next-requires t c =
     let here : ScriptAt t c.args.script.now c.args.terms c.args.left c.args.at = script-at _ _ _ _ _ c.requires.0 c.requires.1 in (here.from_named c.in-114.is).first
@@ -59,9 +56,8 @@ unfolding binders_of
 returns-in-115 t c =
     let here : ScriptAt t c.args.script.now c.args.terms c.args.left c.args.at = script-at _ _ _ _ _ c.requires.0 c.requires.1 in
     let n = here.block c.in-115.is in
-    let a = c.args in
     n.parts.node c.after_query-next.ensures c.note_script-in-115.ensures
-    (λ q d u. block_noted a.script.now a.at n.binders n.listed a.codes (binders_of d) c.note_pairs-pairs.ensures)
+    (λ q d u. block_noted c.args.script.now c.args.at n.binders n.listed c.args.codes (binders_of d) c.note_pairs-pairs.ensures)
 
 pub returns-in_default : goal.returns-in_default
 unfolding binders_of
@@ -69,3 +65,15 @@ returns-in_default t c =
     let here : ScriptAt t c.args.script.now c.args.terms c.args.left c.args.at = script-at _ _ _ _ _ c.requires.0 c.requires.1 in
     (here.sequence c.in_default.in_default-own.rest).node c.note_script-a.ensures c.note_script-in_default.ensures
     (λ a d. two-noted c.args.codes (binders_of a) (binders_of d))
+
+pub bounds-script-at : goal.bounds-script-at
+bounds-script-at t c =
+    let here : ScriptAt t c.args.script.now c.args.terms c.args.left c.args.at = script-at _ _ _ _ _ c.requires.0 c.requires.1 in here.inside
+
+pub overflow_add-first : goal.overflow_add-first
+overflow_add-first t c =
+    let here : ScriptAt t c.args.script.now c.args.terms c.args.left c.args.at = script-at _ _ _ _ _ c.requires.0 c.requires.1 in omega (arith, here.inside)
+
+pub overflow_sub-below : goal.overflow_sub-below
+overflow_sub-below t c =
+    let here : ScriptAt t c.args.script.now c.args.terms c.args.left c.args.at = script-at _ _ _ _ _ c.requires.0 c.requires.1 in here.pos

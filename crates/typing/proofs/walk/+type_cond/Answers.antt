@@ -9,9 +9,6 @@ use Rattle.facts.specs.Demands.{cond_demands}
 use Rattle.facts.proofs.WalkLaws.{leaf-read, both_read, no_lower, leaf-noted, both-noted, tree-joined}
 use Rattle.typing.proofs.walk.+type_cond.Goals as goal
 
--- ?? measure: abbrev μ-type-cond : Measures 3 type-cond-kinds.ps ℕ
--- ?? μ-type-cond κs a = a.1.1.1.1.0
-
 pub type_cond-requires : goal.type_cond-requires
 type_cond-requires t c =
     let here : CondAt t c.args.script.now (length c.args.leasts.now) c.args.left c.args.at = cond-at _ _ _ _ _ c.requires.loads c.requires.written_len in let n = here.not c.in-84.is in (n.falls, (n.child, c.requires.joined))
@@ -29,8 +26,7 @@ type_cond-requires-in-82-to-83 t c =
     (n.falls, (n.second c.type_cond-a.ensures, (c.requires.joined.0, tree-joined _ _ _ cond_demands c.type_cond-a.ensures)))
 
 pub type_test-requires : goal.type_test-requires
-type_test-requires t c =
-    let p = ⟪c.pre.1⟫ in let whole = (p.0, (⊎_elim (λ w. absurd (no_lower _ _ _ _ p.0 (omega arith))) (λ w. omega (arith, c.in_default-1.rest.1)) c.in_default.branch, p.1)) in record { loads = whole.0; bound = whole.1.0; written_len = whole.1.1.0; joined = whole.1.1.1 }
+type_test-requires t c = let whole = (c.requires.written_len, (⊎_elim (λ w. absurd (no_lower _ _ _ _ c.requires.written_len (omega arith))) (λ w. omega (arith, c.in_default-1.rest.1)) c.in_default.branch, c.requires.joined)) in record { loads = whole.0; bound = whole.1.0; written_len = whole.1.1.0; joined = whole.1.1.1 }
 
 pub returns-in-84 : goal.returns-in-84
 unfolding cond_demands
@@ -51,3 +47,15 @@ returns-in-82-to-83 t c =
 
 pub returns-in_default : goal.returns-in_default
 returns-in_default t c = c.type_test.ensures
+
+pub bounds-script-at : goal.bounds-script-at
+bounds-script-at t c =
+    let here : CondAt t c.args.script.now (length c.args.leasts.now) c.args.left c.args.at = cond-at _ _ _ _ _ c.requires.loads c.requires.written_len in here.inside
+
+pub overflow_add-first : goal.overflow_add-first
+overflow_add-first t c =
+    let here : CondAt t c.args.script.now (length c.args.leasts.now) c.args.left c.args.at = cond-at _ _ _ _ _ c.requires.loads c.requires.written_len in omega (arith, here.inside)
+
+pub overflow_sub-below : goal.overflow_sub-below
+overflow_sub-below t c =
+    let here : CondAt t c.args.script.now (length c.args.leasts.now) c.args.left c.args.at = cond-at _ _ _ _ _ c.requires.loads c.requires.written_len in here.pos

@@ -7,9 +7,6 @@ use Rattle.laws.proofs.Productions.{ExprAt, expr-at}
 use Rattle.facts.proofs.WalkLaws.{name-noted, now-noted, str-noted, abs-noted, sum-read, sum-noted, placed-in, expr-joined, expr-small, merged-again}
 use Rattle.typing.proofs.walk.+type_expr.Goals as goal
 
--- ?? measure: abbrev μ-type-expr : Measures 3 type-expr-kinds.ps ℕ
--- ?? μ-type-expr κs a = a.1.1.1.1.0
-
 pub name_at-n-requires : goal.name_at-n-requires
 name_at-n-requires t c =
     let here : ExprAt t c.args.script.now (length c.args.leasts.now) c.args.left c.args.at = expr-at _ _ _ _ _ c.requires.loads c.requires.written_len in record { loads = (here.name c.if-kind-lt65.true).child; written_len = c.requires.joined.0 }
@@ -72,3 +69,15 @@ returns-in_default t c =
     let n = sum-read here.if1.false c.in_default.in_default-own.rest in
     n.parts.node c.type_expr-e-in_default.ensures c.type_expr-f.ensures
     (λ e f h k. sum-noted _ _ e f h k c.merged.ensures c.merged-after-in_default.ensures (n.means e f))
+
+pub bounds-script-at : goal.bounds-script-at
+bounds-script-at t c =
+    let here : ExprAt t c.args.script.now (length c.args.leasts.now) c.args.left c.args.at = expr-at _ _ _ _ _ c.requires.loads c.requires.written_len in here.inside
+
+pub overflow_add-first : goal.overflow_add-first
+overflow_add-first t c =
+    let here : ExprAt t c.args.script.now (length c.args.leasts.now) c.args.left c.args.at = expr-at _ _ _ _ _ c.requires.loads c.requires.written_len in omega (arith, here.inside)
+
+pub overflow_sub-below : goal.overflow_sub-below
+overflow_sub-below t c =
+    let here : ExprAt t c.args.script.now (length c.args.leasts.now) c.args.left c.args.at = expr-at _ _ _ _ _ c.requires.loads c.requires.written_len in here.pos

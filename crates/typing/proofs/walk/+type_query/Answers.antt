@@ -9,9 +9,6 @@ use Rattle.facts.specs.Demands.{query_demands}
 use Rattle.facts.proofs.WalkLaws.{either-read, empty-read, nothing-noted, either-noted, walked_as, tree-joined}
 use Rattle.typing.proofs.walk.+type_query.Goals as goal
 
--- ?? measure: abbrev μ-type-query : Measures 3 type-query-kinds.ps ℕ
--- ?? μ-type-query κs a = a.1.1.1.1.0
-
 pub type_pattern-requires : goal.type_pattern-requires
 type_pattern-requires t c =
     let here : QueryAt t c.args.script.now (length c.args.leasts.now) c.args.left c.args.at = query-at _ _ _ _ _ c.requires.loads c.requires.written_len in let whole = ((here.pattern c.in-97.is).all, c.requires.joined) in record { loads = whole.0; written_len = whole.1.0; joined = whole.1.1 }
@@ -58,3 +55,15 @@ unfolding query_demands
 returns-in_default-2 t c =
     let here : QueryAt t c.args.script.now (length c.args.leasts.now) c.args.left c.args.at = query-at _ _ _ _ _ c.requires.loads c.requires.written_len in
     leaf_walked (empty-read here.match.rest (inr (omega (arith, c.in_default.if-kind-lt100-own.false)))) (nothing-noted _ _ c.requires.joined.1)
+
+pub bounds-script-at : goal.bounds-script-at
+bounds-script-at t c =
+    let here : QueryAt t c.args.script.now (length c.args.leasts.now) c.args.left c.args.at = query-at _ _ _ _ _ c.requires.loads c.requires.written_len in here.inside
+
+pub overflow_add-first : goal.overflow_add-first
+overflow_add-first t c =
+    let here : QueryAt t c.args.script.now (length c.args.leasts.now) c.args.left c.args.at = query-at _ _ _ _ _ c.requires.loads c.requires.written_len in omega (arith, here.inside)
+
+pub overflow_sub-below : goal.overflow_sub-below
+overflow_sub-below t c =
+    let here : QueryAt t c.args.script.now (length c.args.leasts.now) c.args.left c.args.at = query-at _ _ _ _ _ c.requires.loads c.requires.written_len in here.pos

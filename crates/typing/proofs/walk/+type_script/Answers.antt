@@ -9,9 +9,6 @@ use Rattle.facts.proofs.TableLaws.{merged-joined}
 use Rattle.facts.proofs.WalkLaws.{nothing-noted, then-noted, from-noted, tree-joined, placed-in}
 use Rattle.typing.proofs.walk.+type_script.Goals as goal
 
--- ?? measure: abbrev μ-type-script : Measures 3 type-script-kinds.ps ℕ
--- ?? μ-type-script κs a = a.1.1.1.1.0
-
 pub name_at-n-requires : goal.name_at-n-requires
 name_at-n-requires t c =
     let here : ScriptAt t c.args.script.now (length c.args.leasts.now) c.args.left c.args.at = script-at _ _ _ _ _ c.requires.loads c.requires.written_len in record { loads = (here.from_named c.in-114.is).first; written_len = c.requires.joined.0 }
@@ -26,8 +23,7 @@ pub type_script-requires : goal.type_script-requires
 type_script-requires t c =
     let here : ScriptAt t c.args.script.now (length c.args.leasts.now) c.args.left c.args.at = script-at _ _ _ _ _ c.requires.loads c.requires.written_len in
     let n = here.from_named c.in-114.is in
-    let p = c.requires.joined in
-    (n.falls, (n.second c.name_at-n.ensures, (p.0, merged-joined _ _ _ p.1 c.node_of-node.ensures.1 (omega arith) c.merged-between.ensures)))
+    (n.falls, (n.second c.name_at-n.ensures, (c.requires.joined.0, merged-joined _ _ _ c.requires.joined.1 c.node_of-node.ensures.1 (omega arith) c.merged-between.ensures)))
 
 pub overflow_add-query : goal.overflow_add-query
 overflow_add-query t c =
@@ -77,3 +73,15 @@ returns-in_default t c =
     let here : ScriptAt t c.args.script.now (length c.args.leasts.now) c.args.left c.args.at = script-at _ _ _ _ _ c.requires.loads c.requires.written_len in
     (here.sequence c.in_default.in_default-own.rest).node c.type_script-c.ensures c.type_script-in_default.ensures
     (λ a b h k. then-noted _ _ h k)
+
+pub bounds-script-at : goal.bounds-script-at
+bounds-script-at t c =
+    let here : ScriptAt t c.args.script.now (length c.args.leasts.now) c.args.left c.args.at = script-at _ _ _ _ _ c.requires.loads c.requires.written_len in here.inside
+
+pub overflow_add-first : goal.overflow_add-first
+overflow_add-first t c =
+    let here : ScriptAt t c.args.script.now (length c.args.leasts.now) c.args.left c.args.at = script-at _ _ _ _ _ c.requires.loads c.requires.written_len in omega (arith, here.inside)
+
+pub overflow_sub-below : goal.overflow_sub-below
+overflow_sub-below t c =
+    let here : ScriptAt t c.args.script.now (length c.args.leasts.now) c.args.left c.args.at = script-at _ _ _ _ _ c.requires.loads c.requires.written_len in here.pos

@@ -14,7 +14,7 @@ overflow_add-text c =
 
 pub type_expr-e-requires : goal.type_expr-e-requires
 type_expr-e-requires c =
-    let here : CondAt c.args.left c.args.script.now (length c.args.leasts.now) c.args.left c.args.at = cond-at _ _ _ _ _ refl c.requires.loads in let whole = ((here.regex c.in-85.is).rest.child, ⟪c.requires.1.1⟫) in record { loads = whole.0; written_len = whole.1.0; joined = whole.1.1 }
+    let here : CondAt c.args.left c.args.script.now (length c.args.leasts.now) c.args.left c.args.at = cond-at _ _ _ _ _ refl c.requires.loads in record { loads = (here.regex c.in-85.is).rest.child; written_len = c.requires.written_len; joined = c.requires.joined }
 
 pub overflow_add-text-in-86 : goal.overflow_add-text-in-86
 overflow_add-text-in-86 c =
@@ -22,17 +22,16 @@ overflow_add-text-in-86 c =
 
 pub type_expr-e-requires-in-86 : goal.type_expr-e-requires-in-86
 type_expr-e-requires-in-86 c =
-    let here : CondAt c.args.left c.args.script.now (length c.args.leasts.now) c.args.left c.args.at = cond-at _ _ _ _ _ refl c.requires.loads in let whole = ((here.lang_matches c.in-86.is).rest.child, ⟪c.requires.1.1⟫) in record { loads = whole.0; written_len = whole.1.0; joined = whole.1.1 }
+    let here : CondAt c.args.left c.args.script.now (length c.args.leasts.now) c.args.left c.args.at = cond-at _ _ _ _ _ refl c.requires.loads in record { loads = (here.lang_matches c.in-86.is).rest.child; written_len = c.requires.written_len; joined = c.requires.joined }
 
 pub type_expr-e-requires-in_default : goal.type_expr-e-requires-in_default
 type_expr-e-requires-in_default c =
-    let here : CondAt c.args.left c.args.script.now (length c.args.leasts.now) c.args.left c.args.at = cond-at _ _ _ _ _ refl c.requires.loads in let p = ⟪c.requires.1⟫ in let whole = ((compare-read here.0 c.in_default.in_default-own.rest).parts.first, p.1) in record { loads = whole.0; written_len = whole.1.0; joined = whole.1.1 }
+    let here : CondAt c.args.left c.args.script.now (length c.args.leasts.now) c.args.left c.args.at = cond-at _ _ _ _ _ refl c.requires.loads in record { loads = (compare-read here.0 c.in_default.in_default-own.rest).parts.first; written_len = c.requires.written_len; joined = c.requires.joined }
 
 pub type_expr-f-requires : goal.type_expr-f-requires
 type_expr-f-requires c =
     let here : CondAt c.args.left c.args.script.now (length c.args.leasts.now) c.args.left c.args.at = cond-at _ _ _ _ _ refl c.requires.loads in
-    let p = ⟪c.requires.1⟫ in
-    let n = (compare-read here.0 c.in_default.in_default-own.rest).parts in record { loads = n.second c.type_expr-e-in_default.ensures; written_len = p.1.0; joined = expr-joined _ _ _ c.type_expr-e-in_default.ensures }
+    let n = (compare-read here.0 c.in_default.in_default-own.rest).parts in record { loads = n.second c.type_expr-e-in_default.ensures; written_len = c.requires.written_len; joined = expr-joined _ _ _ c.type_expr-e-in_default.ensures }
 
 pub returns-in-85 : goal.returns-in-85
 unfolding cond_demands
@@ -50,3 +49,15 @@ returns-in_default c =
     let here : CondAt c.args.left c.args.script.now (length c.args.leasts.now) c.args.left c.args.at = cond-at _ _ _ _ _ refl c.requires.loads in
     let k = compare-read here.requires.1.0 c.in_default.in_default-own.rest in
     k.parts.node c.type_expr-e-in_default.ensures c.type_expr-f.ensures (λ e f x y. alike-noted _ _ e f _ (k.means e f) x y c.merged-after-in_default.ensures)
+
+pub bounds-script-at : goal.bounds-script-at
+bounds-script-at c =
+    let here : CondAt c.args.left c.args.script.now (length c.args.leasts.now) c.args.left c.args.at = cond-at _ _ _ _ _ refl c.requires.loads in here.inside
+
+pub overflow_sub-below : goal.overflow_sub-below
+overflow_sub-below c =
+    let here : CondAt c.args.left c.args.script.now (length c.args.leasts.now) c.args.left c.args.at = cond-at _ _ _ _ _ refl c.requires.loads in here.pos
+
+pub overflow_add-first : goal.overflow_add-first
+overflow_add-first c =
+    let here : CondAt c.args.left c.args.script.now (length c.args.leasts.now) c.args.left c.args.at = cond-at _ _ _ _ _ refl c.requires.loads in omega (arith, here.inside)

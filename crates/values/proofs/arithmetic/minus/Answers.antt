@@ -9,10 +9,10 @@ use Rattle.values.proofs.arithmetic.minus.Goals as goal
 pub returns-then-not-present : goal.returns-then-not-present
 unfolding difference
 returns-then-not-present c =
-    no_result ◌-ℤ◌ c.args.a c.args.b c.common_kind-kind.result c.common_kind-kind.ensures _ (pos 0) (not-true _ c.if-not-present.true) c.numeric.ensures
+    no_result ◌-ℤ◌ c.args.a c.args.b c.common_kind-kind.result c.common_kind-kind.ensures _ (pos 0) c.if-not-present.true c.numeric.ensures
 
 pub returns : goal.returns
 unfolding difference
 returns c =
-    made ◌-ℤ◌ c.args.a c.args.b c.common_kind-kind.result c.common_kind-kind.ensures _ _ _ c.difference.result (not-false _ c.if-not-present.false) ⟪c₃.counted.ensures⟫
-    ⟪c₂.counted2.ensures⟫ (record { sfits = c.difference.type-inv }) c.difference.ensures c.limited.ensures
+    made ◌-ℤ◌ c.args.a c.args.b c.common_kind-kind.result c.common_kind-kind.ensures _ _ _ c.difference.result c.if-not-present.false (c.counted-x.ensures.value, c.counted-x.ensures.t)
+    (c.counted-y.ensures.value, c.counted-y.ensures.t) (record { sfits = c.difference.type-inv }) c.difference.ensures c.limited.ensures

@@ -13,8 +13,7 @@ loop-node-init c = (omega arith, refl, λ k l. absurd (omega arith))
 
 pub loop-node-preserved : goal.loop-node-preserved
 loop-node-preserved c =
-    let i = c.loop-node in
-    (omega arith, rw length-set i.invariant.1, filled_more 0 (λ k. k) i.parents i.node (omega arith) i.invariant.2 c.narrow.ensures)
+    (omega arith, rw length-set c.loop-node.invariant.1, filled_more 0 (λ k. k) c.loop-node.parents c.loop-node.node (omega arith) c.loop-node.invariant.2 c.narrow.ensures)
 
 pub returns : goal.returns
-returns c = let i = c.loop-node.invariant in up_is node_limit _ i.1 (λ k l. i.2 k (omega arith))
+returns c = up_is node_limit _ c.loop-node.invariant.1 (λ k l. c.loop-node.invariant.2 k (omega arith))

@@ -24,14 +24,8 @@ bounds-self-p c =
 
 pub returns-then-p-q : goal.returns-then-p-q
 returns-then-p-q c =
-    let ps = c.args.self.parents in
-    let p = c.root-p in
-    let q = c.root-q in
-    ap (set ps q.result) c.narrow.ensures ∙ merge-up ps c.args.a c.args.b p.result q.result p.ensures q.ensures (omega arith)
+    ap (set c.args.self.parents c.root-q.result) c.narrow.ensures ∙ merge-up c.args.self.parents c.args.a c.args.b c.root-p.result c.root-q.result c.root-p.ensures c.root-q.ensures (omega arith)
 
 pub returns-else-p-q : goal.returns-else-p-q
 returns-else-p-q c =
-    let ps = c.args.self.parents in
-    let p = c.root-p in
-    let q = c.root-q in
-    ap (set ps p.result) c.narrow-else-p-q.ensures ∙ merge-down ps c.args.a c.args.b p.result q.result p.ensures q.ensures (omega arith)
+    ap (set c.args.self.parents c.root-p.result) c.narrow-else-p-q.ensures ∙ merge-down c.args.self.parents c.args.a c.args.b c.root-p.result c.root-q.result c.root-p.ensures c.root-q.ensures (omega arith)

@@ -21,15 +21,12 @@ loop-up-smaller c = omega (arith, c.requires.0.falls c.loop-up.at)
 
 pub loop-up-preserved : goal.loop-up-preserved
 loop-up-preserved c =
-    let l = c.loop-up in
-    let ps = c.args.self.parents in
-    let f = c.requires.0.falls l.at in (
+    let f = c.requires.0.falls c.loop-up.at in (
       omega arith,
-      c.wide-up-in-loop-up.ensures ∙ read-parent ps l.up (omega (arith, c.requires.0.sized)),
-      ap (root_in ps) l.invariant.1 ∙ root-parent ps c.requires.0.falls l.at ∙ l.invariant.2,
+      c.wide-up-in-loop-up.ensures ∙ read-parent c.args.self.parents c.loop-up.up (omega (arith, c.requires.0.sized)),
+      ap (root_in c.args.self.parents) c.loop-up.invariant.1 ∙ root-parent c.args.self.parents c.requires.0.falls c.loop-up.at ∙ c.loop-up.invariant.2,
     )
 
 pub returns : goal.returns
 returns c =
-    let l = c.loop-up in
-    sym (root-stop c.args.self.parents c.requires.0.falls l.at (omega arith)) ∙ l.invariant.2
+    sym (root-stop c.args.self.parents c.requires.0.falls c.loop-up.at (omega arith)) ∙ c.loop-up.invariant.2

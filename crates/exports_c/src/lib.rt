@@ -1,0 +1,171 @@
+// The C interface: each function of `exports` as C programs link it, with the same clauses.
+#![tactic(auto)]
+
+ghost use Rattle.std.specs.Prelude.{◌≡◌, List, ℕ};
+ghost use Rattle.definitions.specs.Outcome.{ok};
+ghost use Rattle.definitions.specs.Exports.{load_export, run_export, page_export, total_export, number_export, suggest_export, schema_export, publish_export};
+
+// Load: 1, 21, 2 to 9.
+#[unsafe(no_mangle)]
+pub extern "C" fn willetcoffer_load(
+    ranks: &[u8],
+    terms: &[u8],
+    schema: &[u8],
+    script: &[u8],
+    term_table: &mut [u8],
+    quad_table: &mut [u8],
+    saved: &mut [u8],
+) -> u32
+    ensures { load_export
+        (record {
+          ranks = ranks.now;
+          terms = terms.now;
+          schema = schema.now;
+          script = script.now;
+          term_table = term_table.old;
+          quad_table = quad_table.old;
+        })
+        saved.old
+        ≡ record {
+          number = result;
+          term_table = term_table.new;
+          quad_table = quad_table.new;
+          saved = saved.new;
+        } }
+{
+    exports::willetcoffer_load(ranks, terms, schema, script, term_table, quad_table, saved)
+}
+
+// Run: 1, 21, 10, 11.
+#[unsafe(no_mangle)]
+pub extern "C" fn willetcoffer_run(
+    ranks: &[u8],
+    terms: &[u8],
+    schema: &[u8],
+    script: &[u8],
+    term_table: &[u8],
+    quad_table: &[u8],
+    saved: &mut [u8],
+    budget: u64,
+    clock: i64,
+    report: &mut [u8],
+) -> u32
+    ensures { run_export
+        (record {
+          ranks = ranks.now;
+          terms = terms.now;
+          schema = schema.now;
+          script = script.now;
+          term_table = term_table.now;
+          quad_table = quad_table.now;
+        })
+        saved.old budget clock report.old
+        ≡ ok (record { number = result; saved = saved.new; report = report.new }) }
+{
+    exports::willetcoffer_run(
+        ranks, terms, schema, script, term_table, quad_table, saved, budget, clock, report,
+    )
+}
+
+// Page: 1, 21, 10, 12, 13, 14.
+#[unsafe(no_mangle)]
+pub extern "C" fn willetcoffer_page(
+    ranks: &[u8],
+    terms: &[u8],
+    schema: &[u8],
+    script: &[u8],
+    term_table: &mut [u8],
+    quad_table: &mut [u8],
+    saved: &mut [u8],
+    graph: u64,
+    page: &[u8],
+    report: &mut [u8],
+) -> u32
+    ensures { page_export
+        (record {
+          ranks = ranks.now;
+          terms = terms.now;
+          schema = schema.now;
+          script = script.now;
+          term_table = term_table.old;
+          quad_table = quad_table.old;
+        })
+        saved.old graph page.now report.old
+        ≡ record {
+          number = result;
+          term_table = term_table.new;
+          quad_table = quad_table.new;
+          saved = saved.new;
+          report = report.new;
+        } }
+{
+    exports::willetcoffer_page(
+        ranks, terms, schema, script, term_table, quad_table, saved, graph, page, report,
+    )
+}
+
+// Total: 1 for its report, then 2 to 7.
+#[unsafe(no_mangle)]
+pub extern "C" fn willetcoffer_total(
+    terms: &[u8],
+    schema: &[u8],
+    script: &[u8],
+    report: &mut [u8],
+) -> u32
+    ensures { total_export terms.now schema.now script.now report.old
+        ≡ record { number = result; report = report.new } }
+{
+    exports::willetcoffer_total(terms, schema, script, report)
+}
+
+// Number: 1 for its record, then 16, 17.
+#[unsafe(no_mangle)]
+pub extern "C" fn willetcoffer_number(text: &[u8], record: &mut [u8]) -> u32
+    ensures { number_export text.now «record».old ≡ record { number = result; «record» = «record».new } }
+{
+    exports::willetcoffer_number(text, record)
+}
+
+// Suggest: 1 for its report, then 2 to 8.
+#[unsafe(no_mangle)]
+pub extern "C" fn willetcoffer_suggest(
+    terms: &[u8],
+    schema: &[u8],
+    script: &[u8],
+    report: &mut [u8],
+) -> u32
+    ensures { suggest_export terms.now schema.now script.now report.old
+        ≡ record { number = result; report = report.new } }
+{
+    exports::willetcoffer_suggest(terms, schema, script, report)
+}
+
+// Publish: 1, 10, 22, 23.
+#[unsafe(no_mangle)]
+pub extern "C" fn willetcoffer_publish(
+    terms: &[u8],
+    schema: &[u8],
+    script: &[u8],
+    term_table: &[u8],
+    quad_table: &[u8],
+    saved: &[u8],
+    graph: u64,
+    page: &mut [u8],
+    report: &mut [u8],
+) -> u32
+    ensures { (ranks : List ℕ) → publish_export
+        (record {
+          ranks = ranks;
+          terms = terms.now;
+          schema = schema.now;
+          script = script.now;
+          term_table = term_table.now;
+          quad_table = quad_table.now;
+        })
+        saved.now graph page.old report.old
+        ≡ record { number = result; page = page.new; report = report.new } }
+{
+    exports::willetcoffer_publish(
+        terms, schema, script, term_table, quad_table, saved, graph, page, report,
+    )
+}
