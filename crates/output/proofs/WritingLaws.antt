@@ -20,16 +20,14 @@ written_byte old b at h =
 
 -- a text copied into its part of the bytes
 pub written-text : (old text part : List ℕ) (at : ℕ) → at + length text ≤ length old
-    → part ≡ take (length text) text ++ drop (length text) (take (at + length text - at) (drop at old))
+    → part ≡ text
     → Written text old (take at old ++ (part ++ drop (at + length text - at) (drop at old))) at (at + length text)
 written-text old text part at h e =
     let n = at + length text - at in
     let m : n ≡ length text = omega arith in
-    let room : length (take n (drop at old)) ≡ n = length-take-le n (drop at old) (omega (arith, length-drop at old)) in
-    let whole : part ≡ text = e ∙ copied text (take n (drop at old)) (omega arith) in
     let k : at + n ≡ at + length text = omega arith in
     let rest : drop n (drop at old) ≡ drop (at + length text) old = drop-drop n at old ∙ ap (λ (j : ℕ). drop j old) k in
-    record { end = refl; list = λ i. take at old ++ (whole i ++ rest i) }
+    record { end = refl; list = λ i. take at old ++ (e i ++ rest i) }
 
 -- one text after another
 pub written_then : {a b old mid new : List ℕ} {at m r : ℕ} → Written a old mid at m → Written b mid new m r → at ≤ length old

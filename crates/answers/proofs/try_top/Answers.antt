@@ -14,5 +14,5 @@ try_tuple-requires c = record { world = world-given c.requires.top.0 c.requires.
 pub returns : goal.returns
 returns c =
     let four : length c.args.tuple ≡ 4 = search rules in
-    λ w t. tries-given w t c.requires.at_value c.args.tuple _ c.block_of-block.ensures four c.known_of-known.ensures _ c.wide_numbers-numbers.ensures c.try_tuple.result
+    λ w t. tries-given w t c.requires.at_value c.args.tuple _ c.block_of-block.ensures four _ c.known_of-known.ensures _ c.wide_numbers-numbers.ensures c.try_tuple.result
     c.try_tuple.ensures

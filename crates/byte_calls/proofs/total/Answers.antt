@@ -2,15 +2,17 @@
 use Rattle.lengths.proofs.BufferLaws.{width_is}
 use borrow.Author.Rules.{rules}
 use Rattle.byte_calls.proofs.ByteLaws.{total-length, total-done}
+use mathlib.Core.Path.{ap}
+use mathlib.Core.Bool.{not}
 use Rattle.byte_calls.proofs.total.Goals as goal
 
 pub returns-then-not-total_fits : goal.returns-then-not-total_fits
-returns-then-not-total_fits c = total-length _ _ _ _ c.total_fits.ensures c.if-not-total_fits.true
+returns-then-not-total_fits c = total-length _ _ _ _ c.total_fits.ensures (ap not c.if-not-total_fits.true)
 
 pub after_total-requires : goal.after_total-requires
 after_total-requires c =
-    width_is c.total_fits.ensures c.if-not-total_fits.false
+    width_is c.total_fits.ensures (ap not c.if-not-total_fits.false)
 
 pub returns : goal.returns
 returns c =
-    total-done _ _ _ _ c.total_fits.ensures c.if-not-total_fits.false c.total-answer.ensures c.after_total.ensures.report_after c.after_total.ensures.value
+    total-done _ _ _ _ c.total_fits.ensures (ap not c.if-not-total_fits.false) c.total-answer.ensures c.after_total.ensures.report_after c.after_total.ensures.value

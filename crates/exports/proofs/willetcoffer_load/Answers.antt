@@ -2,16 +2,18 @@
 use Rattle.lengths.proofs.BufferLaws.{width_is}
 use Rattle.exports.proofs.ExportLaws.{load-length, load-done}
 use borrow.Author.Rules.{rules}
+use mathlib.Core.Path.{ap}
+use mathlib.Core.Bool.{not}
 use Rattle.exports.proofs.willetcoffer_load.Goals as goal
 
 pub returns-then-not-load_fits : goal.returns-then-not-load_fits
 returns-then-not-load_fits c =
-    load-length _ _ c.load_fits.ensures c.if-not-load_fits.true
+    load-length _ _ c.load_fits.ensures (ap not c.if-not-load_fits.true)
 
 pub after_load-requires : goal.after_load-requires
 after_load-requires c =
-    width_is c.load_fits.ensures c.if-not-load_fits.false
+    width_is c.load_fits.ensures (ap not c.if-not-load_fits.false)
 
 pub returns : goal.returns
 returns c =
-    load-done _ _ c.load_fits.ensures c.if-not-load_fits.false c.load-loaded.ensures.0 c.load-loaded.ensures.1 c.load-loaded.ensures.2 c.after_load.ensures.value c.after_load.ensures.saved_after
+    load-done _ _ c.load_fits.ensures (ap not c.if-not-load_fits.false) c.load-loaded.ensures.0 c.load-loaded.ensures.1 c.load-loaded.ensures.2 c.after_load.ensures.value c.after_load.ensures.saved_after

@@ -38,5 +38,5 @@ returns-then-card-ne0 c =
 pub returns : goal.returns
 returns c =
     let lent : Lent = lent_of c.args.ranks.now c.args.terms.now c.args.schema.now c.args.script.now c.args.table.now c.args.store.now in
-    load-accepted lent.tables-fit.ensures c.if-not-tables_fit.false c.is_alphabet.ensures c.if-not-is_alphabet.false
+    load-accepted lent c.tables_fit.ensures c.if-not-tables_fit.false c.is_alphabet.ensures c.if-not-is_alphabet.false
     c.check_card-card.ensures.value c.if-card-ne0.false c.check_card-card.ensures.tables_of _ c.accepted.ensures refl c.copy_from_slice.ensures.after c.copy_from_slice-2.ensures.after

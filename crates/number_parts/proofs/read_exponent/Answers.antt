@@ -38,11 +38,11 @@ small-places-requires c =
 pub returns-then-byte_at-eq45 : goal.returns-then-byte_at-eq45
 returns-then-byte_at-eq45 c =
     let digits : Found exponent_digits c.args.s.now c.after_sign-from.result c.in-Next.end = found _ _ _ _ c.read_digits.ensures c.in-Next.is in
-    shift-down _ _ _ c.byte_at-b.ensures c.if-not-b.false c.after_sign-from.ensures digits.small.ensures.0
+    shift-down _ _ _ c.byte_at-b.ensures c.if-not-b.false c.after_sign-from.ensures digits c.small-places.ensures.0
     (eq-eqb _ _ (sym c.byte_at.ensures ∙ c.if-byte_at-eq45.true))
 
 pub returns : goal.returns
 returns c =
     let digits : Found exponent_digits c.args.s.now c.after_sign-from.result c.in-Next.end = found _ _ _ _ c.read_digits.ensures c.in-Next.is in
-    shift-up _ _ _ c.byte_at-b.ensures c.if-not-b.false c.after_sign-from.ensures digits.small.ensures.0
+    shift-up _ _ _ c.byte_at-b.ensures c.if-not-b.false c.after_sign-from.ensures digits c.small-places.ensures.0
     (ne_eqb _ _ (λ e. c.if-byte_at-eq45.false (c.byte_at.ensures ∙ e)))

@@ -17,5 +17,5 @@ shape_of-out c = simp length-set at c.out-1.given.1
 pub returns : goal.returns
 returns c =
     let first = put_one {old = c.args.out.now} c.args.kind put-none (omega (arith, c.requires)) in
-    put_all (put-part c.write_number.new.out 9 first (omega arith) (omega (arith, c.requires)) c.write_number.auto.1.0) (omega (arith, c.requires))
+    put_all (put-part c.write_number.new.out 9 first (omega arith) (omega (arith, c.requires)) c.write_number.auto.out) (omega (arith, c.requires))
     ∙ ap (λ l. c.args.kind ∷ l) (c.write_number.ensures ∙ ap (λ k. little_bytes k c.args.n) c.write_number-arg-1.given.2)

@@ -18,16 +18,16 @@ loop-i-init c = (refl, sym (length-append c.args.whole.now c.args.fraction.now))
 pub returns-then-digit_at-ne0 : goal.returns-then-digit_at-ne0
 returns-then-digit_at-ne0 c =
     let digits : Text = c.args.whole.now ++ c.args.fraction.now in
-    rest-stop digits _ (omega arith) c.digit_at.ensures.0 c.if-digit_at-ne0.true ∙ sym c.loop-i.invariant.0
+    rest-stop digits _ _ (omega arith) c.digit_at.ensures.0 c.if-digit_at-ne0.true ∙ sym c.loop-i.invariant.0
 
 pub loop-i-preserved : goal.loop-i-preserved
 loop-i-preserved c =
     let digits : Text = c.args.whole.now ++ c.args.fraction.now in
-    (c.loop-i.invariant.0 ∙ rest-next digits _ (omega arith) c.digit_at.ensures.0 c.requires.all c.if-digit_at-ne0.false, c.loop-i.invariant.1)
+    (c.loop-i.invariant.0 ∙ rest-next digits _ _ (omega arith) c.digit_at.ensures.0 c.requires.all c.if-digit_at-ne0.false, c.loop-i.invariant.1)
 
 pub returns : goal.returns
 returns c =
-    let digits : Text = c.args.whole.now ++ c.args.fraction.now in rest_end digits.loop.i (omega arith) ∙ sym c.loop-i.invariant.0
+    let digits : Text = c.args.whole.now ++ c.args.fraction.now in rest_end digits c.loop-i.i (omega arith) ∙ sym c.loop-i.invariant.0
 
 pub digit_at-requires : goal.digit_at-requires
 digit_at-requires c = c.requires

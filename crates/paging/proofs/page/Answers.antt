@@ -13,7 +13,7 @@ use Rattle.paging.proofs.page.Goals as goal
 pub returns-then-entered-ne0 : goal.returns-then-entered-ne0
 returns-then-entered-ne0 c =
     let lent_at : Lent = lent_of c.args.ranks.now c.args.terms.now c.args.schema.now c.args.script.now c.args.table.now c.args.store.now in
-    entry-refused lent_at.args.saved c.args.graph c.args.page.now (not_entered c.enter-entered.ensures c.if-entered-ne0.true) c.refused.ensures
+    entry-refused lent_at c.args.saved c.args.graph c.args.page.now (not_entered c.enter-entered.ensures c.if-entered-ne0.true) c.refused.ensures
 
 pub is_graph-requires : goal.is_graph-requires
 is_graph-requires c =
@@ -23,7 +23,7 @@ pub returns-then-not-is_graph : goal.returns-then-not-is_graph
 returns-then-not-is_graph c =
     let lent_at : Lent = lent_of c.args.ranks.now c.args.terms.now c.args.schema.now c.args.script.now c.args.table.now c.args.store.now in
     let x = entered c.enter-entered.ensures c.if-entered-ne0.false in
-    refused-12 lent_at.args.saved c.args.graph c.args.page.now x.0 x.1
+    refused-12 lent_at c.args.saved c.args.graph c.args.page.now x.0 x.1
     (sym (c.is_graph.ensures x.0.checked.schema x.0.state.store.terms (x.2.lent 0).least_of (sym (x.2.lent 0).tabled.counted)) ∙ c.if-not-is_graph.true)
     c.refused-then-not-is_graph.ensures
 
@@ -31,7 +31,7 @@ pub returns-then-not-page_ok : goal.returns-then-not-page_ok
 returns-then-not-page_ok c =
     let lent_at : Lent = lent_of c.args.ranks.now c.args.terms.now c.args.schema.now c.args.script.now c.args.table.now c.args.store.now in
     let x = entered c.enter-entered.ensures c.if-entered-ne0.false in
-    refused-13 lent_at.args.saved c.args.graph c.args.page.now x.0 x.1
+    refused-13 lent_at c.args.saved c.args.graph c.args.page.now x.0 x.1
     (sym (c.is_graph.ensures x.0.checked.schema x.0.state.store.terms (x.2.lent 0).least_of (sym (x.2.lent 0).tabled.counted)) ∙ c.if-not-is_graph.false)
     (is_none _ (sym c.page_ok.ensures ∙ c.if-not-page_ok.true)) c.refused-then-not-page_ok.ensures
 

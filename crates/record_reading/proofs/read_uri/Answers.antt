@@ -2,19 +2,21 @@
 use native.Mathlib.Omega.{arith}
 use borrow.Author.Rules.{rules}
 use Rattle.record_reading.proofs.ReadLaws.{room_fits, uri-short, uri-bad, uri-next}
+use mathlib.Core.Path.{ap}
+use mathlib.Core.Bool.{not}
 use Rattle.record_reading.proofs.read_uri.Goals as goal
 
 pub returns-then-not-has_room : goal.returns-then-not-has_room
-returns-then-not-has_room c = uri-short _ _ c.has_room.ensures c.if-not-has_room.true
+returns-then-not-has_room c = uri-short _ _ c.has_room.ensures (ap not c.if-not-has_room.true)
 
 pub overflow_add-end : goal.overflow_add-end
-overflow_add-end c = omega (arith, room_fits _ _ _ c.has_room.ensures c.if-not-has_room.false)
+overflow_add-end c = omega (arith, room_fits _ _ _ c.has_room.ensures (ap not c.if-not-has_room.false))
 
 pub slice_bounds-uri_ok-end : goal.slice_bounds-uri_ok-end
-slice_bounds-uri_ok-end c = omega (arith, room_fits _ _ _ c.has_room.ensures c.if-not-has_room.false)
+slice_bounds-uri_ok-end c = omega (arith, room_fits _ _ _ c.has_room.ensures (ap not c.if-not-has_room.false))
 
 pub returns-then-not-uri_ok : goal.returns-then-not-uri_ok
-returns-then-not-uri_ok c = uri-bad _ _ c.has_room.ensures c.if-not-has_room.false c.uri_ok.ensures c.if-not-uri_ok.true
+returns-then-not-uri_ok c = uri-bad _ _ c.has_room.ensures (ap not c.if-not-has_room.false) c.uri_ok.ensures (ap not c.if-not-uri_ok.true)
 
 pub returns : goal.returns
-returns c = uri-next _ _ c.has_room.ensures c.if-not-has_room.false c.uri_ok.ensures c.if-not-uri_ok.false
+returns c = uri-next _ _ c.has_room.ensures (ap not c.if-not-has_room.false) c.uri_ok.ensures (ap not c.if-not-uri_ok.false)

@@ -18,13 +18,13 @@ use Rattle.running.proofs.run.Goals as goal
 pub returns-then-entered-ne0 : goal.returns-then-entered-ne0
 returns-then-entered-ne0 c =
     let lent_at : Lent = lent_of c.args.ranks.now c.args.terms.now c.args.schema.now c.args.script.now c.args.table.now c.args.store.now in
-    entry-refused lent_at.args.saved c.args.budget c.args.clock (not_entered c.enter-entered.ensures c.if-entered-ne0.true) c.refused.ensures
+    entry-refused lent_at c.args.saved c.args.budget c.args.clock (not_entered c.enter-entered.ensures c.if-entered-ne0.true) c.refused.ensures
 
 pub returns-then-not-in_limits : goal.returns-then-not-in_limits
 returns-then-not-in_limits c =
     let lent_at : Lent = lent_of c.args.ranks.now c.args.terms.now c.args.schema.now c.args.script.now c.args.table.now c.args.store.now in
     let x = entered c.enter-entered.ensures c.if-entered-ne0.false in
-    ap (λ (z : ℤ). run_call lent_at.args.saved c.args.budget z) (sym (c.bits-second.ensures ∙ to_z-of_z c.ranges.clock)) ∙ refused-11 lent_at.args.saved
+    ap (λ (z : ℤ). run_call lent_at c.args.saved c.args.budget z) (sym (c.bits-second.ensures ∙ to_z-of_z c.ranges.clock)) ∙ refused-11 lent_at c.args.saved
     c.args.budget (signed c.bits-second.result) x.0 x.1 (sym c.in_limits.ensures ∙ c.if-not-in_limits.true) c.refused-then-not-in_limits.ensures
 
 pub canonical_control-clean-requires : goal.canonical_control-clean-requires
@@ -43,7 +43,7 @@ overflow_cast-steps c =
     let x = entered c.enter-entered.ensures c.if-entered-ne0.false in
     omega (
       arith,
-      budget-small _ _ _ _ _ _ _ x.0 x.1 _ _ _ x.2 marks c.canonical_control-clean.ensures _ c.canonical_store-kept.ensures
+      budget-small _ _ _ _ _ _ _ x.0 x.1 _ _ _ x.2 marks graphs levels _ c.canonical_control-clean.ensures _ c.canonical_store-kept.ensures
           c.args.budget c.bits-second.result (sym c.in_limits.ensures ∙ c.if-not-in_limits.false),
     )
 
@@ -53,7 +53,7 @@ run_steps-end-requires c =
     let graphs : length c.args.saved.store.fetched ≡ graph_limit = search rules in
     let levels : length c.args.saved.control.items ≡ depth_limit = search (length-mapped, rules) in
     let x = entered c.enter-entered.ensures c.if-entered-ne0.false in record {
-      lends_store = lends _ _ _ _ _ _ _ x.0 x.1 _ _ _ x.2 marks c.canonical_control-clean.ensures _ c.canonical_store-kept.ensures c.args.budget
+      lends_store = lends _ _ _ _ _ _ _ x.0 x.1 _ _ _ x.2 marks graphs levels _ c.canonical_control-clean.ensures _ c.canonical_store-kept.ensures c.args.budget
           c.bits-second.result (sym c.in_limits.ensures ∙ c.if-not-in_limits.false);
       script_len_bound = script-short _ _ _ _ _ _ _ x.0 x.1;
     }
@@ -65,6 +65,6 @@ returns c =
     let graphs : length c.args.saved.store.fetched ≡ graph_limit = search rules in
     let levels : length c.args.saved.control.items ≡ depth_limit = search (length-mapped, rules) in
     let x = entered c.enter-entered.ensures c.if-entered-ne0.false in
-    ap (λ (z : ℤ). run_call lent_at.args.saved c.args.budget z) (sym (c.bits-second.ensures ∙ to_z-of_z c.ranges.clock)) ∙ ran-is _ _ _ _ _ _ _ x.0 x.1 _ _ _ x.2
-    marks c.canonical_control-clean.ensures _ c.canonical_store-kept.ensures c.args.budget c.bits-second.result
+    ap (λ (z : ℤ). run_call lent_at c.args.saved c.args.budget z) (sym (c.bits-second.ensures ∙ to_z-of_z c.ranges.clock)) ∙ ran-is _ _ _ _ _ _ _ x.0 x.1 _ _ _ x.2
+    marks graphs levels _ c.canonical_control-clean.ensures _ c.canonical_store-kept.ensures c.args.budget c.bits-second.result
     (sym c.in_limits.ensures ∙ c.if-not-in_limits.false) _ c.run_steps-end.ensures refl

@@ -14,6 +14,8 @@ use Rattle.entry.proofs.PassedLaws.{length-mapped, stack-low, script-short}
 use Rattle.output.proofs.WritingLaws.{written_as}
 use Rattle.saved_tuples.proofs.EnteringLaws.{no-saved, not_in, bad-now, lends-now, lines_now}
 use borrow.Author.Rules.{rules}
+use mathlib.Core.Path.{ap}
+use mathlib.Core.Bool.{not}
 use Rattle.saved_tuples.proofs.put_entered.Goals as goal
 
 pub read_saved-read-requires : goal.read_saved-read-requires
@@ -31,7 +33,7 @@ put_refused-requires c =
 
 pub returns-then-not-read : goal.returns-then-not-read
 returns-then-not-read c =
-    let c₅ = start c in record { written = written_as c.put_refused.ensures.written (no-saved _ _ _ c₅.args.tuples.now (read_none _ _ c.read_saved-read.ensures c.if-not-read.true) c.unread_number.ensures); upper_bound = omega (arith, c.put_refused.ensures.upper_bound, c₅.pre.1.1.1) }
+    let c₅ = start c in record { written = written_as c.put_refused.ensures.written (no-saved _ _ _ c₅.args.tuples.now (read_none _ _ c.read_saved-read.ensures (ap not c.if-not-read.true)) c.unread_number.ensures); upper_bound = omega (arith, c.put_refused.ensures.upper_bound, c₅.pre.1.1.1) }
 
 pub put_refused-requires-then-found-ne0 : goal.put_refused-requires-then-found-ne0
 put_refused-requires-then-found-ne0 c =
@@ -41,7 +43,7 @@ pub returns-then-found-ne0 : goal.returns-then-found-ne0
 returns-then-found-ne0 c =
     let c₆ = start c in record {
       written = written_as c.put_refused-then-found-ne0.ensures.written
-          (not_in _ _ _ c₆.args.tuples.now c₆.pre.0 _ (read_some _ _ c.read_saved-read.ensures c.if-not-read.false) (not_entered c.enter-found.ensures c.if-found-ne0.true));
+          (not_in _ _ _ c₆.args.tuples.now c₆.pre.0 _ (read_some _ _ c.read_saved-read.ensures (ap not c.if-not-read.false)) (not_entered c.enter-found.ensures c.if-found-ne0.true));
       upper_bound = omega (arith, c.put_refused-then-found-ne0.ensures.upper_bound, c₆.pre.1.1.1);
     }
 
@@ -54,7 +56,7 @@ returns-then-not-is_date_time c =
     let c₈ = start c in
     let x = entered c.enter-found.ensures c.if-found-ne0.false in record {
       written = written_as c.put_refused-then-not-is_date_time.ensures.written
-          (bad-now _ _ _ c₈.args.tuples.now c₈.pre.0 _ (read_some _ _ c.read_saved-read.ensures c.if-not-read.false)
+          (bad-now _ _ _ c₈.args.tuples.now c₈.pre.0 _ (read_some _ _ c.read_saved-read.ensures (ap not c.if-not-read.false))
           x.0 x.1 (sym c.is_date_time.ensures ∙ c.if-not-is_date_time.true));
       upper_bound = omega (arith, c.put_refused-then-not-is_date_time.ensures.upper_bound, c₈.pre.1.1.1);
     }
@@ -70,7 +72,7 @@ put_lines-requires c =
     let levels : length c.read_saved-read.result.saved.control.items ≡ depth_limit = search (length-mapped, rules) in
     let c₇ = start c in
     let x = entered c.enter-found.ensures c.if-found-ne0.false in let whole = (
-      lends-now _ _ _ _ _ _ _ x.0 x.1 _ _ _ x.2 marks graphs levels c.canonical_control-clean.ensures c₇.args.clock
+      lends-now _ _ _ _ _ _ _ x.0 x.1 _ _ _ x.2 marks graphs levels _ c.canonical_control-clean.ensures c₇.args.clock
           (sym c.is_date_time.ensures ∙ c.if-not-is_date_time.false),
       (script-short _ _ _ _ _ _ _ x.0 x.1, c₇.pre.1.1),
     ) in record { lends = whole.0; script_len_bound = whole.1.0; tuple_width_in_bounds = whole.1.1.0; line_room_in_bounds = whole.1.1.1 }
@@ -82,7 +84,7 @@ returns c =
     let levels : length c.read_saved-read.result.saved.control.items ≡ depth_limit = search (length-mapped, rules) in
     let c₉ = start c in
     let x = entered c.enter-found.ensures c.if-found-ne0.false in record {
-      written = lines_now _ _ _ _ _ _ _ x.0 x.1 _ _ _ x.2 marks graphs levels c.canonical_control-clean.ensures c₉.args.clock
-          (sym c.is_date_time.ensures ∙ c.if-not-is_date_time.false) _ (read_some _ _ c.read_saved-read.ensures c.if-not-read.false) c₉.args.tuples.now c.put_lines.ensures.written;
+      written = lines_now _ _ _ _ _ _ _ x.0 x.1 _ _ _ x.2 marks graphs levels _ c.canonical_control-clean.ensures c₉.args.clock
+          (sym c.is_date_time.ensures ∙ c.if-not-is_date_time.false) _ (read_some _ _ c.read_saved-read.ensures (ap not c.if-not-read.false)) c₉.args.tuples.now c.put_lines.ensures.written;
       upper_bound = c.put_lines.ensures.upper_bound;
     }

@@ -30,10 +30,10 @@ pub overflow_mul-base : goal.overflow_mul-base
 overflow_mul-base c = omega (arith, c.if-codes-ge-SOUGHT.false)
 
 pub overflow_add-low : goal.overflow_add-low
-overflow_add-low c = omega (arith, c.if-codes-ge-SOUGHT.false, (c.requires.lo_le_sought_code, c.requires.best_le_sought_code))
+overflow_add-low c = omega (arith, c.if-codes-ge-SOUGHT.false, c.requires)
 
 pub overflow_add-high : goal.overflow_add-high
-overflow_add-high c = omega (arith, c.if-codes-ge-SOUGHT.false, (c.requires.lo_le_sought_code, c.requires.best_le_sought_code))
+overflow_add-high c = omega (arith, c.if-codes-ge-SOUGHT.false, c.requires)
 
 pub next_between-requires : goal.next_between-requires
 next_between-requires c = record { from_le_to = c.stride_end-to.ensures.0; to_in_bounds = omega (arith, c.stride_end-to.ensures.1, c.requires.n_in_bounds) }

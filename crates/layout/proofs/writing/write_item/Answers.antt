@@ -24,7 +24,7 @@ shape_of-out c =
 
 pub returns : goal.returns
 returns c =
-    let first = put-part {old = c.args.out.now} c.write_word.new.out 2 put-none (omega arith) (omega arith) c.write_word.auto.1.0 in
+    let first = put-part {old = c.args.out.now} c.write_word.new.out 2 put-none (omega arith) (omega arith) c.write_word.auto.out in
     let p = put_one 0 (put_one c.mark.result first (omega arith)) (omega arith) in
-    put_all (put-part c.write_words.new.out 12 p (omega arith) (omega arith) c.write_words.auto.1.0) (omega arith)
+    put_all (put-part c.write_words.new.out 12 p (omega arith) (omega arith) c.write_words.auto.out) (omega arith)
     ∙ (two-between c.write_word.new.out c.write_words.new.out c.mark.result 0 ∙ λ k. c.write_word.ensures k ++ (c.mark.ensures k ∷ 0 ∷ c.write_words.ensures k))

@@ -21,7 +21,7 @@ loop-i-preserved c =
     let end = c.loop-i.«at» + item_width in
     let p =
     put-joined item_bytes c.args.items c.loop-i.i no_item c.write_item.new.out end c.loop-i.invariant.3
-    (omega (arith, n)) (omega arith) (omega arith) c.write_item.ensures c.write_item.auto.1.0 in
+    (omega (arith, n)) (omega arith) (omega arith) c.write_item.ensures c.write_item.auto.out in
     (omega arith, omega arith, search rules, p)
 
 pub returns : goal.returns

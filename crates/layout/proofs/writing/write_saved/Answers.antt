@@ -38,12 +38,12 @@ pub returns : goal.returns
 unfolding saved_bytes
 returns c =
     let types-length : length c.args.run.control.types ≡ 16 = search rules in
-    let a = put-part {old = c.args.out.now} c.write_words.new.out 6 put-none (omega arith) (omega (arith, c.requires)) c.write_words.auto.1.0 in
-    let b = put-part c.copy_from_slice.new.self 22 a (omega arith) (omega (arith, c.requires)) c.copy_from_slice.auto.1.0 in
-    let d = put-part c.write_marks.new.out 38 b (omega arith) (omega (arith, c.requires)) c.write_marks.auto.1.0 in
-    let e = put-part c.write_words-2.new.out 70 d (omega arith) (omega (arith, c.requires)) c.write_words-2.auto.1.0 in
-    let f = put-part c.write_words-3.new.out 198 e (omega arith) (omega (arith, c.requires)) c.write_words-3.auto.1.0 in
-    let g = put-part c.write_items.new.out 486 f (omega arith) (omega (arith, c.requires)) c.write_items.auto.1.0 in
+    let a = put-part {old = c.args.out.now} c.write_words.new.out 6 put-none (omega arith) (omega (arith, c.requires)) c.write_words.auto.out in
+    let b = put-part c.copy_from_slice.new.self 22 a (omega arith) (omega (arith, c.requires)) c.copy_from_slice.auto.src in
+    let d = put-part c.write_marks.new.out 38 b (omega arith) (omega (arith, c.requires)) c.write_marks.auto.out in
+    let e = put-part c.write_words-2.new.out 70 d (omega arith) (omega (arith, c.requires)) c.write_words-2.auto.out in
+    let f = put-part c.write_words-3.new.out 198 e (omega arith) (omega (arith, c.requires)) c.write_words-3.auto.out in
+    let g = put-part c.write_items.new.out 486 f (omega arith) (omega (arith, c.requires)) c.write_items.auto.out in
     let types = c.copy_from_slice.ensures.after ∙ copied c.args.run.control.types _ (types-length ∙ sym ⟪c₆.copy-arg.given.2⟫) in
     put_all g (omega (arith, c.requires))
     ∙ (six-parts c.write_words.new.out c.copy_from_slice.new.self c.write_marks.new.out c.write_words-2.new.out c.write_words-3.new.out c.write_items.new.out

@@ -17,7 +17,7 @@ loop-i-preserved c =
     let end = c.loop-i.«at» + 2 in
     let p =
     put-joined (little_bytes 2) c.args.numbers.now c.loop-i.i 0 c.write_word.new.out end c.loop-i.invariant.3
-    (omega arith) (omega arith) (omega arith) c.write_word.ensures c.write_word.auto.1.0 in
+    (omega arith) (omega arith) (omega arith) c.write_word.ensures c.write_word.auto.out in
     (omega arith, omega arith, search rules, p)
 
 pub returns : goal.returns

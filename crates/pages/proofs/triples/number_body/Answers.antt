@@ -22,7 +22,7 @@ add_term-requires c = record {
 pub returns : goal.returns
 returns c = record {
   joins = (λ ts t h b. joins _ c.args.body.now t b (λ k. omega (arith, c.type_inv.body k)) ts h c.slot_of-slot.ensures c.add_term.result
-      c.add_term.ensures.number_value c.add_term.ensures.terms_value c.add_term.ensures.table_after c.add_term.auto.0);
+      c.add_term.ensures.number_value c.add_term.ensures.terms_value c.add_term.ensures.table_after c.add_term.auto.table);
   held_hashes_2 = record
-      { room = c.add_term.auto.1.1.0 ∙ c.requires.held_hashes.room; each = c.add_term.ensures.hashed_2 };
+      { room = c.add_term.auto.hashes ∙ c.requires.held_hashes.room; each = c.add_term.ensures.hashed_2 };
 }

@@ -58,7 +58,7 @@ loop-at-preserved c =
       omega (arith, e, z.farther, c.take_record-counts.ensures.skipped_bound, c.loop-at.invariant.1),
       omega (arith, c.take_record-counts.ensures.keys_bound, c.loop-at.invariant.2, record-long _ _ _ _ x),
       w.term_width,
-      omega (arith, c.loop-at.invariant.4, c.take_record-counts.auto),
+      omega (arith, c.loop-at.invariant.4, ⟪c₁.take-record.auto⟫),
       c.take_record-counts.ensures.held_hashes_2,
       λ S rs o c.requires.held_both e r h. let l = c.loop-at.invariant.6 S rs o c.requires.held_both e r h in
           left-next _ _ _ _ _ _ _ _ _ l c.loop-at-test.true _ _ _ (c.take_record-counts.ensures.took S _ o _ e (here-at _ _ _ _ _ _ _ _ _ l c.loop-at-test.true _ c.next_record-next.ensures)

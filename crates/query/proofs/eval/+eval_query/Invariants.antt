@@ -12,6 +12,8 @@ use Rattle.laws.proofs.Productions.{QueryAt, query-at}
 use Rattle.query.proofs.EvalLaws.{pattern-holds, both_first, both-holds, union-first, union-holds, filter-holds, empty_holds}
 use Prim.Native.Nat.{ℕ, ◌-◌, ◌<◌}
 use borrow.Author.Rules.{rules}
+use mathlib.Core.Path.{ap}
+use mathlib.Core.Bool.{not}
 use Rattle.query.proofs.eval.+eval_query.Given as goal
 
 abbrev pub decreases-eval_query : goal.decreases-eval_query

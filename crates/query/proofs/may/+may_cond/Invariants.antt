@@ -15,6 +15,8 @@ use Rattle.query.proofs.MayLaws.{pair-out, equal-open, less-open, no-may, yes-ma
 use Rattle.query.proofs.MayLaws.{text-open, tag_open, regex-may, language-may, equal-first-open, equal-second-open, equal-may, less-first-open, less-second-open, less-may}
 use Prim.Native.Nat.{ℕ, ◌<◌}
 use borrow.Author.Rules.{rules}
+use mathlib.Core.Path.{ap}
+use mathlib.Core.Bool.{not}
 use Rattle.query.proofs.may.+may_cond.Given as goal
 
 abbrev pub decreases-may_cond : goal.decreases-may_cond

@@ -48,11 +48,11 @@ add_term-joined-requires c = record { holds_terms = held-holds _ _ _ c.loop-at.i
 
 pub shape_of-table-then-used-gt-TERM_LIMIT : goal.shape_of-table-then-used-gt-TERM_LIMIT
 shape_of-table-then-used-gt-TERM_LIMIT c =
-    c.add_term-joined.auto.0 ∙ held-width _ _ _ c.loop-at.invariant.0.held ∙ sym c.requires.holds_terms.width
+    c.add_term-joined.auto.table ∙ held-width _ _ _ c.loop-at.invariant.0.held ∙ sym c.requires.holds_terms.width
 
 pub shape_of-hashes-then-used-gt-TERM_LIMIT : goal.shape_of-hashes-then-used-gt-TERM_LIMIT
 shape_of-hashes-then-used-gt-TERM_LIMIT c =
-    c.add_term-joined.auto.1.1.0 ∙ c.loop-at.invariant.1 ∙ sym c.requires.hashes_len
+    c.add_term-joined.auto.hashes ∙ c.loop-at.invariant.1 ∙ sym c.requires.hashes_len
 
 pub returns-then-used-gt-TERM_LIMIT : goal.returns-then-used-gt-TERM_LIMIT
 returns-then-used-gt-TERM_LIMIT c =
@@ -70,7 +70,7 @@ loop-at-smaller c =
 pub loop-at-preserved : goal.loop-at-preserved
 loop-at-preserved c = (
   adding-next _ _ _ _ _ c.loop-at.invariant.0 c.loop-at-test.true c.slot_of-slot.ensures c.add_term-joined.ensures.terms_value c.add_term-joined.ensures.table_after c.if-used-gt-TERM_LIMIT.false,
-  c.add_term-joined.auto.1.1.0 ∙ c.loop-at.invariant.1,
+  c.add_term-joined.auto.hashes ∙ c.loop-at.invariant.1,
   c.add_term-joined.ensures.hashed_2 c.if-used-gt-TERM_LIMIT.false,
 )
 

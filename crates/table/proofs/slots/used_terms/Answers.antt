@@ -8,6 +8,8 @@ use Rattle.definitions.specs.Saved.{terms_from, terms_in}
 use Rattle.fields.specs.Answers.{count_of}
 use Rattle.table.proofs.CountLaws.{count_from}
 use Rattle.table.proofs.TableLaws.{begun-count, from_end, from-zeros, from-rubbish, from-bad, from_next}
+use mathlib.Core.Path.{ap}
+use mathlib.Core.Bool.{not}
 use Rattle.table.proofs.slots.used_terms.Goals as goal
 
 pub overflow_mul-at : goal.overflow_mul-at
@@ -26,11 +28,11 @@ returns-then-table-at-eq0 c =
 
 pub returns-then-not-slot_ok : goal.returns-then-not-slot_ok
 returns-then-not-slot_ok c =
-    sym (c.loop-n.invariant.2 ∙ from-bad _ _ _ c.loop-n-test.true c.if-table-at-eq0.false c.slot_ok.ensures c.if-not-slot_ok.true)
+    sym (c.loop-n.invariant.2 ∙ from-bad _ _ _ c.loop-n-test.true c.if-table-at-eq0.false c.slot_ok.ensures (ap not c.if-not-slot_ok.true))
 
 pub loop-n-preserved : goal.loop-n-preserved
 loop-n-preserved c =
-    (omega arith, omega arith, c.loop-n.invariant.2 ∙ from_next _ _ _ c.loop-n-test.true c.if-table-at-eq0.false c.slot_ok.ensures c.if-not-slot_ok.false)
+    (omega arith, omega arith, c.loop-n.invariant.2 ∙ from_next _ _ _ c.loop-n-test.true c.if-table-at-eq0.false c.slot_ok.ensures (ap not c.if-not-slot_ok.false))
 
 pub returns : goal.returns
 returns c = sym (c.loop-n.invariant.2 ∙ from_end _ _ _ c.loop-n-test.false)

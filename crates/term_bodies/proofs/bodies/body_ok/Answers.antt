@@ -7,6 +7,8 @@ use Rattle.definitions.specs.Bytes.{onward}
 use Rattle.definitions.specs.Terms.{Term, term_of_body}
 use Rattle.fields.specs.Answers.{width_of, body_term}
 use Rattle.term_bodies.proofs.BodyLaws.{kind-others, none_of, uri-long, string-long, uri-is, tag-bad, string-is, number-long, number_is}
+use mathlib.Core.Path.{ap}
+use mathlib.Core.Bool.{not}
 use Rattle.term_bodies.proofs.bodies.body_ok.Goals as goal
 
 pub uri_ok-requires : goal.uri_ok-requires
@@ -24,7 +26,7 @@ tag_ok-requires c =
 
 pub returns-then-not-tag_ok : goal.returns-then-not-tag_ok
 returns-then-not-tag_ok c =
-    tag-bad c.args.kind c.args.body.now c.requires c.in-18.is c.tag_ok.ensures c.if-not-tag_ok.true
+    tag-bad c.args.kind c.args.body.now c.requires c.in-18.is c.tag_ok.ensures (ap not c.if-not-tag_ok.true)
 
 pub slice_bounds-text_ok-count : goal.slice_bounds-text_ok-count
 slice_bounds-text_ok-count c =
@@ -58,7 +60,7 @@ returns-in-17 c = uri-is c.args.kind c.args.body.now c.requires c.in-17.is c.uri
 
 pub returns-else-not-tag_ok : goal.returns-else-not-tag_ok
 returns-else-not-tag_ok c =
-    string-is c.args.kind c.args.body.now c.requires c.in-18.is c.tag_ok.ensures c.if-not-tag_ok.false c.text_ok.ensures
+    string-is c.args.kind c.args.body.now c.requires c.in-18.is c.tag_ok.ensures (ap not c.if-not-tag_ok.false) c.text_ok.ensures
 
 pub returns-in-19 : goal.returns-in-19
 unfolding width_of body_term onward term_of_body

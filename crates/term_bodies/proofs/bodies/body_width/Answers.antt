@@ -18,7 +18,7 @@ returns-in-19-to-21 c = kind-numbers c.args.kind (omega arith) (omega arith)
 
 pub returns-in_default : goal.returns-in_default
 unfolding width_of
-returns-in_default c = rw (kind-below c.args.kind c.in_default-1.rest.0.1 c.in_default-1.rest.1 (omega arith))
+returns-in_default c = rw (kind-below c.args.kind (omega arith) (omega arith) (omega arith))
 
 pub returns-in_default-2 : goal.returns-in_default-2
 unfolding width_of

@@ -33,12 +33,12 @@ merged-after-requires t c = (expr-joined _ _ _ c.type_expr-e-in-67.ensures, expr
 
 pub type_expr-e-requires-in_default : goal.type_expr-e-requires-in_default
 type_expr-e-requires-in_default t c =
-    let here : ExprAt t c.args.script.now (length c.args.leasts.now) c.args.left c.args.at = expr-at _ _ _ _ _ c.requires.loads c.requires.written_len in let n = (sum-read here.if1.false c.in_default.in_default-own.rest).parts in (n.falls, (n.first, c.requires.joined))
+    let here : ExprAt t c.args.script.now (length c.args.leasts.now) c.args.left c.args.at = expr-at _ _ _ _ _ c.requires.loads c.requires.written_len in let n = (sum-read here c.if-kind-lt65.false c.in_default.in_default-own.rest).parts in (n.falls, (n.first, c.requires.joined))
 
 pub type_expr-f-requires : goal.type_expr-f-requires
 type_expr-f-requires t c =
     let here : ExprAt t c.args.script.now (length c.args.leasts.now) c.args.left c.args.at = expr-at _ _ _ _ _ c.requires.loads c.requires.written_len in
-    let n = (sum-read here.if1.false c.in_default.in_default-own.rest).parts in
+    let n = (sum-read here c.if-kind-lt65.false c.in_default.in_default-own.rest).parts in
     (n.falls, (n.second c.type_expr-e-in_default.ensures, (c.requires.joined.0, expr-joined _ _ _ c.type_expr-e-in_default.ensures)))
 
 pub merged-requires : goal.merged-requires
@@ -66,7 +66,7 @@ returns-in-67 t c =
 pub returns-in_default : goal.returns-in_default
 returns-in_default t c =
     let here : ExprAt t c.args.script.now (length c.args.leasts.now) c.args.left c.args.at = expr-at _ _ _ _ _ c.requires.loads c.requires.written_len in
-    let n = sum-read here.if1.false c.in_default.in_default-own.rest in
+    let n = sum-read here c.if-kind-lt65.false c.in_default.in_default-own.rest in
     n.parts.node c.type_expr-e-in_default.ensures c.type_expr-f.ensures
     (λ e f h k. sum-noted _ _ e f h k c.merged.ensures c.merged-after-in_default.ensures (n.means e f))
 

@@ -20,13 +20,13 @@ type_cond-requires t c =
 pub type_query-q-requires : goal.type_query-q-requires
 type_query-q-requires t c =
     let here : QueryAt t c.args.script.now (length c.args.leasts.now) c.args.left c.args.at = query-at _ _ _ _ _ c.requires.loads c.requires.written_len in
-    let n = (either-read here (omega (arith, c.if-kind-lt97.false, c.in_default-1.rest.0.1)) (omega (arith, c.in-98-to-99.if-kind-lt100-own.true))).parts in
+    let n = (either-read here (omega (arith, c.if-kind-lt97.false, (omega arith))) (omega (arith, c.in-98-to-99.if-kind-lt100-own.true))).parts in
     (n.falls, (n.first, c.requires.joined))
 
 pub type_query-requires : goal.type_query-requires
 type_query-requires t c =
     let here : QueryAt t c.args.script.now (length c.args.leasts.now) c.args.left c.args.at = query-at _ _ _ _ _ c.requires.loads c.requires.written_len in
-    let n = (either-read here (omega (arith, c.if-kind-lt97.false, c.in_default-1.rest.0.1)) (omega (arith, c.in-98-to-99.if-kind-lt100-own.true))).parts in
+    let n = (either-read here (omega (arith, c.if-kind-lt97.false, (omega arith))) (omega (arith, c.in-98-to-99.if-kind-lt100-own.true))).parts in
     let j = tree-joined _ _ _ query_demands c.type_query-q.ensures in
     (n.falls, (n.second c.type_query-q.ensures, (c.requires.joined.0, j)))
 
@@ -42,19 +42,19 @@ returns-in-100 t c =
 pub returns-in-98-to-99 : goal.returns-in-98-to-99
 returns-in-98-to-99 t c =
     let here : QueryAt t c.args.script.now (length c.args.leasts.now) c.args.left c.args.at = query-at _ _ _ _ _ c.requires.loads c.requires.written_len in
-    let k = either-read here (omega (arith, c.if-kind-lt97.false, c.in_default-1.rest.0.1)) (omega (arith, c.in-98-to-99.if-kind-lt100-own.true)) in
+    let k = either-read here (omega (arith, c.if-kind-lt97.false, (omega arith))) (omega (arith, c.in-98-to-99.if-kind-lt100-own.true)) in
     k.parts.node c.type_query-q.ensures c.type_query.ensures (λ a b x y. either-noted _ _ a b _ (k.means a b) x y)
 
 pub returns-in_default : goal.returns-in_default
 unfolding query_demands
 returns-in_default t c =
-    let here : QueryAt t c.args.script.now (length c.args.leasts.now) c.args.left c.args.at = query-at _ _ _ _ _ c.requires.loads c.requires.written_len in leaf_walked (empty-read here.match.rest (inl (omega (arith, c.in_default.if-kind-lt97-own.true)))) (nothing-noted _ _ c.requires.joined.1)
+    let here : QueryAt t c.args.script.now (length c.args.leasts.now) c.args.left c.args.at = query-at _ _ _ _ _ c.requires.loads c.requires.written_len in leaf_walked (empty-read here (omega arith) (inl (omega (arith, c.in_default.if-kind-lt97-own.true)))) (nothing-noted _ _ c.requires.joined.1)
 
 pub returns-in_default-2 : goal.returns-in_default-2
 unfolding query_demands
 returns-in_default-2 t c =
     let here : QueryAt t c.args.script.now (length c.args.leasts.now) c.args.left c.args.at = query-at _ _ _ _ _ c.requires.loads c.requires.written_len in
-    leaf_walked (empty-read here.match.rest (inr (omega (arith, c.in_default.if-kind-lt100-own.false)))) (nothing-noted _ _ c.requires.joined.1)
+    leaf_walked (empty-read here (omega arith) (inr (omega (arith, c.in_default.if-kind-lt100-own.false)))) (nothing-noted _ _ c.requires.joined.1)
 
 pub bounds-script-at : goal.bounds-script-at
 bounds-script-at t c =

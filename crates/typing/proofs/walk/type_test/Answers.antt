@@ -26,12 +26,12 @@ type_expr-e-requires-in-86 c =
 
 pub type_expr-e-requires-in_default : goal.type_expr-e-requires-in_default
 type_expr-e-requires-in_default c =
-    let here : CondAt c.args.left c.args.script.now (length c.args.leasts.now) c.args.left c.args.at = cond-at _ _ _ _ _ refl c.requires.loads in record { loads = (compare-read here.0 c.in_default.in_default-own.rest).parts.first; written_len = c.requires.written_len; joined = c.requires.joined }
+    let here : CondAt c.args.left c.args.script.now (length c.args.leasts.now) c.args.left c.args.at = cond-at _ _ _ _ _ refl c.requires.loads in record { loads = (compare-read here c.requires.bound c.in_default.in_default-own.rest).parts.first; written_len = c.requires.written_len; joined = c.requires.joined }
 
 pub type_expr-f-requires : goal.type_expr-f-requires
 type_expr-f-requires c =
     let here : CondAt c.args.left c.args.script.now (length c.args.leasts.now) c.args.left c.args.at = cond-at _ _ _ _ _ refl c.requires.loads in
-    let n = (compare-read here.0 c.in_default.in_default-own.rest).parts in record { loads = n.second c.type_expr-e-in_default.ensures; written_len = c.requires.written_len; joined = expr-joined _ _ _ c.type_expr-e-in_default.ensures }
+    let n = (compare-read here c.requires.bound c.in_default.in_default-own.rest).parts in record { loads = n.second c.type_expr-e-in_default.ensures; written_len = c.requires.written_len; joined = expr-joined _ _ _ c.type_expr-e-in_default.ensures }
 
 pub returns-in-85 : goal.returns-in-85
 unfolding cond_demands
@@ -47,7 +47,7 @@ returns-in-86 c =
 pub returns-in_default : goal.returns-in_default
 returns-in_default c =
     let here : CondAt c.args.left c.args.script.now (length c.args.leasts.now) c.args.left c.args.at = cond-at _ _ _ _ _ refl c.requires.loads in
-    let k = compare-read here.requires.1.0 c.in_default.in_default-own.rest in
+    let k = compare-read here c.requires.bound c.in_default.in_default-own.rest in
     k.parts.node c.type_expr-e-in_default.ensures c.type_expr-f.ensures (λ e f x y. alike-noted _ _ e f _ (k.means e f) x y c.merged-after-in_default.ensures)
 
 pub bounds-script-at : goal.bounds-script-at
