@@ -24,9 +24,9 @@ owner: $(ARCHIVE)
 compare: $(ARCHIVE)
 	cd host && cargo run --offline --release -p compare -- --cases $(CASES) --seed $(SEED)
 
-# proved and written where it is not there yet; `rt staticlib exports` brings it up to date
+# proved and written where it is not there yet; `tools/build.sh archive` brings it up to date
 $(ARCHIVE):
-	rt staticlib exports
+	bash tools/build.sh archive
 
 install: $(ARCHIVE)
 	install -d "$(DESTDIR)$(INCLUDEDIR)" "$(DESTDIR)$(LIBDIR)/pkgconfig"

@@ -15,12 +15,12 @@ made() {
     return
   fi
   echo "$what: proving, about $minutes minutes on two cores; a line for each crate that is proved"
-  "$@" 2>&1 | grep --line-buffered -E '^rt:|error'
+  "$@" 2>&1 | grep --line-buffered -E '^rt:|^fn|error'
   echo "$what: proved and built in $((SECONDS - began)) s"
 }
 
-made target/bin/print_types 3 'the type printer' rt check print_types
-made target/staticlib/libexports.a 6 'the engine' rt staticlib exports
+made target/bin/print_types 3 'the type printer' bash tools/build.sh print_types
+made target/staticlib/libexports.a 6 'the engine' bash tools/build.sh archive
 echo "the panel: building"
 cargo build --offline --quiet --release --manifest-path host/Cargo.toml -p panel
 echo

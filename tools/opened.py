@@ -17,8 +17,8 @@ for m in modules:
     names = re.findall(r"^ *unfoldable pub (\S+) :", (specs / f"{m}.antt").read_text(), re.M)
     if not names:
         continue
-    out.append(f"use Rattle·definitions·specs.specs.{m} as {m}")
-    group = "open" + m
+    out.append(f"use Rattle.definitions.specs.{m} as {m}")
+    group = "open_" + re.sub(r"(?<=[a-z0-9])(?=[A-Z])", "_", m).lower()
     groups.append(group)
     body += ["", f"unfoldable pub {group} : Unit {{0}}", *unfolding(f"{m}.{n}" for n in names), f"{group} = tt"]
 body += ["", "unfoldable pub opened : Unit {0}", *unfolding(groups), "opened = tt"]

@@ -1,6 +1,6 @@
 #!/usr/bin/env bash
 # The owner's tools (owner/): installs the Debian packages that they build on where they are missing, then checks and tests them
-# offline. `tools/owner.sh build` only installs and builds. The proved engine's archive has to be there (`rt staticlib exports`),
+# offline. `tools/owner.sh build` only installs and builds. The proved engine's archive has to be there (`tools/build.sh archive`),
 # or be named by WILLETCOFFER_ARCHIVE.
 set -euo pipefail
 cd "$(dirname "$0")/.."

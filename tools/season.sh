@@ -1,6 +1,6 @@
 #!/usr/bin/env bash
 # A season by willet, from text, Turtle and HTTP on loopback: a script is checked, a slip is told, a club is opened, the script runs over
-# its page and waits, the club rewrites the page, and the script ends; then what it knows of the yard is published. The engine's archive has to be there (`rt staticlib exports`).
+# its page and waits, the club rewrites the page, and the script ends; then what it knows of the yard is published. The engine's archive has to be there (`tools/build.sh archive`).
 set -euo pipefail
 cd "$(dirname "$0")/.."
 export PATH="$HOME/.cargo/bin:$PATH"

@@ -27,7 +27,9 @@ part() {
   counts "$name" "$log/part" "${PIPESTATUS[0]}"
 }
 
-part 'rt ci' env RT_JOBS=8 rt ci
+part 'rt ci' rt ci
+# an edit that cannot be applied shows nothing of a contract
+if grep -qE '^rt: ok.*, [0-9]+ bad' "$log/part"; then failed=$((failed + 1)); echo "FAILED: a must-fail edit is bad"; fi
 # check NAME COMMAND: a part that has no count of its own counts as one
 check() {
   local name=$1
@@ -39,7 +41,7 @@ check() {
 }
 
 host() { (cd host && "$@"); }
-check 'the archive' rt staticlib exports
+check 'the archive and the programs' bash tools/build.sh archive print_types evaluate
 check 'cargo fmt' host cargo fmt --check
 check 'cargo clippy' host cargo clippy --offline --quiet --all-targets -- -D warnings
 part 'cargo test, with the doc examples' host cargo test --offline --quiet

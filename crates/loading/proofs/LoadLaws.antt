@@ -28,7 +28,6 @@ use Rattle.laws.proofs.ScriptReads.{script-reads}
 use Rattle.laws.proofs.Tables.{term-table-length, quad-table-length}
 use Rattle.laws.proofs.Tests.{and_left, true_is}
 use Rattle.laws.proofs.Valid.{check-valid}
-use Rattle.laws.proofs.Writing.{copied}
 use Rattle.card.specs.Check.{number_of, card_of, TablesOf}
 use Rattle.store.specs.Bare.{bare_run}
 use Rattle.loading.specs.Loaded.{refused_load, accepted_load}
@@ -113,8 +112,7 @@ module _ (l : Lent) where
             ap length slots ∙ term-table-length c.terms (check-valid l.terms l.schema l.script c found.1) few
 
         pub load-accepted : {r : Loaded} {term_bytes quad_bytes : List ℕ} (empty : List ℕ) → r ≡ accepted_load card.types → empty ≡ replicate quad_table_width 0
-            → term_bytes ≡ take (length table) table ++ drop (length table) l.term_table
-            → quad_bytes ≡ take (length empty) empty ++ drop (length empty) l.quad_table → LoadDone l r term_bytes quad_bytes
+            → term_bytes ≡ table → quad_bytes ≡ empty → LoadDone l r term_bytes quad_bytes
         unfolding load_result loaded card_of quad_table quad_bytes filled
         load-accepted empty f fe ft fq =
             let c = found.0 in
@@ -122,10 +120,10 @@ module _ (l : Lent) where
             let p = check-passed l.terms l.schema l.script c found.1 in
             let types : card.types ≡ reported c = ap (λ (k : Card). k.types) (ec ∙ ap (λ (m : Result Checked). card_of m card.entries) found.1) in
             let root = parsed-offset (length c.terms) l.script c.root p.reads.parses in
-            let width : length empty ≡ length l.quad_table = ap length fe ∙ quad-table-length [] (omega arith) ∙ sym (fit-both (lengths_of l) ea fit).1 in (
+            (
               f ∙ ap accepted_load types
                   ∙ ap (λ (s : SavedRun). record { answer = LoadAnswers.Accepted; saved = s }) (saved-fresh (reported c) c.terms c.root root)
                   ∙ sym (ap (λ (x : LoadResult). x.returned) k),
-              ft ∙ copied table l.term_table (table-width ∙ sym (fit-both (lengths_of l) ea fit).0) ∙ slots ∙ sym (ap (λ (x : LoadResult). x.term_table) k),
-              fq ∙ copied empty l.quad_table width ∙ fe ∙ sym (ap (λ (x : LoadResult). x.quad_table) k),
+              ft ∙ slots ∙ sym (ap (λ (x : LoadResult). x.term_table) k),
+              fq ∙ fe ∙ sym (ap (λ (x : LoadResult). x.quad_table) k),
             )

@@ -19,7 +19,6 @@ use Rattle.definitions.specs.declared.PageAnswer.TheVariants as PageAnswers
 use Rattle.laws.specs.Lists.{All}
 use Rattle.laws.specs.Quads.{Small}
 use Rattle.laws.proofs.Tables.{quad-table-length}
-use Rattle.laws.proofs.Writing.{copied}
 use Rattle.keys.specs.Keys.{keys_from, rows_from, rising, keys_of}
 use Rattle.keys.proofs.Quads.{order-rises}
 use Rattle.key_merging.specs.Inserted.{insert_all}
@@ -46,12 +45,11 @@ none-order = refl
 
 -- a page begins with no keys of its own
 pub copies-held : (t t' old : List ℕ) (n : ℕ) (ts : List Term) (keys : List ℕ) (others : List Quad) → HeldTerms t n ts → length old ≡ term_table_width
-    → t' ≡ take (length t) t ++ drop (length t) old → in_order others ≡ true → All Small others
+    → t' ≡ t → in_order others ≡ true → All Small others
     → HeldTaken t' keys others (record { terms = n; keys = 0; skipped = 0 }) (start_of ts others)
 copies-held t t' old n ts keys others h w e o s =
-    let whole : t' ≡ t = e ∙ copied t old (held-width t n ts h ∙ sym w) in
     record {
-      terms = record { is = whole ∙ h.is; valid = h.valid; count = h.count; few = h.few };
+      terms = record { is = e ∙ h.is; valid = h.valid; count = h.count; few = h.few };
       quads = gathered_none others keys o s;
       skipped = refl;
     }
@@ -171,19 +169,17 @@ module _ (S : Schema) (g : ℕ) (rs : List Triple) (σ : Store) (store : SavedSt
       quads-passed h = quads-over S g rs σ (omega (arith, counted))
 
       pub done : length t ≡ term_table_width → length q ≡ quad_table_width → count ≤ quad_limit → length (joined g σ.fetched) ≤ graph_limit
-          → (q' t'' q'' : List ℕ) → q' ≡ quad_table (rows_from count keys 0) → t'' ≡ take (length t') t' ++ drop (length t') t
-          → q'' ≡ take (length q') q' ++ drop (length q') q → (after : SavedStore) → after ≡ paged store g count
+          → (q' t'' q'' : List ℕ) → q' ≡ quad_table (rows_from count keys 0) → t'' ≡ t' → q'' ≡ q' → (after : SavedStore) → after ≡ paged store g count
           → PageDone S g rs σ store t q (record { answer = PageAnswers.Taken c.skipped; store = after }) t'' q''
       done wt wq room graphs q' t'' q'' written e f after s =
           let h = took.held few in
           let is : q' ≡ quad_table (taken S g rs σ).quads = written ∙ ap quad_table (sorted (taken S g rs σ).quads h.quads).1 in
-          let width : length q' ≡ quad_table_width = ap length is ∙ quad-table-length (taken S g rs σ).quads (omega (arith, counted)) in
           let all : in_limits (with_page g (taken S g rs σ) σ) ≡ true =
           all_fit S g rs σ (omega (arith, h.terms.count)) (omega (arith, counted)) graphs in
           let answer : record { answer = PageAnswers.Taken c.skipped; store = after } ≡ taken_page store g (taken S g rs σ) =
           λ i. record { answer = PageAnswers.Taken (h.skipped i); store = (s ∙ ap (paged store g) counted) i } in
           record {
             answer = answer ∙ sym (ap (λ (b : Bool). cond b (taken_page store g (taken S g rs σ)) (refused_page store)) all);
-            term_bytes = e ∙ (copied t' t (took.term_width ∙ sym wt) ∙ (h.terms.is ∙ sym (ap (λ (b : Bool). cond b (term_table (taken S g rs σ).terms) t) all)));
-            quad_bytes = f ∙ (copied q' q (width ∙ sym wq) ∙ (is ∙ sym (ap (λ (b : Bool). cond b (quad_table (taken S g rs σ).quads) q) all)));
+            term_bytes = e ∙ (h.terms.is ∙ sym (ap (λ (b : Bool). cond b (term_table (taken S g rs σ).terms) t) all));
+            quad_bytes = f ∙ (is ∙ sym (ap (λ (b : Bool). cond b (quad_table (taken S g rs σ).quads) q) all));
           }

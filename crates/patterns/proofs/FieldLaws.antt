@@ -3,7 +3,7 @@ use Prim.Native.Nat.{ℕ, suc, ◌+◌, ◌-◌, ◌≤◌, ◌<◌}
 use mathlib.Core.Bool.{Bool, true, false, cond, not, ◌&&◌, ◌||◌, and-true, and-false, and_comm, or-false, or_assoc}
 use mathlib.Core.List.{List, [], ◌∷◌}
 use mathlib.Core.Option.{Option, none, some}
-use mathlib.Core.Path.{◌≡◌, refl, sym, ap, ap₂, ◌∙◌}
+use mathlib.Core.Path.{◌≡◌, refl, sym, ap, ap₂, ◌∙◌, subst}
 use native.Mathlib.Omega.{arith}
 use native.Mathlib.Numerals.{add-one}
 use lib.Dec.{eqb, leb}
@@ -296,7 +296,7 @@ unfolding without_star
 range-tagged letter a [] e = rw e (ap (λ (x : Bool). letter || x) (or-false (small_letter a)))
 range-tagged letter a (b ∷ t) e =
     by-same b star
-    (λ h. rw h (after-star letter a t e))
+    (λ h. subst (λ (x : ℕ). tagged letter (without_star (a ∷ x ∷ t)) ≡ range_text (letter || small_letter a) (eqb a hyphen) (x ∷ t)) (sym h) (after-star letter a t e))
     (λ n.
     rw (n, and-false)
     (one_more letter a (without_star (b ∷ t)) e

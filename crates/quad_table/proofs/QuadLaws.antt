@@ -2,10 +2,10 @@
 use Prim.Native.Nat.{ℕ, zero, suc, ◌+◌, ◌-◌, ◌*◌, ◌<◌}
 use native.Mathlib.Omega.{arith}
 use native.Mathlib.Numerals.{add-one}
-use mathlib.Core.Path.{◌≡◌, refl, ap, ap₂, sym, ◌∙◌}
-use mathlib.Core.List.{List, [], ◌∷◌, ◌++◌, append-nil, append_assoc}
-use lib.ListN.{length, get_or, set, take, drop, replicate, length-append, length-take, length-drop}
-use lib.Seq.{take_at, drop_at, take-length, drop-length}
+use mathlib.Core.Path.{◌≡◌, refl, ap, sym, ◌∙◌}
+use mathlib.Core.List.{List, [], ◌∷◌, ◌++◌, append_assoc}
+use lib.ListN.{length, get_or, set, take, drop, replicate, length-append}
+use lib.Seq.{take_at, drop_at}
 use borrow.Rule.Slice.PartMut.{put_mid}
 use Rattle.fields.proofs.PartLaws.{drop-replicate}
 use Rattle.definitions.specs.Limits.{quad_width, quad_limit, quad_table_width}
@@ -19,21 +19,13 @@ use Rattle.quad_table.specs.Quads.{quad_set}
 
 -- ── a quad written ──────────────────────────────────────────────────────────────────────────
 
-one-length : (q : Quad) → length (quad_bytes (q ∷ [])) ≡ quad_width
-unfolding quad_bytes little_bytes
-one-length q = refl
-
--- a copy of eight bytes to a quad's place
-pub quad-stored : (t r y : List ℕ) (q : Quad) (n : ℕ) → r ≡ quad_bytes (q ∷ []) → n < quad_limit → length t ≡ quad_table_width
-    → y ≡ take (length r) r ++ drop (length r) (take (n * quad_width + quad_width - n * quad_width) (drop (n * quad_width) t))
+-- eight bytes put at a quad's place
+pub quad-stored : (t r y : List ℕ) (q : Quad) (n : ℕ) → r ≡ quad_bytes (q ∷ []) → y ≡ r
     → put_mid (n * quad_width) (n * quad_width + quad_width - n * quad_width) t y ≡ quad_set t n q
 unfolding quad_set
-quad-stored t r y q n c lt ht e =
+quad-stored t r y q n c e =
     let k : n * quad_width + quad_width - n * quad_width ≡ quad_width = omega arith in
-    let s = take quad_width (drop (n * quad_width) t) in
-    let l : length r ≡ length s = omega (arith, ap length c, one-length q, length-take quad_width (drop (n * quad_width) t), length-drop (n * quad_width) t) in
-    let i : y ≡ quad_bytes (q ∷ []) =
-    (rw k at e) ∙ (ap₂ ◌++◌ (take-length r) (ap (λ (m : ℕ). drop m s) l ∙ drop-length s) ∙ (append-nil r ∙ c)) in
+    let i : y ≡ quad_bytes (q ∷ []) = e ∙ c in
     rw (k, i)
 
 bytes-append : (l m : List Quad) → quad_bytes (l ++ m) ≡ quad_bytes l ++ quad_bytes m

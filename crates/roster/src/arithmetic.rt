@@ -3,6 +3,7 @@ ghost use Rattle.values.specs.Meaning.{Good};
 
 use crate::print;
 use cases::made;
+use std::io::{self, Write};
 use values::Value;
 
 // Around 0 and at both limits, and one past each.
@@ -39,113 +40,115 @@ const DECIMALS: [i64; 15] = [
 ];
 
 // One case: str of an integer.
-fn show_integer(n: i64) {
-    print::word(b"str of integer ");
-    print::number(n);
-    print::word(b": ");
-    print::value(made::integer(n));
-    print::byte(b'\n');
+fn show_integer<W: Write>(out: &mut W, n: i64) -> io::Result<()> {
+    print::word(out, b"str of integer ")?;
+    print::number(out, n)?;
+    print::word(out, b": ")?;
+    print::value(out, made::integer(n))?;
+    print::byte(out, b'\n')
 }
 
 // One case: str of a decimal, given by its count of millionths.
-fn show_decimal(millionths: i64) {
-    print::word(b"str of ");
-    print::number(millionths);
-    print::word(b" millionths: ");
-    print::value(made::decimal(millionths));
-    print::byte(b'\n');
+fn show_decimal<W: Write>(out: &mut W, millionths: i64) -> io::Result<()> {
+    print::word(out, b"str of ")?;
+    print::number(out, millionths)?;
+    print::word(out, b" millionths: ")?;
+    print::value(out, made::decimal(millionths))?;
+    print::byte(out, b'\n')
 }
 
 // One case of plus.
-fn show_sum(a: Value, b: Value)
+fn show_sum<W: Write>(out: &mut W, a: Value, b: Value) -> io::Result<()>
     requires good { Good a }
     requires good_2 { Good b }
 {
-    print::value(a);
-    print::word(b" + ");
-    print::value(b);
-    print::word(b" = ");
-    print::value(values::arithmetic::plus(a, b));
-    print::byte(b'\n');
+    print::value(out, a)?;
+    print::word(out, b" + ")?;
+    print::value(out, b)?;
+    print::word(out, b" = ")?;
+    print::value(out, values::arithmetic::plus(a, b))?;
+    print::byte(out, b'\n')
 }
 
 // One case of minus.
-fn show_difference(a: Value, b: Value)
+fn show_difference<W: Write>(out: &mut W, a: Value, b: Value) -> io::Result<()>
     requires good { Good a }
     requires good_2 { Good b }
 {
-    print::value(a);
-    print::word(b" - ");
-    print::value(b);
-    print::word(b" = ");
-    print::value(values::arithmetic::minus(a, b));
-    print::byte(b'\n');
+    print::value(out, a)?;
+    print::word(out, b" - ")?;
+    print::value(out, b)?;
+    print::word(out, b" = ")?;
+    print::value(out, values::arithmetic::minus(a, b))?;
+    print::byte(out, b'\n')
 }
 
 // One case of abs.
-fn show_distance(a: Value)
+fn show_distance<W: Write>(out: &mut W, a: Value) -> io::Result<()>
     requires { Good a }
 {
-    print::word(b"abs ");
-    print::value(a);
-    print::word(b" = ");
-    print::value(values::arithmetic::abs(a));
-    print::byte(b'\n');
+    print::word(out, b"abs ")?;
+    print::value(out, a)?;
+    print::word(out, b" = ")?;
+    print::value(out, values::arithmetic::abs(a))?;
+    print::byte(out, b'\n')
 }
 
-fn integers() {
+fn integers<W: Write>(out: &mut W) -> io::Result<()> {
     let mut i = 0;
     while i < 8 {
-        show_integer(INTEGERS[i]);
+        show_integer(out, INTEGERS[i])?;
         i += 1;
     }
+    Ok(())
 }
 
-fn decimals() {
+fn decimals<W: Write>(out: &mut W) -> io::Result<()> {
     let mut i = 0;
     while i < 15 {
-        show_decimal(DECIMALS[i]);
+        show_decimal(out, DECIMALS[i])?;
         i += 1;
     }
+    Ok(())
 }
 
 // Integer with integer gives an integer, else a decimal; past the limits, and of no value, no value.
-fn sums() {
-    show_sum(made::integer(2), made::integer(3));
-    show_sum(made::integer(3), made::decimal(500000));
-    show_sum(made::decimal(500000), made::decimal(500000));
-    show_sum(made::integer(999999999999), made::integer(1));
-    show_sum(made::integer(1000000000000), made::integer(1));
-    show_sum(made::integer(1000000000000), made::decimal(0));
-    show_sum(made::integer(1000000000000), made::decimal(1));
-    show_sum(made::integer(1000000000001), made::integer(-1));
+fn sums<W: Write>(out: &mut W) -> io::Result<()> {
+    show_sum(out, made::integer(2), made::integer(3))?;
+    show_sum(out, made::integer(3), made::decimal(500000))?;
+    show_sum(out, made::decimal(500000), made::decimal(500000))?;
+    show_sum(out, made::integer(999999999999), made::integer(1))?;
+    show_sum(out, made::integer(1000000000000), made::integer(1))?;
+    show_sum(out, made::integer(1000000000000), made::decimal(0))?;
+    show_sum(out, made::integer(1000000000000), made::decimal(1))?;
+    show_sum(out, made::integer(1000000000001), made::integer(-1))
 }
 
 // The same of minus, at the lower limits.
-fn differences() {
-    show_difference(made::integer(2), made::integer(3));
-    show_difference(made::decimal(100000), made::integer(3));
-    show_difference(made::integer(-1000000000000), made::integer(1));
-    show_difference(made::integer(-1000000000000), made::integer(-1000000000000));
-    show_difference(made::decimal(-1000000000000000000), made::decimal(1));
-    show_difference(made::decimal(-1000000000000000000), made::decimal(0));
-    show_difference(made::decimal(1), made::decimal(1000000000000000001));
+fn differences<W: Write>(out: &mut W) -> io::Result<()> {
+    show_difference(out, made::integer(2), made::integer(3))?;
+    show_difference(out, made::decimal(100000), made::integer(3))?;
+    show_difference(out, made::integer(-1000000000000), made::integer(1))?;
+    show_difference(out, made::integer(-1000000000000), made::integer(-1000000000000))?;
+    show_difference(out, made::decimal(-1000000000000000000), made::decimal(1))?;
+    show_difference(out, made::decimal(-1000000000000000000), made::decimal(0))?;
+    show_difference(out, made::decimal(1), made::decimal(1000000000000000001))
 }
 
 // abs at the lower limits, where it stays within the upper ones.
-fn distances() {
-    show_distance(made::integer(-3));
-    show_distance(made::integer(-1000000000000));
-    show_distance(made::decimal(-1));
-    show_distance(made::decimal(-1000000000000000000));
-    show_distance(made::decimal(-1000000000000000001));
+fn distances<W: Write>(out: &mut W) -> io::Result<()> {
+    show_distance(out, made::integer(-3))?;
+    show_distance(out, made::integer(-1000000000000))?;
+    show_distance(out, made::decimal(-1))?;
+    show_distance(out, made::decimal(-1000000000000000000))?;
+    show_distance(out, made::decimal(-1000000000000000001))
 }
 
 // 43 lines.
-pub fn cases() {
-    integers();
-    decimals();
-    sums();
-    differences();
-    distances();
+pub fn cases<W: Write>(out: &mut W) -> io::Result<()> {
+    integers(out)?;
+    decimals(out)?;
+    sums(out)?;
+    differences(out)?;
+    distances(out)
 }

@@ -12,6 +12,7 @@ ghost use Rattle.roster.specs.Signs.{sign_of};
 use crate::{order, print};
 use cases::{made, rows};
 use definitions::{TAG_WIDTH, TEXT_WIDTH};
+use std::io::{self, Write};
 use truth::is_true;
 use values::Value;
 
@@ -45,50 +46,51 @@ fn relation(a: Value, b: Value) -> u8
 }
 
 // One case: two values and the sign between them.
-pub fn compare(a: Value, b: Value)
+pub fn compare<W: Write>(out: &mut W, a: Value, b: Value) -> io::Result<()>
     requires good { Good a }
     requires good_2 { Good b }
 {
     let between = relation(a, b);
-    print::value(a);
-    print::byte(b' ');
-    print::byte(between);
-    print::byte(b' ');
-    print::value(b);
-    print::byte(b'\n');
+    print::value(out, a)?;
+    print::byte(out, b' ')?;
+    print::byte(out, between)?;
+    print::byte(out, b' ')?;
+    print::value(out, b)?;
+    print::byte(out, b'\n')
 }
 
 // Numbers by amount, whatever their kinds; no value compares with nothing.
-fn numbers() {
-    compare(made::integer(3), made::decimal(3000000));
-    compare(made::decimal(2999999), made::integer(3));
-    compare(made::integer(-3), made::integer(2));
+fn numbers<W: Write>(out: &mut W) -> io::Result<()> {
+    compare(out, made::integer(3), made::decimal(3000000))?;
+    compare(out, made::decimal(2999999), made::integer(3))?;
+    compare(out, made::integer(-3), made::integer(2))?;
     compare(
+        out,
         made::integer(1000000000000),
         made::decimal(1000000000000000000),
-    );
-    compare(made::integer(1000000000001), made::integer(1000000000001));
-    compare(made::integer(1000000000001), made::decimal(0));
-    compare(made::decimal(0), made::decimal(-1000000000000000001));
+    )?;
+    compare(out, made::integer(1000000000001), made::integer(1000000000001))?;
+    compare(out, made::integer(1000000000001), made::decimal(0))?;
+    compare(out, made::decimal(0), made::decimal(-1000000000000000001))
 }
 
 // date_times by seconds.
-fn date_times() {
-    compare(made::date_time(-1), made::date_time(0));
-    compare(made::date_time(951782400), made::date_time(951782400));
-    compare(made::date_time(253402300799), made::date_time(-62135596800));
+fn date_times<W: Write>(out: &mut W) -> io::Result<()> {
+    compare(out, made::date_time(-1), made::date_time(0))?;
+    compare(out, made::date_time(951782400), made::date_time(951782400))?;
+    compare(out, made::date_time(253402300799), made::date_time(-62135596800))
 }
 
 // One case: two strings with no tag.
-fn compare_strings(a: &[u8], b: &[u8])
+fn compare_strings<W: Write>(out: &mut W, a: &[u8], b: &[u8]) -> io::Result<()>
     requires a_len_bound { length a.now ≤ text_width }
     requires b_len_bound { length b.now ≤ text_width }
 {
-    compare(made::string(b"", a), made::string(b"", b));
+    compare(out, made::string(b"", a), made::string(b"", b))
 }
 
 // Each byte of an order with the byte after it, as strings of one byte.
-fn neighbours(order: &[u8]) {
+fn neighbours<W: Write>(out: &mut W, order: &[u8]) -> io::Result<()> {
     let mut i = 1;
     while i < order.len() {
         let last = i - 1;
@@ -96,9 +98,10 @@ fn neighbours(order: &[u8]) {
         let b = order[i];
         let first = [a];
         let second = [b];
-        compare_strings(&first, &second);
+        compare_strings(out, &first, &second)?;
         i += 1;
     }
+    Ok(())
 }
 
 // The string of a tag and a text, each a word of the rows.
@@ -111,7 +114,7 @@ fn string_of(text: &[u8], tag: usize, stop: usize, start: usize, end: usize) -> 
 }
 
 // A row for each case: two strings, each a tag and a text.
-fn string_rows(text: &[u8]) {
+fn string_rows<W: Write>(out: &mut W, text: &[u8]) -> io::Result<()> {
     let mut at = 0;
     while at < text.len() {
         let tag_end = rows::word_end(text, at, b'|', TAG_WIDTH);
@@ -123,13 +126,14 @@ fn string_rows(text: &[u8]) {
         let last = rows::word_end(text, second, b'\n', TEXT_WIDTH);
         let a = string_of(text, at, tag_end, first, first_end);
         let b = string_of(text, tag, other_end, second, last);
-        compare(a, b);
+        compare(out, a, b)?;
         at = rows::after(text, last);
     }
+    Ok(())
 }
 
 // A row for each case: two URIs.
-fn uri_rows(text: &[u8]) {
+fn uri_rows<W: Write>(out: &mut W, text: &[u8]) -> io::Result<()> {
     let mut at = 0;
     while at < text.len() {
         let end = rows::word_end(text, at, b'|', TEXT_WIDTH);
@@ -137,22 +141,24 @@ fn uri_rows(text: &[u8]) {
         let last = rows::word_end(text, second, b'\n', TEXT_WIDTH);
         let a = made::uri(&text[at..end]);
         let b = made::uri(&text[second..last]);
-        compare(a, b);
+        compare(out, a, b)?;
         at = rows::after(text, last);
     }
+    Ok(())
 }
 
 // 119 lines.
-pub fn cases() {
-    numbers();
-    date_times();
+pub fn cases<W: Write>(out: &mut W) -> io::Result<()> {
+    numbers(out)?;
+    date_times(out)?;
     // By text: the end comes first, and a later byte counts only after equal ones.
     neighbours(
+        out,
         b" 0123456789AaBbCcDdEeFfGgHhIiJjKkLlMmNnOoPpQqRrSsTtUuVvWwXxYyZz!\"#$%&'()*+,-./:;<=>?@[\\]^_`{|}~",
-    );
-    string_rows(b"|||\n||| \n|ab||abc\n|abc||ab\n|aZ||Aa\n|10||9\n");
+    )?;
+    string_rows(out, b"|||\n||| \n|ab||abc\n|abc||ab\n|aZ||Aa\n|10||9\n")?;
     // Then by tag.
-    string_rows(b"en|a|en|a\nen|a||a\nen|a|fr|a\nfr|a|en|b\nen-a|a|ena|a\n");
+    string_rows(out, b"en|a|en|a\nen|a||a\nen|a|fr|a\nfr|a|en|b\nen-a|a|ena|a\n")?;
     // URIs by bytes.
-    uri_rows(b"p:Z|p:a\np:a|p:0\np:a|p:aa\np:name|p:name\n");
+    uri_rows(out, b"p:Z|p:a\np:a|p:0\np:a|p:aa\np:name|p:name\n")
 }

@@ -1,6 +1,7 @@
 // str of date_times.
 use crate::print;
 use cases::made;
+use std::io::{self, Write};
 
 // A number of seconds for each case.
 const SECONDS: [i64; 35] = [
@@ -48,19 +49,20 @@ const SECONDS: [i64; 35] = [
 ];
 
 // One case: a number of seconds from 1970-01-01T00:00:00Z.
-fn show(seconds: i64) {
-    print::word(b"str of ");
-    print::number(seconds);
-    print::word(b" s: ");
-    print::value(made::date_time(seconds));
-    print::byte(b'\n');
+fn show<W: Write>(out: &mut W, seconds: i64) -> io::Result<()> {
+    print::word(out, b"str of ")?;
+    print::number(out, seconds)?;
+    print::word(out, b" s: ")?;
+    print::value(out, made::date_time(seconds))?;
+    print::byte(out, b'\n')
 }
 
 // 35 lines.
-pub fn cases() {
+pub fn cases<W: Write>(out: &mut W) -> io::Result<()> {
     let mut i = 0;
     while i < 35 {
-        show(SECONDS[i]);
+        show(out, SECONDS[i])?;
         i += 1;
     }
+    Ok(())
 }

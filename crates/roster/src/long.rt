@@ -7,6 +7,7 @@ use crate::comparisons::compare;
 use crate::patterns::show_on;
 use cases::made;
 use definitions::TEXT_WIDTH;
+use std::io::{self, Write};
 use values::Value;
 
 // A string with no tag.
@@ -32,35 +33,35 @@ fn uri(n: usize, last: u8) -> Value
 }
 
 // The end comes first, and the last byte counts.
-fn strings() {
-    compare(string(40, b'a'), string(41, b'a'));
-    compare(string(96, b'a'), string(95, b'a'));
-    compare(string(96, b'b'), string(96, b'c'));
-    compare(string(96, b'b'), string(96, b'b'));
+fn strings<W: Write>(out: &mut W) -> io::Result<()> {
+    compare(out, string(40, b'a'), string(41, b'a'))?;
+    compare(out, string(96, b'a'), string(95, b'a'))?;
+    compare(out, string(96, b'b'), string(96, b'c'))?;
+    compare(out, string(96, b'b'), string(96, b'b'))
 }
 
-fn uris() {
-    compare(uri(40, b'a'), uri(41, b'a'));
-    compare(uri(96, b'a'), uri(95, b'a'));
-    compare(uri(96, b'b'), uri(96, b'Z'));
-    compare(uri(96, b'b'), uri(96, b'b'));
+fn uris<W: Write>(out: &mut W) -> io::Result<()> {
+    compare(out, uri(40, b'a'), uri(41, b'a'))?;
+    compare(out, uri(96, b'a'), uri(95, b'a'))?;
+    compare(out, uri(96, b'b'), uri(96, b'Z'))?;
+    compare(out, uri(96, b'b'), uri(96, b'b'))
 }
 
 // Patterns on strings, and on what str gives of a URI.
-fn patterns() {
-    show_on(b"^a*b$", string(40, b'b'));
-    show_on(b"^a*b$", string(41, b'b'));
-    show_on(b"^a*b$", string(95, b'b'));
-    show_on(b"^a*b$", string(96, b'b'));
-    show_on(b"^a*$", string(96, b'b'));
-    show_on(b"b$", strings::text::text_of(uri(41, b'b')));
-    show_on(b"b$", strings::text::text_of(uri(96, b'b')));
-    show_on(b"b.", strings::text::text_of(uri(96, b'b')));
+fn patterns<W: Write>(out: &mut W) -> io::Result<()> {
+    show_on(out, b"^a*b$", string(40, b'b'))?;
+    show_on(out, b"^a*b$", string(41, b'b'))?;
+    show_on(out, b"^a*b$", string(95, b'b'))?;
+    show_on(out, b"^a*b$", string(96, b'b'))?;
+    show_on(out, b"^a*$", string(96, b'b'))?;
+    show_on(out, b"b$", strings::text::text_of(uri(41, b'b')))?;
+    show_on(out, b"b$", strings::text::text_of(uri(96, b'b')))?;
+    show_on(out, b"b.", strings::text::text_of(uri(96, b'b')))
 }
 
 // 16 lines.
-pub fn cases() {
-    strings();
-    uris();
-    patterns();
+pub fn cases<W: Write>(out: &mut W) -> io::Result<()> {
+    strings(out)?;
+    uris(out)?;
+    patterns(out)
 }

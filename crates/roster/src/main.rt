@@ -12,13 +12,16 @@ mod printed;
 mod ranges;
 mod truths;
 
-fn main() {
-    dates::cases();
-    arithmetic::cases();
-    comparisons::cases();
-    patterns::cases();
-    ranges::cases();
-    truths::cases();
-    long::cases();
-    printed::cases();
+use std::io;
+
+fn main(rt: HostRuntime) -> io::Result<()> {
+    let mut out = rt.stdout();
+    dates::cases(&mut out)?;
+    arithmetic::cases(&mut out)?;
+    comparisons::cases(&mut out)?;
+    patterns::cases(&mut out)?;
+    ranges::cases(&mut out)?;
+    truths::cases(&mut out)?;
+    long::cases(&mut out)?;
+    printed::cases(&mut out)
 }

@@ -4,121 +4,122 @@ ghost use Rattle.values.specs.Meaning.{Good};
 use crate::{order, print};
 use cases::made;
 use definitions::Truth;
+use std::io::{self, Write};
 use truth::{and_of, not_of, or_of};
 use values::{Value, arithmetic};
 
-fn show_not(a: Truth) {
-    print::word(b"not ");
-    print::truth(a);
-    print::answer(not_of(a));
+fn show_not<W: Write>(out: &mut W, a: Truth) -> io::Result<()> {
+    print::word(out, b"not ")?;
+    print::truth(out, a)?;
+    print::answer(out, not_of(a))
 }
 
-fn show_and(a: Truth, b: Truth) {
-    print::truth(a);
-    print::word(b" and ");
-    print::truth(b);
-    print::answer(and_of(a, b));
+fn show_and<W: Write>(out: &mut W, a: Truth, b: Truth) -> io::Result<()> {
+    print::truth(out, a)?;
+    print::word(out, b" and ")?;
+    print::truth(out, b)?;
+    print::answer(out, and_of(a, b))
 }
 
-fn show_or(a: Truth, b: Truth) {
-    print::truth(a);
-    print::word(b" or ");
-    print::truth(b);
-    print::answer(or_of(a, b));
+fn show_or<W: Write>(out: &mut W, a: Truth, b: Truth) -> io::Result<()> {
+    print::truth(out, a)?;
+    print::word(out, b" or ")?;
+    print::truth(out, b)?;
+    print::answer(out, or_of(a, b))
 }
 
 // Three rows of both tables.
-fn show_rows(a: Truth) {
-    show_and(a, Truth::True);
-    show_and(a, Truth::False);
-    show_and(a, Truth::Unknown);
-    show_or(a, Truth::True);
-    show_or(a, Truth::False);
-    show_or(a, Truth::Unknown);
+fn show_rows<W: Write>(out: &mut W, a: Truth) -> io::Result<()> {
+    show_and(out, a, Truth::True)?;
+    show_and(out, a, Truth::False)?;
+    show_and(out, a, Truth::Unknown)?;
+    show_or(out, a, Truth::True)?;
+    show_or(out, a, Truth::False)?;
+    show_or(out, a, Truth::Unknown)
 }
 
-fn tables() {
-    show_not(Truth::True);
-    show_not(Truth::False);
-    show_not(Truth::Unknown);
-    show_rows(Truth::True);
-    show_rows(Truth::False);
-    show_rows(Truth::Unknown);
+fn tables<W: Write>(out: &mut W) -> io::Result<()> {
+    show_not(out, Truth::True)?;
+    show_not(out, Truth::False)?;
+    show_not(out, Truth::Unknown)?;
+    show_rows(out, Truth::True)?;
+    show_rows(out, Truth::False)?;
+    show_rows(out, Truth::Unknown)
 }
 
 // The end of a line: whether a value is less than 5.
-fn show_less(v: Value)
+fn show_less<W: Write>(out: &mut W, v: Value) -> io::Result<()>
     requires { Good v }
 {
-    print::word(b" < 5");
-    print::answer(order::less(v, made::integer(5)));
+    print::word(out, b" < 5")?;
+    print::answer(out, order::less(v, made::integer(5)))
 }
 
-fn show_sum(a: Value, b: Value)
+fn show_sum<W: Write>(out: &mut W, a: Value, b: Value) -> io::Result<()>
     requires good { Good a }
     requires good_2 { Good b }
 {
-    print::value(a);
-    print::word(b" + ");
-    print::value(b);
-    show_less(arithmetic::plus(a, b));
+    print::value(out, a)?;
+    print::word(out, b" + ")?;
+    print::value(out, b)?;
+    show_less(out, arithmetic::plus(a, b))
 }
 
-fn show_difference(a: Value, b: Value)
+fn show_difference<W: Write>(out: &mut W, a: Value, b: Value) -> io::Result<()>
     requires good { Good a }
     requires good_2 { Good b }
 {
-    print::value(a);
-    print::word(b" - ");
-    print::value(b);
-    show_less(arithmetic::minus(a, b));
+    print::value(out, a)?;
+    print::word(out, b" - ")?;
+    print::value(out, b)?;
+    show_less(out, arithmetic::minus(a, b))
 }
 
 // Plus and minus of integers, at both limits and past them.
-fn integers() {
-    show_sum(made::integer(999999999999), made::integer(1));
-    show_sum(made::integer(1000000000000), made::integer(1));
-    show_sum(made::integer(-999999999999), made::integer(-1));
-    show_sum(made::integer(-1000000000000), made::integer(-1));
-    show_difference(made::integer(999999999999), made::integer(-1));
-    show_difference(made::integer(1000000000000), made::integer(-1));
-    show_difference(made::integer(-999999999999), made::integer(1));
-    show_difference(made::integer(-1000000000000), made::integer(1));
+fn integers<W: Write>(out: &mut W) -> io::Result<()> {
+    show_sum(out, made::integer(999999999999), made::integer(1))?;
+    show_sum(out, made::integer(1000000000000), made::integer(1))?;
+    show_sum(out, made::integer(-999999999999), made::integer(-1))?;
+    show_sum(out, made::integer(-1000000000000), made::integer(-1))?;
+    show_difference(out, made::integer(999999999999), made::integer(-1))?;
+    show_difference(out, made::integer(1000000000000), made::integer(-1))?;
+    show_difference(out, made::integer(-999999999999), made::integer(1))?;
+    show_difference(out, made::integer(-1000000000000), made::integer(1))
 }
 
 // The same of decimals.
-fn decimals() {
-    show_sum(made::decimal(999999999999999999), made::decimal(1));
-    show_sum(made::decimal(1000000000000000000), made::decimal(1));
-    show_sum(made::decimal(-999999999999999999), made::decimal(-1));
-    show_sum(made::decimal(-1000000000000000000), made::decimal(-1));
-    show_difference(made::decimal(999999999999999999), made::decimal(-1));
-    show_difference(made::decimal(1000000000000000000), made::decimal(-1));
-    show_difference(made::decimal(-999999999999999999), made::decimal(1));
-    show_difference(made::decimal(-1000000000000000000), made::decimal(1));
+fn decimals<W: Write>(out: &mut W) -> io::Result<()> {
+    show_sum(out, made::decimal(999999999999999999), made::decimal(1))?;
+    show_sum(out, made::decimal(1000000000000000000), made::decimal(1))?;
+    show_sum(out, made::decimal(-999999999999999999), made::decimal(-1))?;
+    show_sum(out, made::decimal(-1000000000000000000), made::decimal(-1))?;
+    show_difference(out, made::decimal(999999999999999999), made::decimal(-1))?;
+    show_difference(out, made::decimal(1000000000000000000), made::decimal(-1))?;
+    show_difference(out, made::decimal(-999999999999999999), made::decimal(1))?;
+    show_difference(out, made::decimal(-1000000000000000000), made::decimal(1))
 }
 
 // A sum past the limits under abs, under str, and its comparison under not.
-fn show_past(a: Value, b: Value)
+fn show_past<W: Write>(out: &mut W, a: Value, b: Value) -> io::Result<()>
     requires good { Good a }
     requires good_2 { Good b }
 {
     let past = arithmetic::plus(a, b);
-    print::word(b"abs of it");
-    show_less(arithmetic::abs(past));
-    print::word(b"str of it = str of it");
+    print::word(out, b"abs of it")?;
+    show_less(out, arithmetic::abs(past))?;
+    print::word(out, b"str of it = str of it")?;
     let text = strings::text::text_of(past);
-    print::answer(comparison::equal(text, text));
-    print::word(b"not it < 5");
+    print::answer(out, comparison::equal(text, text))?;
+    print::word(out, b"not it < 5")?;
     let less = order::less(past, made::integer(5));
-    print::answer(not_of(less));
+    print::answer(out, not_of(less))
 }
 
 // 43 lines.
-pub fn cases() {
-    tables();
-    integers();
-    show_past(made::integer(1000000000000), made::integer(1));
-    decimals();
-    show_past(made::decimal(-1000000000000000000), made::decimal(-1));
+pub fn cases<W: Write>(out: &mut W) -> io::Result<()> {
+    tables(out)?;
+    integers(out)?;
+    show_past(out, made::integer(1000000000000), made::integer(1))?;
+    decimals(out)?;
+    show_past(out, made::decimal(-1000000000000000000), made::decimal(-1))
 }

@@ -299,19 +299,14 @@ slots_twice table n h (suc i) l e =
 
 -- ── a slot written ──────────────────────────────────────────────────────────────────────────
 
-pub slot-made : (k : ℕ) (b y : List ℕ) → y ≡ take (length b) b ++ drop (length b) (replicate (slot_width - 1) 0) → k ∷ (y ++ []) ≡ filled slot_width (k ∷ b)
+pub slot-made : (k : ℕ) (b y : List ℕ) → y ≡ b → k ∷ (y ++ drop (length b) (replicate (slot_width - 1) 0)) ≡ filled slot_width (k ∷ b)
 unfolding filled
 slot-made k b y e =
     let left : slot_width - 1 - length b ≡ slot_width - suc (length b) = omega arith in
-    ap (λ s. k ∷ s) (append-nil y ∙ e ∙ ap₂ ◌++◌ (take-length b) (drop-replicate (length b) (slot_width - 1) ∙ ap (λ (n : ℕ). replicate n 0) left))
+    ap (λ s. k ∷ s) (ap₂ ◌++◌ e (drop-replicate (length b) (slot_width - 1) ∙ ap (λ (n : ℕ). replicate n 0) left))
 
-pub slot-stored : (t r y : List ℕ) (n : ℕ) → n < term_limit → length t ≡ term_table_width → length r ≡ slot_width
-    → y ≡ take (length r) r ++ drop (length r) (part t (n * slot_width) (n * slot_width + slot_width - n * slot_width))
-    → put_mid (n * slot_width) (n * slot_width + slot_width - n * slot_width) t y ≡ slot_set t n r
+pub slot-stored : (t r y : List ℕ) (n : ℕ) → y ≡ r → put_mid (n * slot_width) (n * slot_width + slot_width - n * slot_width) t y ≡ slot_set t n r
 unfolding slot_set
-slot-stored t r y n lt ht hr e =
+slot-stored t r y n e =
     let k : n * slot_width + slot_width - n * slot_width ≡ slot_width = omega arith in
-    let s = part t (n * slot_width) slot_width in
-    let l : length r ≡ length s = hr ∙ sym (part_length t (n * slot_width) slot_width (omega arith)) in
-    let i : y ≡ r = (rw k at e) ∙ ap₂ ◌++◌ (take-length r) (ap (λ (m : ℕ). drop m s) l ∙ drop-length s) ∙ append-nil r in
-    rw (k, i)
+    rw (k, e)

@@ -36,13 +36,8 @@ use Rattle.matching.proofs.FieldLaws.{field-text, every-wider, between-wider}
 -- ── parts ───────────────────────────────────────────────────────────────────────────────────
 
 -- an array that a copy has filled whole
-pub copied : (s old : List ℕ) (at n : ℕ) → at + n ≤ length s → length old ≡ n → (new : List ℕ)
-    → new ≡ take (length (take (at + n - at) (drop at s))) (take (at + n - at) (drop at s)) ++ drop (length (take (at + n - at) (drop at s))) old → new ≡ part s at n
-copied s old at n h l new e =
-    let p = take (at + n - at) (drop at s) in
-    let k : length p ≡ n = part-long s at n h in
-    let none_left : drop (length p) old ≡ [] = drop_of_length-le old {i = length p} (omega arith) in
-    e ∙ (ap₂ ◌++◌ (take-length p) none_left ∙ (append-nil p ∙ some-part s at n))
+pub copied : (s : List ℕ) (at n : ℕ) (new : List ℕ) → new ≡ part s at (at + n - at) → new ≡ part s at n
+copied s at n new e = e ∙ some-part s at n
 
 -- ── fields ──────────────────────────────────────────────────────────────────────────────────
 

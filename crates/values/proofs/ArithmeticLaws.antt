@@ -48,7 +48,7 @@ scaled-decimal n h = in-limit decimal_limit (n *ℤ pos million) (omega (arith, 
 
 -- an i64's number
 pub plain : (n : ℤ) → T (is_decimal n) → to_z w64 (of_z w64 n) ≡ n
-plain n h = to_z-of_z (record { sfits = omega (arith, mag-abs n, at_most decimal_limit n h) })
+plain n h = to_z-of_z {w = w64} {z = n} (record { sfits = omega (arith, mag-abs n, at_most decimal_limit n h) })
 
 -- ── a number of a kind, or no value ─────────────────────────────────────────────────────────
 

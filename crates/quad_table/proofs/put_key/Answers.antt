@@ -11,4 +11,4 @@ pub returns : goal.returns
 returns c =
     quad-stored c.args.table.now c.quad_bytes-content.result c.copy_from_slice.new.self _ c.args.n
     (c.quad_bytes-content.ensures ∙ (λ t. quad_bytes (quad (c.graph_of-graph.ensures.0 t) (c.subject_of-subject.ensures.0 t) (c.property_of-property.ensures.0 t) (c.object_of-object.ensures.0 t) ∷ [])))
-    c.requires.n_lt_quad_limit c.requires.table_len c.copy_from_slice.ensures.after
+    c.copy_from_slice.ensures.after

@@ -94,7 +94,7 @@ fn equations(text: &str, name: &str) -> Numbers {
 
 #[test]
 fn states() {
-    let defined = equations(&read(&format!("{DEFINITIONS}/Numbers.antt")), "stateNumber");
+    let defined = equations(&read(&format!("{DEFINITIONS}/Numbers.antt")), "state_number");
     assert_eq!(defined.len(), 4, "{defined:?}");
     assert_eq!(group("STATE_"), defined);
     for state in [State::Ended, State::Wanted(7), State::Waiting, State::Spent] {
@@ -134,9 +134,9 @@ fn suggestions() {
 #[test]
 fn codes_of_types() {
     let text = read(&format!("{DEFINITIONS}/Types.antt"));
-    let mut defined = equations(&text, "datatypeCode");
+    let mut defined = equations(&text, "datatype_code");
     assert_eq!(defined.len(), 5, "{defined:?}");
-    let step = equations(&text, "typeCode")["RANGE"];
+    let step = equations(&text, "type_code")["RANGE"];
     let ranges: Vec<_> = defined.iter().map(|(name, code)| (format!("RANGE_{name}"), code + step)).collect();
     defined.extend(ranges);
     assert_eq!(group("TYPE_"), defined);
@@ -152,7 +152,7 @@ fn codes_of_types() {
 
 /// Words before a refusal's number; it stands too where a record's number is written.
 const REFUSING: [&str; 7] =
-    ["require", "given", "refused", "refusedRun", "refusedPage", "SuggestAnswers.Refused", "refusedPublish"];
+    ["require", "given", "refused", "refused_run", "refused_page", "SuggestAnswers.Refused", "refused_publish"];
 
 /// The definitions of the calls.
 fn calls() -> String {
@@ -192,14 +192,14 @@ fn equations_by_name(text: &str) -> BTreeMap<String, Vec<String>> {
     all
 }
 
-/// The refusals that a call's definition leads to. That the records load is asked by `soundIn` too, which gives no number of
+/// The refusals that a call's definition leads to. That the records load is asked by `sound_in` too, which gives no number of
 /// its own.
 fn refusals_from(call: &str, definitions: &BTreeMap<String, Vec<String>>) -> BTreeSet<i128> {
     let mut numbers = BTreeSet::new();
-    let (mut seen, mut next) = (BTreeSet::new(), vec![format!("{call}Export")]);
+    let (mut seen, mut next) = (BTreeSet::new(), vec![format!("{call}_export")]);
     while let Some(name) = next.pop() {
         let Some(words) = definitions.get(&name) else { continue };
-        if name == "soundIn" || !seen.insert(name) {
+        if name == "sound_in" || !seen.insert(name) {
             continue;
         }
         numbers.extend(refusals_in(words));
@@ -264,7 +264,7 @@ fn built_in_ranks() {
 
 #[test]
 fn declarations() {
-    let exports = exported(&read("crates/exports/src/lib.rt"));
+    let exports = exported(&read("crates/exports_c/src/lib.rt"));
     assert!(exports.len() >= 5, "the exports were read: {exports:?}");
     assert_eq!(in_c(&read(HEADER)), exports);
     assert_eq!(in_rust(&read("host/willetcoffer/src/raw.rs")), exports);

@@ -5,7 +5,7 @@ use mathlib.Core.List.{◌++◌}
 use borrow.Author.Rules.{rules}
 use lib.ListN.{length}
 use Rattle.definitions.specs.Exports.{saved_bytes}
-use Rattle.laws.proofs.Writing.{put-none, put-part, put_all, copied}
+use Rattle.laws.proofs.Writing.{put-none, put-part, put_all}
 use Rattle.layout.proofs.JoinedBytes.{six-parts}
 use Rattle.layout.proofs.writing.write_saved.Goals as goal
 
@@ -44,7 +44,7 @@ returns c =
     let e = put-part c.write_words-2.new.out 70 d (omega arith) (omega (arith, c.requires)) c.write_words-2.auto.out in
     let f = put-part c.write_words-3.new.out 198 e (omega arith) (omega (arith, c.requires)) c.write_words-3.auto.out in
     let g = put-part c.write_items.new.out 486 f (omega arith) (omega (arith, c.requires)) c.write_items.auto.out in
-    let types = c.copy_from_slice.ensures.after ∙ copied c.args.run.control.types _ (types-length ∙ sym ⟪c₆.copy-arg.given.2⟫) in
+    let types = c.copy_from_slice.ensures.after in
     put_all g (omega (arith, c.requires))
     ∙ (six-parts c.write_words.new.out c.copy_from_slice.new.self c.write_marks.new.out c.write_words-2.new.out c.write_words-3.new.out c.write_items.new.out
     ∙ λ k. c.write_words.ensures k ++ (types k ++ (c.write_marks.ensures k

@@ -5,4 +5,4 @@ use Rattle.table.proofs.slots.put_slot.Goals as goal
 
 pub returns : goal.returns
 returns c =
-    slot-stored c.args.table.now c.args.slot.now c.copy_from_slice.new.self c.args.n c.requires.n_lt_term_limit c.requires.table_len c.requires.slot_len c.copy_from_slice.ensures.after
+    slot-stored c.args.table.now c.args.slot.now c.copy_from_slice.new.self c.args.n c.copy_from_slice.ensures.after
