@@ -117,6 +117,6 @@ module _ (text : List ℕ) (b : Bool) (e : b ≡ is_some (uri_text text)) where
 
 -- ── a field that a text is copied into ──────────────────────────────────────────────────────
 
-pub field-filled : (width : ℕ) (text field : List ℕ) → field ≡ take (length text) text ++ drop (length text) (replicate width 0) → field ≡ filled width text
+pub field-filled : (width : ℕ) (text field : List ℕ) → field ≡ text ++ drop (length text) (replicate width 0) → field ≡ filled width text
 unfolding filled
-field-filled width text field e = e ∙ ap₂ ◌++◌ (take-length text) (drop-replicate (length text) width)
+field-filled width text field e = e ∙ ap (λ (l : List ℕ). text ++ l) (drop-replicate (length text) width)

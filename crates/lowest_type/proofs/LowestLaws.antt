@@ -8,7 +8,6 @@ use mathlib.Core.Option.{Option, none, some}
 use lib.Dec.{T, eqb, ltb, eqb→eq}
 use lib.ListN.{length, get_or, drop, drop_of_length-le}
 use lib.Seq.{drop-cons}
-use borrow.Author.Rules.{zero≤}
 use Rattle.definitions.specs.Limits.{variable_limit}
 use Rattle.definitions.specs.Lists.{find}
 use Rattle.definitions.specs.Types.{Ty, plain, any_uri, type_code, all_types}
@@ -70,7 +69,7 @@ module _ {A : Type 0} (p : A → Bool) (l : List A) (i : ℕ) (d : A) where
 pub code_at : (i : ℕ) → i < length all_types → get_or (map type_code all_types) i 0 ≡ type_code (get_or all_types i (plain any_uri))
 code_at i l =
     eqb→eq (get_or (map type_code all_types) i 0) (type_code (get_or all_types i (plain any_uri)))
-    (every_in (λ k. eqb (get_or (map type_code all_types) k 0) (type_code (get_or all_types k (plain any_uri)))) 0 (length all_types) tt i zero≤ l)
+    (every_in (λ k. eqb (get_or (map type_code all_types) k 0) (type_code (get_or all_types k (plain any_uri)))) 0 (length all_types) tt i (omega arith) l)
 
 code-positive : (τ : Ty) → type_code τ ≡ 0 → ⊥
 code-positive τ e = subst T (ap (λ (n : ℕ). ltb 0 n) e) (by_type (λ τ. ltb 0 (type_code τ)) tt τ)

@@ -299,11 +299,12 @@ slots_twice table n h (suc i) l e =
 
 -- ── a slot written ──────────────────────────────────────────────────────────────────────────
 
-pub slot-made : (k : ℕ) (b y : List ℕ) → y ≡ b → k ∷ (y ++ drop (length b) (replicate (slot_width - 1) 0)) ≡ filled slot_width (k ∷ b)
+pub slot-made : (k : ℕ) (b y : List ℕ) → y ≡ b → k ∷ (y ++ drop (1 + length b - 1) (replicate (slot_width - 1) 0)) ≡ filled slot_width (k ∷ b)
 unfolding filled
 slot-made k b y e =
+    let n : 1 + length b - 1 ≡ length b = omega arith in
     let left : slot_width - 1 - length b ≡ slot_width - suc (length b) = omega arith in
-    ap (λ s. k ∷ s) (ap₂ ◌++◌ e (drop-replicate (length b) (slot_width - 1) ∙ ap (λ (n : ℕ). replicate n 0) left))
+    ap (λ s. k ∷ s) (ap₂ ◌++◌ e (ap (λ (n : ℕ). drop n (replicate (slot_width - 1) 0)) n ∙ drop-replicate (length b) (slot_width - 1) ∙ ap (λ (n : ℕ). replicate n 0) left))
 
 pub slot-stored : (t r y : List ℕ) (n : ℕ) → y ≡ r → put_mid (n * slot_width) (n * slot_width + slot_width - n * slot_width) t y ≡ slot_set t n r
 unfolding slot_set

@@ -35,10 +35,12 @@ returns-then-not-page_ok c =
     (sym (c.is_graph.ensures x.0.checked.schema x.0.state.store.terms (x.2.lent 0).least_of (sym (x.2.lent 0).tabled.counted)) ∙ c.if-not-is_graph.false)
     (is_none _ (sym c.page_ok.ensures ∙ c.if-not-page_ok.true)) c.refused-then-not-page_ok.ensures
 
+-- what has passed refusals 1 to 13
 pub take-requires : goal.take-requires
 take-requires c =
-    let x = entered c.enter-entered.ensures c.if-entered-ne0.false in let rs = is-some _ (sym c.page_ok.ensures ∙ c.if-not-page_ok.false) in (
-      _,
+    let x = entered c.enter-entered.ensures c.if-entered-ne0.false in
+    let rs = is-some _ (sym c.page_ok.ensures ∙ c.if-not-page_ok.false) in (
+      c.args.ranks.now,
       record {
         found = x.0;
         entered = x.1;
@@ -52,5 +54,16 @@ take-requires c =
     )
 
 pub returns : goal.returns
-unfolding take-requires
-returns c = c.take.ensures _ (take-requires c c.take.lifetimes).1
+returns c =
+    let x = entered c.enter-entered.ensures c.if-entered-ne0.false in
+    let rs = is-some _ (sym c.page_ok.ensures ∙ c.if-not-page_ok.false) in
+    c.take.ensures c.args.ranks.now (record {
+      found = x.0;
+      entered = x.1;
+      count = sym (x.2.lent 0).tabled.counted;
+      hashed = x.2.hashed;
+      is_uri =
+          (sym (c.is_graph.ensures x.0.checked.schema x.0.state.store.terms (x.2.lent 0).least_of (sym (x.2.lent 0).tabled.counted)) ∙ c.if-not-is_graph.false);
+      triples = rs.0;
+      reads = rs.1;
+    })

@@ -22,7 +22,13 @@ pub take_in-done-requires : goal.take_in-done-requires
 take_in-done-requires c =
     let graphs : length c.args.saved.store.fetched ≡ graph_limit = search rules in
     let bt : AreBytes c.args.table.now = λ k. omega (arith, c.type_inv.table k) in
-    let bq : AreBytes c.args.store.now = λ k. omega (arith, c.type_inv.store k) in record { page_reads = page-read _ _ _ _ _ _ _ _ _ _ _ c.requires.1; page_len_bound = page-fits _ _ _ _ _ _ _ _ _ _ _ c.requires.1; reads = schema-read _ _ _ _ _ _ _ _ _ _ _ c.requires.1; held_tables = held-tables _ _ _ _ _ _ _ _ _ _ _ c.requires.1 bt bq graphs _ c.canonical_store-kept.ensures }
+    let bq : AreBytes c.args.store.now = λ k. omega (arith, c.type_inv.store k) in
+    record {
+      page_reads = page-read _ _ _ _ _ _ _ _ _ _ _ c.requires.1;
+      page_len_bound = page-fits _ _ _ _ _ _ _ _ _ _ _ c.requires.1;
+      reads = schema-read _ _ _ _ _ _ _ _ _ _ _ c.requires.1;
+      held_tables = held-tables _ _ _ _ _ _ _ _ _ _ _ c.requires.1 bt bq graphs _ c.canonical_store-kept.ensures;
+    }
 
 pub returns-in_default : goal.returns-in_default
 returns-in_default c =

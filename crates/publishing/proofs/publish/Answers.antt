@@ -16,8 +16,6 @@ use Rattle.publishing.proofs.PublishLaws.{wrong-length, not_sound, not-fetched, 
 use Rattle.publishing.proofs.PublishLaws.{Passed, has-passed, graphs-few, terms-few, listed-is, Stretch, graph-stretch}
 use Rattle.publishing.proofs.publish.Goals as goal
 
--- ?? -- ── where the lengths have passed ───────────────────────────────────────────────────────────
-
 pub returns-then-not-both_fit : goal.returns-then-not-both_fit
 returns-then-not-both_fit c =
     let lent_at : Lent = lent_of [] c.args.terms.now c.args.schema.now c.args.script.now c.args.table.now c.args.store.now in
@@ -27,16 +25,14 @@ returns-then-not-both_fit c =
 pub sound-entered-requires : goal.sound-entered-requires
 sound-entered-requires c =
     let lent_at : Lent = lent_of [] c.args.terms.now c.args.schema.now c.args.script.now c.args.table.now c.args.store.now in
-    let fits : both_tables_fit (lengths_of lent_at) ≡ true = sym c.both_fit.ensures ∙ c.if-not-both_fit.false in let w = both-fit (lengths_of lent_at) (true_is _ fits) in record { table_len = w.0; store_len = w.1; keys_len = search rules; leasts_len = search rules }
+    let fits : both_tables_fit (lengths_of lent_at) ≡ true = sym c.both_fit.ensures ∙ c.if-not-both_fit.false in
+    let w = both-fit (lengths_of lent_at) (true_is _ fits) in record { table_len = w.0; store_len = w.1; keys_len = search rules; leasts_len = search rules }
 
 pub returns-then-entered-ne0 : goal.returns-then-entered-ne0
 returns-then-entered-ne0 c =
     let lent_at : Lent = lent_of [] c.args.terms.now c.args.schema.now c.args.script.now c.args.table.now c.args.store.now in
     let fits : both_tables_fit (lengths_of lent_at) ≡ true = sym c.both_fit.ensures ∙ c.if-not-both_fit.false in
-    let s = start₁ c in
-    λ ranks. ranks-unread ranks [] _ _ _ _ _ _ _ _ ∙ not_sound lent_at s.args.saved s.args.graph s.args.out.now fits (c.sound-entered.ensures []) c.if-entered-ne0.true
-
--- ?? -- ── where the state is sound ────────────────────────────────────────────────────────────────
+    λ ranks. ranks-unread ranks [] _ _ _ _ _ _ _ _ ∙ not_sound lent_at c.args.saved c.args.graph c.args.out.now fits (c.sound-entered.ensures []) c.if-entered-ne0.true
 
 pub is_listed-requires : goal.is_listed-requires
 is_listed-requires c =
@@ -44,7 +40,9 @@ is_listed-requires c =
     let fits : both_tables_fit (lengths_of lent_at) ≡ true = sym c.both_fit.ensures ∙ c.if-not-both_fit.false in
     let keys : List ℕ = c.sound-entered.new.keys in
     let leasts : List ℕ = c.sound-entered.new.leasts in
-    let passed : Passed lent_at c.args.saved c.sound-entered.result keys leasts = has-passed lent_at c.args.saved fits (λ k. omega (arith, c.type_inv.table k)) (c.sound-entered.ensures []) c.if-entered-ne0.false in record { graphs_le_graph_limit = graphs-few passed; count_le_term_limit = terms-few passed }
+    let passed : Passed lent_at c.args.saved c.sound-entered.result keys leasts =
+      has-passed lent_at c.args.saved fits (λ k. omega (arith, c.type_inv.table k)) (c.sound-entered.ensures []) c.if-entered-ne0.false in
+    record { graphs_le_graph_limit = graphs-few passed; count_le_term_limit = terms-few passed }
 
 pub returns-then-not-is_listed : goal.returns-then-not-is_listed
 returns-then-not-is_listed c =
@@ -52,14 +50,12 @@ returns-then-not-is_listed c =
     let fits : both_tables_fit (lengths_of lent_at) ≡ true = sym c.both_fit.ensures ∙ c.if-not-both_fit.false in
     let keys : List ℕ = c.sound-entered.new.keys in
     let leasts : List ℕ = c.sound-entered.new.leasts in
-    let passed : Passed lent_at c.args.saved c.sound-entered.result keys leasts = has-passed lent_at c.args.saved fits (λ k. omega (arith, c.type_inv.table k)) (c.sound-entered.ensures []) c.if-entered-ne0.false in
-    let s = start₂ c in
+    let passed : Passed lent_at c.args.saved c.sound-entered.result keys leasts =
+      has-passed lent_at c.args.saved fits (λ k. omega (arith, c.type_inv.table k)) (c.sound-entered.ensures []) c.if-entered-ne0.false in
     let w = passed in
     λ ranks. ranks-unread ranks [] _ _ _ _ _ _ _ _
-    ∙ not-fetched lent_at s.args.saved s.args.graph s.args.out.now w.fits w.found w.passes
-    (sym (listed-is w s.args.graph c.is_listed.ensures) ∙ c.if-not-is_listed.true)
-
--- ?? -- ── where the graph is fetched ──────────────────────────────────────────────────────────────
+    ∙ not-fetched lent_at c.args.saved c.args.graph c.args.out.now w.fits w.found w.passes
+    (sym (listed-is w c.args.graph c.is_listed.ensures) ∙ c.if-not-is_listed.true)
 
 pub overflow_mul-first : goal.overflow_mul-first
 overflow_mul-first c =
@@ -67,9 +63,12 @@ overflow_mul-first c =
     let fits : both_tables_fit (lengths_of lent_at) ≡ true = sym c.both_fit.ensures ∙ c.if-not-both_fit.false in
     let keys : List ℕ = c.sound-entered.new.keys in
     let leasts : List ℕ = c.sound-entered.new.leasts in
-    let passed : Passed lent_at c.args.saved c.sound-entered.result keys leasts = has-passed lent_at c.args.saved fits (λ k. omega (arith, c.type_inv.table k)) (c.sound-entered.ensures []) c.if-entered-ne0.false in
-    let small : c.args.graph < term_limit = let b : c.args.graph < c.sound-entered.result.count = below-count _ _ _ c.is_listed.ensures c.if-not-is_listed.false in
-    omega (arith, b, terms-few passed) in omega (arith, small)
+    let passed : Passed lent_at c.args.saved c.sound-entered.result keys leasts =
+      has-passed lent_at c.args.saved fits (λ k. omega (arith, c.type_inv.table k)) (c.sound-entered.ensures []) c.if-entered-ne0.false in
+    let small : c.args.graph < term_limit =
+      let b : c.args.graph < c.sound-entered.result.count = below-count _ _ _ c.is_listed.ensures c.if-not-is_listed.false in
+      omega (arith, b, terms-few passed) in
+    omega (arith, small)
 
 pub overflow_add-last : goal.overflow_add-last
 overflow_add-last c =
@@ -77,9 +76,12 @@ overflow_add-last c =
     let fits : both_tables_fit (lengths_of lent_at) ≡ true = sym c.both_fit.ensures ∙ c.if-not-both_fit.false in
     let keys : List ℕ = c.sound-entered.new.keys in
     let leasts : List ℕ = c.sound-entered.new.leasts in
-    let passed : Passed lent_at c.args.saved c.sound-entered.result keys leasts = has-passed lent_at c.args.saved fits (λ k. omega (arith, c.type_inv.table k)) (c.sound-entered.ensures []) c.if-entered-ne0.false in
-    let small : c.args.graph < term_limit = let b : c.args.graph < c.sound-entered.result.count = below-count _ _ _ c.is_listed.ensures c.if-not-is_listed.false in
-    omega (arith, b, terms-few passed) in omega (arith, small)
+    let passed : Passed lent_at c.args.saved c.sound-entered.result keys leasts =
+      has-passed lent_at c.args.saved fits (λ k. omega (arith, c.type_inv.table k)) (c.sound-entered.ensures []) c.if-entered-ne0.false in
+    let small : c.args.graph < term_limit =
+      let b : c.args.graph < c.sound-entered.result.count = below-count _ _ _ c.is_listed.ensures c.if-not-is_listed.false in
+      omega (arith, b, terms-few passed) in
+    omega (arith, small)
 
 pub lower-low-requires : goal.lower-low-requires
 lower-low-requires c =
@@ -87,7 +89,9 @@ lower-low-requires c =
     let fits : both_tables_fit (lengths_of lent_at) ≡ true = sym c.both_fit.ensures ∙ c.if-not-both_fit.false in
     let keys : List ℕ = c.sound-entered.new.keys in
     let leasts : List ℕ = c.sound-entered.new.leasts in
-    let passed : Passed lent_at c.args.saved c.sound-entered.result keys leasts = has-passed lent_at c.args.saved fits (λ k. omega (arith, c.type_inv.table k)) (c.sound-entered.ensures []) c.if-entered-ne0.false in let w = passed in record { n_in_bounds = (w.finds.lent 0).stored.room; keys_value = (w.finds.lent 0).stored.rises }
+    let passed : Passed lent_at c.args.saved c.sound-entered.result keys leasts =
+      has-passed lent_at c.args.saved fits (λ k. omega (arith, c.type_inv.table k)) (c.sound-entered.ensures []) c.if-entered-ne0.false in
+    let w = passed in record { n_in_bounds = (w.finds.lent 0).stored.room; keys_value = (w.finds.lent 0).stored.rises }
 
 pub upper-high-requires : goal.upper-high-requires
 upper-high-requires c =
@@ -95,9 +99,9 @@ upper-high-requires c =
     let fits : both_tables_fit (lengths_of lent_at) ≡ true = sym c.both_fit.ensures ∙ c.if-not-both_fit.false in
     let keys : List ℕ = c.sound-entered.new.keys in
     let leasts : List ℕ = c.sound-entered.new.leasts in
-    let passed : Passed lent_at c.args.saved c.sound-entered.result keys leasts = has-passed lent_at c.args.saved fits (λ k. omega (arith, c.type_inv.table k)) (c.sound-entered.ensures []) c.if-entered-ne0.false in let w = passed in record { n_in_bounds = (w.finds.lent 0).stored.room; keys_value = (w.finds.lent 0).stored.rises }
-
--- ?? -- ── where its keys are found ────────────────────────────────────────────────────────────────
+    let passed : Passed lent_at c.args.saved c.sound-entered.result keys leasts =
+      has-passed lent_at c.args.saved fits (λ k. omega (arith, c.type_inv.table k)) (c.sound-entered.ensures []) c.if-entered-ne0.false in
+    let w = passed in record { n_in_bounds = (w.finds.lent 0).stored.room; keys_value = (w.finds.lent 0).stored.rises }
 
 pub slice_bounds-publish_keys-count : goal.slice_bounds-publish_keys-count
 slice_bounds-publish_keys-count c =
@@ -105,8 +109,11 @@ slice_bounds-publish_keys-count c =
     let fits : both_tables_fit (lengths_of lent_at) ≡ true = sym c.both_fit.ensures ∙ c.if-not-both_fit.false in
     let keys : List ℕ = c.sound-entered.new.keys in
     let leasts : List ℕ = c.sound-entered.new.leasts in
-    let passed : Passed lent_at c.args.saved c.sound-entered.result keys leasts = has-passed lent_at c.args.saved fits (λ k. omega (arith, c.type_inv.table k)) (c.sound-entered.ensures []) c.if-entered-ne0.false in
-    let own : Stretch c.args.table.now keys c.args.graph c.lower-low.result c.upper-high.result passed.found.state.store = graph-stretch passed c.args.graph c.lower-low.ensures.splits c.upper-high.ensures.splits in omega (arith, own.ordered)
+    let passed : Passed lent_at c.args.saved c.sound-entered.result keys leasts =
+      has-passed lent_at c.args.saved fits (λ k. omega (arith, c.type_inv.table k)) (c.sound-entered.ensures []) c.if-entered-ne0.false in
+    let own : Stretch c.args.table.now keys c.args.graph c.lower-low.result c.upper-high.result passed.found.state.store =
+      graph-stretch passed c.args.graph c.lower-low.ensures.splits c.upper-high.ensures.splits in
+    omega (arith, own.ordered)
 
 pub slice_bounds-keys-start : goal.slice_bounds-keys-start
 slice_bounds-keys-start c =
@@ -114,8 +121,11 @@ slice_bounds-keys-start c =
     let fits : both_tables_fit (lengths_of lent_at) ≡ true = sym c.both_fit.ensures ∙ c.if-not-both_fit.false in
     let keys : List ℕ = c.sound-entered.new.keys in
     let leasts : List ℕ = c.sound-entered.new.leasts in
-    let passed : Passed lent_at c.args.saved c.sound-entered.result keys leasts = has-passed lent_at c.args.saved fits (λ k. omega (arith, c.type_inv.table k)) (c.sound-entered.ensures []) c.if-entered-ne0.false in
-    let own : Stretch c.args.table.now keys c.args.graph c.lower-low.result c.upper-high.result passed.found.state.store = graph-stretch passed c.args.graph c.lower-low.ensures.splits c.upper-high.ensures.splits in omega (arith, own.ordered, own.within)
+    let passed : Passed lent_at c.args.saved c.sound-entered.result keys leasts =
+      has-passed lent_at c.args.saved fits (λ k. omega (arith, c.type_inv.table k)) (c.sound-entered.ensures []) c.if-entered-ne0.false in
+    let own : Stretch c.args.table.now keys c.args.graph c.lower-low.result c.upper-high.result passed.found.state.store =
+      graph-stretch passed c.args.graph c.lower-low.ensures.splits c.upper-high.ensures.splits in
+    omega (arith, own.ordered, own.within)
 
 pub slice_bounds-keys-end : goal.slice_bounds-keys-end
 slice_bounds-keys-end c =
@@ -123,8 +133,11 @@ slice_bounds-keys-end c =
     let fits : both_tables_fit (lengths_of lent_at) ≡ true = sym c.both_fit.ensures ∙ c.if-not-both_fit.false in
     let keys : List ℕ = c.sound-entered.new.keys in
     let leasts : List ℕ = c.sound-entered.new.leasts in
-    let passed : Passed lent_at c.args.saved c.sound-entered.result keys leasts = has-passed lent_at c.args.saved fits (λ k. omega (arith, c.type_inv.table k)) (c.sound-entered.ensures []) c.if-entered-ne0.false in
-    let own : Stretch c.args.table.now keys c.args.graph c.lower-low.result c.upper-high.result passed.found.state.store = graph-stretch passed c.args.graph c.lower-low.ensures.splits c.upper-high.ensures.splits in omega (arith, own.ordered, own.within)
+    let passed : Passed lent_at c.args.saved c.sound-entered.result keys leasts =
+      has-passed lent_at c.args.saved fits (λ k. omega (arith, c.type_inv.table k)) (c.sound-entered.ensures []) c.if-entered-ne0.false in
+    let own : Stretch c.args.table.now keys c.args.graph c.lower-low.result c.upper-high.result passed.found.state.store =
+      graph-stretch passed c.args.graph c.lower-low.ensures.splits c.upper-high.ensures.splits in
+    omega (arith, own.ordered, own.within)
 
 pub publish_keys-requires : goal.publish_keys-requires
 publish_keys-requires c =
@@ -132,8 +145,11 @@ publish_keys-requires c =
     let fits : both_tables_fit (lengths_of lent_at) ≡ true = sym c.both_fit.ensures ∙ c.if-not-both_fit.false in
     let keys : List ℕ = c.sound-entered.new.keys in
     let leasts : List ℕ = c.sound-entered.new.leasts in
-    let passed : Passed lent_at c.args.saved c.sound-entered.result keys leasts = has-passed lent_at c.args.saved fits (λ k. omega (arith, c.type_inv.table k)) (c.sound-entered.ensures []) c.if-entered-ne0.false in
-    let own : Stretch c.args.table.now keys c.args.graph c.lower-low.result c.upper-high.result passed.found.state.store = graph-stretch passed c.args.graph c.lower-low.ensures.splits c.upper-high.ensures.splits in let w = own in record { keys_value = w.inside; keys_len_bound = w.few }
+    let passed : Passed lent_at c.args.saved c.sound-entered.result keys leasts =
+      has-passed lent_at c.args.saved fits (λ k. omega (arith, c.type_inv.table k)) (c.sound-entered.ensures []) c.if-entered-ne0.false in
+    let own : Stretch c.args.table.now keys c.args.graph c.lower-low.result c.upper-high.result passed.found.state.store =
+      graph-stretch passed c.args.graph c.lower-low.ensures.splits c.upper-high.ensures.splits in
+    let w = own in record { keys_value = w.inside; keys_len_bound = w.few }
 
 pub returns : goal.returns
 returns c =
@@ -141,9 +157,11 @@ returns c =
     let fits : both_tables_fit (lengths_of lent_at) ≡ true = sym c.both_fit.ensures ∙ c.if-not-both_fit.false in
     let keys : List ℕ = c.sound-entered.new.keys in
     let leasts : List ℕ = c.sound-entered.new.leasts in
-    let passed : Passed lent_at c.args.saved c.sound-entered.result keys leasts = has-passed lent_at c.args.saved fits (λ k. omega (arith, c.type_inv.table k)) (c.sound-entered.ensures []) c.if-entered-ne0.false in
+    let passed : Passed lent_at c.args.saved c.sound-entered.result keys leasts =
+      has-passed lent_at c.args.saved fits (λ k. omega (arith, c.type_inv.table k)) (c.sound-entered.ensures []) c.if-entered-ne0.false in
     let listed : is_in c.args.graph passed.found.state.store.fetched ≡ true = sym (listed-is passed c.args.graph c.is_listed.ensures) ∙ c.if-not-is_listed.false in
-    let own : Stretch c.args.table.now keys c.args.graph c.lower-low.result c.upper-high.result passed.found.state.store = graph-stretch passed c.args.graph c.lower-low.ensures.splits c.upper-high.ensures.splits in
+    let own : Stretch c.args.table.now keys c.args.graph c.lower-low.result c.upper-high.result passed.found.state.store =
+      graph-stretch passed c.args.graph c.lower-low.ensures.splits c.upper-high.ensures.splits in
     let w = passed in
     λ ranks. ranks-unread ranks [] _ _ _ _ _ _ _ _
     ∙ (of-page lent_at c.args.saved c.args.graph c.args.out.now w.fits w.found w.passes listed own.page ∙ c.publish_keys.ensures)

@@ -33,7 +33,7 @@ put_refused-requires c =
 
 pub returns-then-not-read : goal.returns-then-not-read
 returns-then-not-read c =
-    let c₅ = start c in record { written = written_as c.put_refused.ensures.written (no-saved _ _ _ c₅.args.tuples.now (read_none _ _ c.read_saved-read.ensures (ap not c.if-not-read.true)) c.unread_number.ensures); upper_bound = omega (arith, c.put_refused.ensures.upper_bound, c₅.pre.1.1.1) }
+    record { written = written_as c.put_refused.ensures.written (no-saved _ _ _ c.args.tuples.now (read_none _ _ c.read_saved-read.ensures (ap not c.if-not-read.true)) c.unread_number.ensures); upper_bound = omega (arith, c.put_refused.ensures.upper_bound, c.requires.line_room_in_bounds) }
 
 pub put_refused-requires-then-found-ne0 : goal.put_refused-requires-then-found-ne0
 put_refused-requires-then-found-ne0 c =
@@ -41,10 +41,10 @@ put_refused-requires-then-found-ne0 c =
 
 pub returns-then-found-ne0 : goal.returns-then-found-ne0
 returns-then-found-ne0 c =
-    let c₆ = start c in record {
+    record {
       written = written_as c.put_refused-then-found-ne0.ensures.written
-          (not_in _ _ _ c₆.args.tuples.now c₆.pre.0 _ (read_some _ _ c.read_saved-read.ensures (ap not c.if-not-read.false)) (not_entered c.enter-found.ensures c.if-found-ne0.true));
-      upper_bound = omega (arith, c.put_refused-then-found-ne0.ensures.upper_bound, c₆.pre.1.1.1);
+          (not_in _ _ _ c.args.tuples.now c.requires.t _ (read_some _ _ c.read_saved-read.ensures (ap not c.if-not-read.false)) (not_entered c.enter-found.ensures c.if-found-ne0.true));
+      upper_bound = omega (arith, c.put_refused-then-found-ne0.ensures.upper_bound, c.requires.line_room_in_bounds);
     }
 
 pub put_refused-requires-then-not-is_date_time : goal.put_refused-requires-then-not-is_date_time
@@ -53,12 +53,11 @@ put_refused-requires-then-not-is_date_time c =
 
 pub returns-then-not-is_date_time : goal.returns-then-not-is_date_time
 returns-then-not-is_date_time c =
-    let c₈ = start c in
     let x = entered c.enter-found.ensures c.if-found-ne0.false in record {
       written = written_as c.put_refused-then-not-is_date_time.ensures.written
-          (bad-now _ _ _ c₈.args.tuples.now c₈.pre.0 _ (read_some _ _ c.read_saved-read.ensures (ap not c.if-not-read.false))
+          (bad-now _ _ _ c.args.tuples.now c.requires.t _ (read_some _ _ c.read_saved-read.ensures (ap not c.if-not-read.false))
           x.0 x.1 (sym c.is_date_time.ensures ∙ c.if-not-is_date_time.true));
-      upper_bound = omega (arith, c.put_refused-then-not-is_date_time.ensures.upper_bound, c₈.pre.1.1.1);
+      upper_bound = omega (arith, c.put_refused-then-not-is_date_time.ensures.upper_bound, c.requires.line_room_in_bounds);
     }
 
 pub canonical_control-clean-requires : goal.canonical_control-clean-requires
@@ -70,21 +69,21 @@ put_lines-requires c =
     let marks : length c.read_saved-read.result.saved.control.bound ≡ variable_limit = search rules in
     let graphs : length c.read_saved-read.result.saved.store.fetched ≡ graph_limit = search rules in
     let levels : length c.read_saved-read.result.saved.control.items ≡ depth_limit = search (length-mapped, rules) in
-    let c₇ = start c in
-    let x = entered c.enter-found.ensures c.if-found-ne0.false in let whole = (
-      lends-now _ _ _ _ _ _ _ x.0 x.1 _ _ _ x.2 marks graphs levels _ c.canonical_control-clean.ensures c₇.args.clock
-          (sym c.is_date_time.ensures ∙ c.if-not-is_date_time.false),
-      (script-short _ _ _ _ _ _ _ x.0 x.1, c₇.pre.1.1),
-    ) in record { lends = whole.0; script_len_bound = whole.1.0; tuple_width_in_bounds = whole.1.1.0; line_room_in_bounds = whole.1.1.1 }
+    let x = entered c.enter-found.ensures c.if-found-ne0.false in record {
+      lends = lends-now _ _ _ _ _ _ _ x.0 x.1 _ _ _ x.2 marks graphs levels _ c.canonical_control-clean.ensures c.args.clock
+          (sym c.is_date_time.ensures ∙ c.if-not-is_date_time.false);
+      script_len_bound = script-short _ _ _ _ _ _ _ x.0 x.1;
+      tuple_width_in_bounds = c.requires.tuple_width_in_bounds;
+      line_room_in_bounds = c.requires.line_room_in_bounds;
+    }
 
 pub returns : goal.returns
 returns c =
     let marks : length c.read_saved-read.result.saved.control.bound ≡ variable_limit = search rules in
     let graphs : length c.read_saved-read.result.saved.store.fetched ≡ graph_limit = search rules in
     let levels : length c.read_saved-read.result.saved.control.items ≡ depth_limit = search (length-mapped, rules) in
-    let c₉ = start c in
     let x = entered c.enter-found.ensures c.if-found-ne0.false in record {
-      written = lines_now _ _ _ _ _ _ _ x.0 x.1 _ _ _ x.2 marks graphs levels _ c.canonical_control-clean.ensures c₉.args.clock
-          (sym c.is_date_time.ensures ∙ c.if-not-is_date_time.false) _ (read_some _ _ c.read_saved-read.ensures (ap not c.if-not-read.false)) c₉.args.tuples.now c.put_lines.ensures.written;
+      written = lines_now _ _ _ _ _ _ _ x.0 x.1 _ _ _ x.2 marks graphs levels _ c.canonical_control-clean.ensures c.args.clock
+          (sym c.is_date_time.ensures ∙ c.if-not-is_date_time.false) _ (read_some _ _ c.read_saved-read.ensures (ap not c.if-not-read.false)) c.args.tuples.now c.put_lines.ensures.written;
       upper_bound = c.put_lines.ensures.upper_bound;
     }

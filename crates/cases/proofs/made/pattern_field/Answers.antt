@@ -1,8 +1,14 @@
 -- `cases::made::pattern_field` meets its contract, by the law of a copy.
+use mathlib.Core.List.{◌++◌}
+use mathlib.Core.Path.{ap}
+use lib.ListN.{length, drop, replicate}
+use Prim.Native.Nat.{ℕ}
+use mathlib.Core.List.{List}
 use Rattle.cases.proofs.MadeLaws.{field-filled}
-use borrow.Author.Rules.{rules}
 use Rattle.definitions.specs.Limits.{pattern_width}
 use Rattle.cases.proofs.made.pattern_field.Goals as goal
 
 pub returns : goal.returns
-returns c = field-filled pattern_width c.args.pattern.now c.copy_from_slice.new.self c.copy_from_slice.ensures.after
+returns c =
+    field-filled pattern_width c.args.pattern.now _
+    (ap (λ (l : List ℕ). l ++ drop (length c.args.pattern.now) (replicate pattern_width 0)) c.copy_from_slice.ensures.after)

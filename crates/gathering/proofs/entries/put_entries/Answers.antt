@@ -24,7 +24,7 @@ put_entry-at-requires c = record {
 pub loop-i-preserved : goal.loop-i-preserved
 loop-i-preserved c = (
   omega (arith, c.loop-i-test.true),
-  omega (arith, ⟪c₁.put-entry.auto⟫, c.loop-i.invariant.1),
+  omega (arith, c.loop-i.invariant.1),
   λ all h. putting-next _ _ _ h _ _ _ _ (c.loop-i.invariant.2 all h) c.loop-i-test.true
       c.number_index-field.ensures (omega (arith, c.number_index-field.ensures, h.within c.loop-i.i c.loop-i-test.true)) c.put_entry-at.ensures,
 )

@@ -39,7 +39,7 @@ unfolding saved_bytes
 returns c =
     let types-length : length c.args.run.control.types ≡ 16 = search rules in
     let a = put-part {old = c.args.out.now} c.write_words.new.out 6 put-none (omega arith) (omega (arith, c.requires)) c.write_words.auto.out in
-    let b = put-part c.copy_from_slice.new.self 22 a (omega arith) (omega (arith, c.requires)) c.copy_from_slice.auto.src in
+    let b = put-part c.copy_from_slice.new.self 22 a (omega arith) (omega (arith, c.requires)) c.copy_from_slice.auto.self in
     let d = put-part c.write_marks.new.out 38 b (omega arith) (omega (arith, c.requires)) c.write_marks.auto.out in
     let e = put-part c.write_words-2.new.out 70 d (omega arith) (omega (arith, c.requires)) c.write_words-2.auto.out in
     let f = put-part c.write_words-3.new.out 198 e (omega arith) (omega (arith, c.requires)) c.write_words-3.auto.out in

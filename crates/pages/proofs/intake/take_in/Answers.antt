@@ -18,7 +18,7 @@ returns-then-not-graph_fits c =
     (graphs-over S c.args.graph rs σ (no_room c.args.lent.now c.args.stored.now c.args.n c.args.store σ h c.args.graph (sym c.graph_fits.ensures ∙ c.if-not-graph_fits.true)))
 
 pub take_copies-end-requires : goal.take_copies-end-requires
-take_copies-end-requires c = record { page_reads = c.requires.page_reads; page_len_bound = c.requires.page_len_bound; reads = c.requires.reads; held = (σ.0.terms, σ.1.terms); terms_len = length-replicate {A = ℕ} term_table_width 0; keys_len = length-replicate {A = ℕ} record_limit 0 }
+take_copies-end-requires c = record { page_reads = c.requires.page_reads; page_len_bound = c.requires.page_len_bound; reads = c.requires.reads; held = (c.requires.held_tables.0.terms, c.requires.held_tables.1.terms); terms_len = length-replicate {A = ℕ} term_table_width 0; keys_len = length-replicate {A = ℕ} record_limit 0 }
 
 pub returns-then-end-gt-TERM_LIMIT : goal.returns-then-end-gt-TERM_LIMIT
 returns-then-end-gt-TERM_LIMIT c =
@@ -26,7 +26,7 @@ returns-then-end-gt-TERM_LIMIT c =
     c.args.stored.now _ _ _ (took_of S c.args.graph rs σ c.args.lent.now c.args.stored.now c.args.n c.args.store h _ _ _ (λ ts o. c.take_copies-end.ensures.took S rs ts o e r)) c.if-end-gt-TERM_LIMIT.true)
 
 pub put_in_order-count-requires : goal.put_in_order-count-requires
-put_in_order-count-requires c = record { held_some = (σ.0.quads, σ.1.quads); m_le_record_limit = (c.take_copies-end.ensures.keys_le_record_limit, omega (arith, ⟪c₁.take-copies.auto⟫, length-replicate {A = ℕ} record_limit 0), length-replicate {A = ℕ} gathered_limit 0) }
+put_in_order-count-requires c = record { held_some = (c.requires.held_tables.0.quads, c.requires.held_tables.1.quads); m_le_record_limit = (c.take_copies-end.ensures.keys_le_record_limit, omega (arith, c.take_copies-end.auto.keys, length-replicate {A = ℕ} record_limit 0), length-replicate {A = ℕ} gathered_limit 0) }
 
 pub returns-then-count-gt-QUAD_LIMIT : goal.returns-then-count-gt-QUAD_LIMIT
 returns-then-count-gt-QUAD_LIMIT c =
@@ -35,7 +35,7 @@ returns-then-count-gt-QUAD_LIMIT c =
     (λ after k. c.put_in_order-count.ensures.value σ.quads after h.quads k) c.if-count-gt-QUAD_LIMIT.true)
 
 pub write_keys-requires : goal.write_keys-requires
-write_keys-requires c = record { count_in_bounds = omega (arith, c.put_in_order-count.ensures.upper_bound, ⟪c₂.put-in-order.auto⟫, length-replicate {A = ℕ} gathered_limit 0); count_le_quad_limit = c.if-count-gt-QUAD_LIMIT.false; table_value = empty-table }
+write_keys-requires c = record { count_in_bounds = omega (arith, c.put_in_order-count.ensures.upper_bound, c.put_in_order-count.auto.keys, length-replicate {A = ℕ} gathered_limit 0); count_le_quad_limit = c.if-count-gt-QUAD_LIMIT.false; table_value = empty-table }
 
 pub with_page-after-requires : goal.with_page-after-requires
 with_page-after-requires c = record { graphs_le_graph_limit = c.requires.held_tables.1.graphs; graph_value = sym c.graph_fits.ensures ∙ c.if-not-graph_fits.false }

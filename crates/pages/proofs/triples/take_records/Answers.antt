@@ -39,7 +39,7 @@ shape_of-keys-then-counts-gt-TERM_LIMIT c =
 pub returns-then-counts-gt-TERM_LIMIT : goal.returns-then-counts-gt-TERM_LIMIT
 returns-then-counts-gt-TERM_LIMIT c =
     let l = c.loop-at.invariant.6 c.requires.reads.0 c.requires.page_reads.0 c.requires.held_both.0 c.requires.held_both.1 c.requires.reads.1 c.requires.page_reads.1 c.requires.held_both.2 in
-    let x = here-at _ _ _ _ _ _ _ _ _ l c.loop-at-test.true _ c.next_record-next.ensures in record { took = (λ S rs o c.requires.held_both e r h. let l = c.loop-at.invariant.6 S rs o c.requires.held_both e r h in
+    let x = here-at _ _ _ _ _ _ _ _ _ l c.loop-at-test.true _ c.next_record-next.ensures in record { took = (λ S rs o k e r h. let l = c.loop-at.invariant.6 S rs o k e r h in
           left-terms _ _ _ _ _ _ _ _ _ l c.loop-at-test.true _ _ _ (c.take_record-counts.ensures.took S _ o _ e (here-at _ _ _ _ _ _ _ _ _ l c.loop-at-test.true _ c.next_record-next.ensures)
           l.holds) c.if-counts-gt-TERM_LIMIT.true); keys_le_record_limit = omega (arith, c.take_record-counts.ensures.keys_bound, c.loop-at.invariant.2, record-long _ _ _ _ x, x.fits, c.requires.page_len_bound) }
 
@@ -58,9 +58,9 @@ loop-at-preserved c =
       omega (arith, e, z.farther, c.take_record-counts.ensures.skipped_bound, c.loop-at.invariant.1),
       omega (arith, c.take_record-counts.ensures.keys_bound, c.loop-at.invariant.2, record-long _ _ _ _ x),
       w.term_width,
-      omega (arith, c.loop-at.invariant.4, ⟪c₁.take-record.auto⟫),
+      omega (arith, c.loop-at.invariant.4, c.take_record-counts.auto.keys),
       c.take_record-counts.ensures.held_hashes_2,
-      λ S rs o c.requires.held_both e r h. let l = c.loop-at.invariant.6 S rs o c.requires.held_both e r h in
+      λ S rs o k e r h. let l = c.loop-at.invariant.6 S rs o k e r h in
           left-next _ _ _ _ _ _ _ _ _ l c.loop-at-test.true _ _ _ (c.take_record-counts.ensures.took S _ o _ e (here-at _ _ _ _ _ _ _ _ _ l c.loop-at-test.true _ c.next_record-next.ensures)
           l.holds) _ c.next_record-next.ensures c.if-counts-gt-TERM_LIMIT.false,
     )

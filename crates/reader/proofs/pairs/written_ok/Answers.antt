@@ -1,6 +1,5 @@
 -- `reader::pairs::written_ok` meets its contract.
 use native.Mathlib.Omega.{arith}
-use borrow.Author.Rules.{zero≤}
 use Rattle.definitions.specs.Bytes.{onward}
 use Rattle.definitions.specs.Reading.{written_of}
 use Rattle.reader.proofs.PairLaws.{written-yes, written-no, written-above}
@@ -8,7 +7,7 @@ use Rattle.reader.proofs.pairs.written_ok.Goals as goal
 
 pub returns-in-0-to-5 : goal.returns-in-0-to-5
 unfolding written_of onward
-returns-in-0-to-5 c = written-yes 0 6 c.args.code tt zero≤ (omega arith)
+returns-in-0-to-5 c = written-yes 0 6 c.args.code tt (omega arith) (omega arith)
 
 pub returns-in-9-to-13 : goal.returns-in-9-to-13
 unfolding written_of onward

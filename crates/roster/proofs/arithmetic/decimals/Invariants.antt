@@ -3,7 +3,7 @@ use borrow.Author.Rules.{rules}
 use Rattle.roster.proofs.arithmetic.decimals.Given as goal
 
 abbrev pub invariant-loop-i : goal.invariant-loop-i
-invariant-loop-i l = l.i ≤ 15
+invariant-loop-i g l = l.i ≤ 15
 
 abbrev pub decreases-loop-i : goal.decreases-loop-i
-decreases-loop-i l = 15 - l.i
+decreases-loop-i g l = 15 - l.i

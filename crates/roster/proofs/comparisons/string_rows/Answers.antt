@@ -6,7 +6,7 @@ use borrow.Author.Rules.{rules}
 use Rattle.roster.proofs.comparisons.string_rows.Goals as goal
 
 pub loop-at-smaller : goal.loop-at-smaller
-loop-at-smaller c =
+loop-at-smaller g c =
     omega (
       arith,
       c.word_end-first_end.ensures,

@@ -3,7 +3,7 @@ use borrow.Author.Rules.{rules}
 use Rattle.roster.proofs.dates.cases.Given as goal
 
 abbrev pub invariant-loop-i : goal.invariant-loop-i
-invariant-loop-i l = l.i ≤ 35
+invariant-loop-i g l = l.i ≤ 35
 
 abbrev pub decreases-loop-i : goal.decreases-loop-i
-decreases-loop-i l = 35 - l.i
+decreases-loop-i g l = 35 - l.i

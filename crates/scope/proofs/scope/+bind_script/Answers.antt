@@ -11,49 +11,49 @@ use Rattle.scope.proofs.scope.+bind_script.Goals as goal
 
 pub after_name-next-requires : goal.after_name-next-requires
 after_name-next-requires t c =
-    let here : ScriptAt t c.args.script.now c.args.terms c.args.left c.args.at = script-at _ _ _ _ _ c.requires.0 c.requires.1 in (here.from_named c.in-114.is).first
+    let here : ScriptAt t c.args.script.now c.args.terms c.args.left c.args.at = script-at _ _ _ _ _ c.decreases c.requires in (here.from_named c.in-114.is).first
 
 pub bind_script-requires : goal.bind_script-requires
 bind_script-requires t c =
-    let here : ScriptAt t c.args.script.now c.args.terms c.args.left c.args.at = script-at _ _ _ _ _ c.requires.0 c.requires.1 in let n = here.from_named c.in-114.is in (n.falls, n.second c.after_name-next.ensures)
+    let here : ScriptAt t c.args.script.now c.args.terms c.args.left c.args.at = script-at _ _ _ _ _ c.decreases c.requires in let n = here.from_named c.in-114.is in (n.falls, n.second c.after_name-next.ensures)
 
 pub bind_pairs-pairs-requires : goal.bind_pairs-pairs-requires
-bind_pairs-pairs-requires t c = pairs-at _ _ _ _ c.requires.1 c.in-115.is
+bind_pairs-pairs-requires t c = pairs-at _ _ _ _ c.requires c.in-115.is
 
 pub overflow_add-at : goal.overflow_add-at
 overflow_add-at t c =
-    let here : ScriptAt t c.args.script.now c.args.terms c.args.left c.args.at = script-at _ _ _ _ _ c.requires.0 c.requires.1 in omega (arith, here.block c.in-115.is)
+    let here : ScriptAt t c.args.script.now c.args.terms c.args.left c.args.at = script-at _ _ _ _ _ c.decreases c.requires in omega (arith, here.block c.in-115.is)
 
 pub after_query-next-requires : goal.after_query-next-requires
 after_query-next-requires t c =
-    let here : ScriptAt t c.args.script.now c.args.terms c.args.left c.args.at = script-at _ _ _ _ _ c.requires.0 c.requires.1 in (here.block c.in-115.is).parts.first
+    let here : ScriptAt t c.args.script.now c.args.terms c.args.left c.args.at = script-at _ _ _ _ _ c.decreases c.requires in (here.block c.in-115.is).parts.first
 
 pub bind_script-requires-in-115 : goal.bind_script-requires-in-115
 bind_script-requires-in-115 t c =
-    let here : ScriptAt t c.args.script.now c.args.terms c.args.left c.args.at = script-at _ _ _ _ _ c.requires.0 c.requires.1 in let n = here.block c.in-115.is in (n.parts.falls, n.parts.second c.after_query-next.ensures)
+    let here : ScriptAt t c.args.script.now c.args.terms c.args.left c.args.at = script-at _ _ _ _ _ c.decreases c.requires in let n = here.block c.in-115.is in (n.parts.falls, n.parts.second c.after_query-next.ensures)
 
 pub bind_script-a-requires : goal.bind_script-a-requires
 bind_script-a-requires t c =
-    let here : ScriptAt t c.args.script.now c.args.terms c.args.left c.args.at = script-at _ _ _ _ _ c.requires.0 c.requires.1 in let n = here.sequence c.in_default.in_default-own.rest in (n.falls, n.first)
+    let here : ScriptAt t c.args.script.now c.args.terms c.args.left c.args.at = script-at _ _ _ _ _ c.decreases c.requires in let n = here.sequence c.in_default.in_default-own.rest in (n.falls, n.first)
 
 pub bind_script-requires-in_default : goal.bind_script-requires-in_default
 bind_script-requires-in_default t c =
-    let here : ScriptAt t c.args.script.now c.args.terms c.args.left c.args.at = script-at _ _ _ _ _ c.requires.0 c.requires.1 in let n = here.sequence c.in_default.in_default-own.rest in (n.falls, n.second c.bind_script-a.ensures)
+    let here : ScriptAt t c.args.script.now c.args.terms c.args.left c.args.at = script-at _ _ _ _ _ c.decreases c.requires in let n = here.sequence c.in_default.in_default-own.rest in (n.falls, n.second c.bind_script-a.ensures)
 
 pub returns-in-113 : goal.returns-in-113
 unfolding binders_of bind_all
 returns-in-113 t c =
-    let here : ScriptAt t c.args.script.now c.args.terms c.args.left c.args.at = script-at _ _ _ _ _ c.requires.0 c.requires.1 in leaf_walked (here.success c.in-113.is) refl
+    let here : ScriptAt t c.args.script.now c.args.terms c.args.left c.args.at = script-at _ _ _ _ _ c.decreases c.requires in leaf_walked (here.success c.in-113.is) refl
 
 pub returns-in-114 : goal.returns-in-114
 unfolding binders_of
 returns-in-114 t c =
-    let here : ScriptAt t c.args.script.now c.args.terms c.args.left c.args.at = script-at _ _ _ _ _ c.requires.0 c.requires.1 in (here.from_named c.in-114.is).node c.after_name-next.ensures c.bind_script.ensures (λ n d u h. h)
+    let here : ScriptAt t c.args.script.now c.args.terms c.args.left c.args.at = script-at _ _ _ _ _ c.decreases c.requires in (here.from_named c.in-114.is).node c.after_name-next.ensures c.bind_script.ensures (λ n d u h. h)
 
 pub returns-in-115 : goal.returns-in-115
 unfolding binders_of
 returns-in-115 t c =
-    let here : ScriptAt t c.args.script.now c.args.terms c.args.left c.args.at = script-at _ _ _ _ _ c.requires.0 c.requires.1 in
+    let here : ScriptAt t c.args.script.now c.args.terms c.args.left c.args.at = script-at _ _ _ _ _ c.decreases c.requires in
     let n = here.block c.in-115.is in
     n.parts.node c.after_query-next.ensures c.bind_script-in-115.ensures
     (λ q d u. block-binds c.args.script.now c.args.at n.binders n.listed c.args.bound (binders_of d) c.bind_pairs-pairs.ensures)
@@ -61,18 +61,18 @@ returns-in-115 t c =
 pub returns-in_default : goal.returns-in_default
 unfolding binders_of
 returns-in_default t c =
-    let here : ScriptAt t c.args.script.now c.args.terms c.args.left c.args.at = script-at _ _ _ _ _ c.requires.0 c.requires.1 in
+    let here : ScriptAt t c.args.script.now c.args.terms c.args.left c.args.at = script-at _ _ _ _ _ c.decreases c.requires in
     (here.sequence c.in_default.in_default-own.rest).node c.bind_script-a.ensures c.bind_script-in_default.ensures
     (λ a d. two-binds c.args.bound (binders_of a) (binders_of d))
 
 pub bounds-script-at : goal.bounds-script-at
 bounds-script-at t c =
-    let here : ScriptAt t c.args.script.now c.args.terms c.args.left c.args.at = script-at _ _ _ _ _ c.requires.0 c.requires.1 in here.inside
+    let here : ScriptAt t c.args.script.now c.args.terms c.args.left c.args.at = script-at _ _ _ _ _ c.decreases c.requires in here.inside
 
 pub overflow_add-first : goal.overflow_add-first
 overflow_add-first t c =
-    let here : ScriptAt t c.args.script.now c.args.terms c.args.left c.args.at = script-at _ _ _ _ _ c.requires.0 c.requires.1 in omega (arith, here.inside)
+    let here : ScriptAt t c.args.script.now c.args.terms c.args.left c.args.at = script-at _ _ _ _ _ c.decreases c.requires in omega (arith, here.inside)
 
 pub overflow_sub-below : goal.overflow_sub-below
 overflow_sub-below t c =
-    let here : ScriptAt t c.args.script.now c.args.terms c.args.left c.args.at = script-at _ _ _ _ _ c.requires.0 c.requires.1 in here.pos
+    let here : ScriptAt t c.args.script.now c.args.terms c.args.left c.args.at = script-at _ _ _ _ _ c.decreases c.requires in here.pos

@@ -10,85 +10,78 @@ use Rattle.search.specs.Finding.{World}
 use Rattle.search.proofs.FindLaws.{loads-here, lent-here, few-terms, LevelFrom, level-starts, find-test, find_past, find_none, find-skip, find-on, find-hit}
 use Rattle.search.proofs.find.+find.Goals as goal
 
--- ?? helper: abbrev find-Inv-loop : lts.invariant-loop
--- ?? find-Inv-loop script ends context block parts ranks table quads leasts k lo known at size count v from₀ from =
--- ??     (lo ≤ from) × ((w : World script ranks table quads leasts context block) (below : k < block.size) → LevelFrom w known k below lo from)
-
--- ?? helper: abbrev find-μ-loop : lts.decreases-loop
--- ?? find-μ-loop script ends context block parts ranks table quads leasts k lo known at size count v from₀ from = count - from
-
 pub eval_query-t-requires : goal.eval_query-t-requires
 eval_query-t-requires t c =
-    let sixteen : length c.args.known ≡ 16 = search rules in record { loads = loads-here c.requires.ends_lent; ranks_lent = lent-here c.requires.ends_lent _ sixteen; ends_lent = c.requires.parted.0; stored = c.requires.ends_lent.lent.stored }
+    let sixteen : length c.args.known ≡ 16 = search rules in record { loads = loads-here c.requires.world; ranks_lent = lent-here c.requires.world _ sixteen; ends_lent = c.requires.ends_lent; stored = c.requires.world.lent.stored }
 
 pub returns-then-size-k : goal.returns-then-size-k
 returns-then-size-k t c = record { find_of = λ w. find-test w _ _ c.if-size-k.true _ _ c.eval_query-t.ensures.walked; tuple_len = refl }
 
 pub offset_bounds-vars-k : goal.offset_bounds-vars-k
-offset_bounds-vars-k t c = omega (arith, c.requires.ends_lent.size, c.if-size-k.false)
+offset_bounds-vars-k t c = omega (arith, c.requires.world.size, c.if-size-k.false)
 
 pub bounds-vars-k : goal.bounds-vars-k
-bounds-vars-k t c = omega (arith, c.requires.ends_lent.size, c.if-size-k.false)
+bounds-vars-k t c = omega (arith, c.requires.world.size, c.if-size-k.false)
 
 pub loop-from-init : goal.loop-from-init
 loop-from-init t c = (omega arith, λ w below. level-starts w _ _ below _)
 
 pub next-i-requires : goal.next-i-requires
 next-i-requires t c =
-    let sixteen : length c.args.known ≡ 16 = search rules in record { world = c.requires.ends_lent; ends_lent = c.requires.parted.0; parted = c.requires.parted.1; known_len = sixteen; k_lt_size = c.if-size-k.false }
+    let sixteen : length c.args.known ≡ 16 = search rules in record { world = c.requires.world; ends_lent = c.requires.ends_lent; parted = c.requires.parted; known_len = sixteen; k_lt_size = c.if-size-k.false }
 
 pub returns-then-count-i : goal.returns-then-count-i
 returns-then-count-i t c = record { find_of = λ w. find_none w _ _ c.if-size-k.false _ _ (c.loop-from.invariant.1 w c.if-size-k.false) _ (c.next-i.ensures w) c.if-count-i.true _ c.nothing.ensures.0; tuple_len = c.nothing.ensures.1 }
 
 pub offset_bounds-with-v : goal.offset_bounds-with-v
 offset_bounds-with-v t c =
-    omega (arith, c.requires.ends_lent.small c.args.k)
+    omega (arith, c.requires.world.small c.args.k)
 
 pub bounds-with-v : goal.bounds-with-v
-bounds-with-v t c = c.requires.ends_lent.small _
+bounds-with-v t c = c.requires.world.small _
 
 pub worth-requires : goal.worth-requires
-worth-requires t c = record { world = c.requires.ends_lent; ends_lent = c.requires.parted.0; parted = c.requires.parted.1; k_lt_size = c.if-size-k.false; number_lt_count = c.if-count-i.false }
+worth-requires t c = record { world = c.requires.world; ends_lent = c.requires.ends_lent; parted = c.requires.parted; k_lt_size = c.if-size-k.false; number_lt_count = c.if-count-i.false }
 
 pub overflow_add-k : goal.overflow_add-k
 overflow_add-k t c =
-    omega (arith, c.requires.ends_lent.size, c.if-size-k.false)
+    omega (arith, c.requires.world.size, c.if-size-k.false)
 
 pub find-r-requires : goal.find-r-requires
 find-r-requires t c =
-    (omega (arith, c.requires.world, c.if-size-k.false), (c.requires.ends_lent, c.requires.parted))
+    (omega (arith, c.if-size-k.false), (c.requires.world, (c.requires.ends_lent, c.requires.parted)))
 
 pub offset_bounds-tuple-k : goal.offset_bounds-tuple-k
 offset_bounds-tuple-k t c =
-    omega (arith, c.requires.ends_lent.size, c.if-size-k.false)
+    omega (arith, c.requires.world.size, c.if-size-k.false)
 
 pub bounds-tuple-k : goal.bounds-tuple-k
 bounds-tuple-k t c =
-    omega (arith, c.requires.ends_lent.size, c.if-size-k.false)
+    omega (arith, c.requires.world.size, c.if-size-k.false)
 
 pub returns-then-r : goal.returns-then-r
 returns-then-r t c =
     let sixteen : length c.args.known ≡ 16 = search rules in record {
-      find_of = λ w. find-hit w _ _ c.if-size-k.false _ _ (c.loop-from.invariant.1 w c.if-size-k.false) _ (c.next-i.ensures w) c.if-count-i.false (omega (arith, c.requires.ends_lent.small c.args.k, sixteen)) _ (c.find-r.ensures.find_of w) c.if-r.true
-          (omega (arith, c.loop-from.invariant.0, (c.next-i.ensures w).0, c.loop-from-test.true)) (omega (arith, c.find-r.ensures.tuple_len, c.requires.ends_lent.size, c.if-size-k.false));
+      find_of = λ w. find-hit w _ _ c.if-size-k.false _ _ (c.loop-from.invariant.1 w c.if-size-k.false) _ (c.next-i.ensures w) c.if-count-i.false (omega (arith, c.requires.world.small c.args.k, sixteen)) _ (c.find-r.ensures.find_of w) c.if-r.true
+          (omega (arith, c.loop-from.invariant.0, (c.next-i.ensures w).0, c.loop-from-test.true)) (omega (arith, c.find-r.ensures.tuple_len, c.requires.world.size, c.if-size-k.false));
       tuple_len = length-set c.find-r.result.tuple c.args.k c.next-i.result ∙ c.find-r.ensures.tuple_len;
     }
 
 pub overflow_add-from : goal.overflow_add-from
 overflow_add-from t c =
-    omega (arith, few-terms c.requires.ends_lent, c.if-count-i.false)
+    omega (arith, few-terms c.requires.world, c.if-count-i.false)
 
 pub loop-from-smaller : goal.loop-from-smaller
 loop-from-smaller t c =
-    omega (arith, (c.next-i.ensures c.requires.ends_lent).0, c.if-count-i.false, c.loop-from-test.true)
+    omega (arith, (c.next-i.ensures c.requires.world).0, c.if-count-i.false, c.loop-from-test.true)
 
 pub loop-from-preserved : goal.loop-from-preserved
 loop-from-preserved t c =
     let sixteen : length c.args.known ≡ 16 = search rules in (
-      omega (arith, c.loop-from.invariant.0, (c.next-i.ensures c.requires.ends_lent).0, c.loop-from-test.true),
+      omega (arith, c.loop-from.invariant.0, (c.next-i.ensures c.requires.world).0, c.loop-from-test.true),
       ⊎_elim
-          (λ h w below. find-on w _ _ below _ _ (c.loop-from.invariant.1 w below) _ (c.next-i.ensures w) c.if-count-i.false (omega (arith, c.requires.ends_lent.small c.args.k, sixteen)) _ (h.1.ensures.0 w) h.2.left)
-          (λ h w below. find-skip w _ _ below _ _ (c.loop-from.invariant.1 w below) _ (c.next-i.ensures w) c.if-count-i.false (omega (arith, c.requires.ends_lent.small c.args.k, sixteen)) (c.worth.ensures w) h.left)
+          (λ h w below. find-on w _ _ below _ _ (c.loop-from.invariant.1 w below) _ (c.next-i.ensures w) c.if-count-i.false (omega (arith, c.requires.world.small c.args.k, sixteen)) _ (h.1.ensures.0 w) h.2.left)
+          (λ h w below. find-skip w _ _ below _ _ (c.loop-from.invariant.1 w below) _ (c.next-i.ensures w) c.if-count-i.false (omega (arith, c.requires.world.small c.args.k, sixteen)) (c.worth.ensures w) h.left)
           c.if-worth.branch,
     )
 

@@ -10,7 +10,10 @@ pub push-point-requires : goal.push-point-requires
 push-point-requires c = omega (arith, c.sign-start.ensures.1, c.natural-whole.ensures.size, short-length 20 (c.amount-far.result / 1000000))
 
 pub fraction-requires : goal.fraction-requires
-fraction-requires c = let whole = omega (arith, c.sign-start.ensures.1, c.natural-whole.ensures.size, short-length 20 (c.amount-far.result / 1000000), c.push-point.ensures.size) in record { le_count = whole.0; count_bound = whole.1 }
+fraction-requires c = record {
+  le_count = omega (arith, c.sign-start.ensures.1, c.natural-whole.ensures.size, short-length 20 (c.amount-far.result / 1000000), c.push-point.ensures.size);
+  count_bound = omega (arith, c.sign-start.ensures.1, c.natural-whole.ensures.size, short-length 20 (c.amount-far.result / 1000000), c.push-point.ensures.size);
+}
 
 pub returns : goal.returns
 returns c =

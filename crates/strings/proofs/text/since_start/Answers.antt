@@ -9,7 +9,7 @@ unfolding within_limits
 sum-seconds-requires c = record { t = rw (plain c.args.n (date_time-decimal c.args.n c.requires)) (date_time-decimal c.args.n c.requires); t_2 = tt }
 
 pub overflow_cast-result : goal.overflow_cast-result
-overflow_cast-result c = since-fits c.args.n c.requires c.sum-seconds.result (record { sfits = c.sum-seconds.type-inv }) c.sum-seconds.ensures
+overflow_cast-result c = since-fits c.args.n c.requires c.sum-seconds.result (record { sfits = c.sum-seconds.type_inv }) c.sum-seconds.ensures
 
 pub returns : goal.returns
-returns c = since-is c.args.n c.requires c.sum-seconds.result (record { sfits = c.sum-seconds.type-inv }) c.sum-seconds.ensures
+returns c = since-is c.args.n c.requires c.sum-seconds.result (record { sfits = c.sum-seconds.type_inv }) c.sum-seconds.ensures

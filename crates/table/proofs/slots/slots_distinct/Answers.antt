@@ -1,12 +1,12 @@
 -- `table::slots::slots_distinct` meets its contract. The loop keeps that the terms from the last on are different, and that the places of their hashes are flagged.
 use Prim.Native.Nat.{◌-◌, ◌<◌}
 use native.Mathlib.Omega.{arith}
-use mathlib.Core.Logic.{⊎_elim}
 use mathlib.Core.Path.{refl, sym}
 use borrow.Author.Rules.{rules}
 use Rattle.table.proofs.TableLaws.{holds-few, slots-again, slots_twice}
 use Rattle.table.proofs.SeenLaws.{Apart, apart-start, apart-end, apart_next, not_seen}
 use Rattle.table.proofs.slots.slots_distinct.Goals as goal
+use Rattle.table.proofs.slots.slots_distinct.Goals.{then-seen-place+else-slot_again-n, else-seen-place}
 
 pub loop-i-init : goal.loop-i-init
 loop-i-init c = apart-start _ _ c.requires.holds_terms _
@@ -29,12 +29,14 @@ returns-then-slot_again-n c =
 pub loop-i-preserved : goal.loop-i-preserved
 loop-i-preserved c =
     apart_next _ _ c.requires.holds_terms c.args.hashes.now _ _ c.loop-i.invariant c.loop-i-test.true _ c.number_index-place.ensures
-    (⊎_elim (λ w. omega (arith, w.1.ensures, w.2.left))
-    (λ w. omega (
-      arith,
-      not_seen _ _ c.requires.holds_terms c.args.hashes.now _ _ c.loop-i.invariant c.loop-i-test.true _ c.number_index-place.ensures (λ k. omega (arith, c.type_inv.table k))
-          c.requires.hashes_len c.requires.hashed w.left,
-    )) c.if-seen-place.branch)
+    (elim c.if-seen-place.branch [
+      then-seen-place+else-slot_again-n w ↦ omega (arith, w.slot_again.ensures, w.if-slot_again-n.false)
+      | else-seen-place w ↦ omega (
+        arith,
+        not_seen _ _ c.requires.holds_terms c.args.hashes.now _ _ c.loop-i.invariant c.loop-i-test.true _ c.number_index-place.ensures (λ k. omega (arith, c.type_inv.table k))
+            c.requires.hashes_len c.requires.hashed w.if-seen-place.false,
+      )
+    ])
 
 pub returns : goal.returns
 returns c = apart-end _ _ c.requires.holds_terms _ _ _ c.loop-i.invariant c.loop-i-test.false

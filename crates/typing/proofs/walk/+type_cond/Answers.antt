@@ -11,37 +11,37 @@ use Rattle.typing.proofs.walk.+type_cond.Goals as goal
 
 pub type_cond-requires : goal.type_cond-requires
 type_cond-requires t c =
-    let here : CondAt t c.args.script.now (length c.args.leasts.now) c.args.left c.args.at = cond-at _ _ _ _ _ c.requires.loads c.requires.written_len in let n = here.not c.in-84.is in (n.falls, (n.child, c.requires.joined))
+    let here : CondAt t c.args.script.now (length c.args.leasts.now) c.args.left c.args.at = cond-at _ _ _ _ _ c.decreases c.requires.loads in let n = here.not c.in-84.is in (n.falls, (n.child, (c.requires.written_len, c.requires.joined)))
 
 pub type_cond-a-requires : goal.type_cond-a-requires
 type_cond-a-requires t c =
-    let here : CondAt t c.args.script.now (length c.args.leasts.now) c.args.left c.args.at = cond-at _ _ _ _ _ c.requires.loads c.requires.written_len in
+    let here : CondAt t c.args.script.now (length c.args.leasts.now) c.args.left c.args.at = cond-at _ _ _ _ _ c.decreases c.requires.loads in
     let n = (both_read here c.if-kind-lt82.false c.in-82-to-83.if-kind-lt84-own.true).parts in
-    (n.falls, (n.first, c.requires.joined))
+    (n.falls, (n.first, (c.requires.written_len, c.requires.joined)))
 
 pub type_cond-requires-in-82-to-83 : goal.type_cond-requires-in-82-to-83
 type_cond-requires-in-82-to-83 t c =
-    let here : CondAt t c.args.script.now (length c.args.leasts.now) c.args.left c.args.at = cond-at _ _ _ _ _ c.requires.loads c.requires.written_len in
+    let here : CondAt t c.args.script.now (length c.args.leasts.now) c.args.left c.args.at = cond-at _ _ _ _ _ c.decreases c.requires.loads in
     let n = (both_read here c.if-kind-lt82.false c.in-82-to-83.if-kind-lt84-own.true).parts in
-    (n.falls, (n.second c.type_cond-a.ensures, (c.requires.joined.0, tree-joined _ _ _ cond_demands c.type_cond-a.ensures)))
+    (n.falls, (n.second c.type_cond-a.ensures, (c.requires.written_len, tree-joined _ _ _ cond_demands c.type_cond-a.ensures)))
 
 pub type_test-requires : goal.type_test-requires
-type_test-requires t c = let whole = (c.requires.written_len, (⊎_elim (λ w. absurd (no_lower _ _ _ _ c.requires.written_len (omega arith))) (λ w. omega (arith, (omega arith))) c.in_default.branch, c.requires.joined)) in record { loads = whole.0; bound = whole.1.0; written_len = whole.1.1.0; joined = whole.1.1.1 }
+type_test-requires t c = let whole = (c.requires.loads, (⊎_elim (λ w. absurd (no_lower _ _ _ _ c.requires.loads (omega arith))) (λ w. omega (arith, (omega arith))) c.in_default.branch, (c.requires.written_len, c.requires.joined))) in record { loads = whole.0; bound = whole.1.0; written_len = whole.1.1.0; joined = whole.1.1.1 }
 
 pub returns-in-84 : goal.returns-in-84
 unfolding cond_demands
 returns-in-84 t c =
-    let here : CondAt t c.args.script.now (length c.args.leasts.now) c.args.left c.args.at = cond-at _ _ _ _ _ c.requires.loads c.requires.written_len in (here.not c.in-84.is).node c.type_cond.ensures (λ a h. h)
+    let here : CondAt t c.args.script.now (length c.args.leasts.now) c.args.left c.args.at = cond-at _ _ _ _ _ c.decreases c.requires.loads in (here.not c.in-84.is).node c.type_cond.ensures (λ a h. h)
 
 pub returns-in-80-to-81 : goal.returns-in-80-to-81
 returns-in-80-to-81 t c =
-    let here : CondAt t c.args.script.now (length c.args.leasts.now) c.args.left c.args.at = cond-at _ _ _ _ _ c.requires.loads c.requires.written_len in
+    let here : CondAt t c.args.script.now (length c.args.leasts.now) c.args.left c.args.at = cond-at _ _ _ _ _ c.decreases c.requires.loads in
     let k = leaf-read here c.if-kind-lt80.false c.in-80-to-81.if-kind-lt82-own.true in
-    leaf_walked k.1 (leaf-noted _ _ k.0 k.2 c.requires.joined.1)
+    leaf_walked k.1 (leaf-noted _ _ k.0 k.2 c.requires.joined)
 
 pub returns-in-82-to-83 : goal.returns-in-82-to-83
 returns-in-82-to-83 t c =
-    let here : CondAt t c.args.script.now (length c.args.leasts.now) c.args.left c.args.at = cond-at _ _ _ _ _ c.requires.loads c.requires.written_len in
+    let here : CondAt t c.args.script.now (length c.args.leasts.now) c.args.left c.args.at = cond-at _ _ _ _ _ c.decreases c.requires.loads in
     let k = both_read here c.if-kind-lt82.false c.in-82-to-83.if-kind-lt84-own.true in
     k.parts.node c.type_cond-a.ensures c.type_cond-in-82-to-83.ensures (λ a b x y. both-noted _ _ a b _ (k.means a b) x y)
 
@@ -50,12 +50,12 @@ returns-in_default t c = c.type_test.ensures
 
 pub bounds-script-at : goal.bounds-script-at
 bounds-script-at t c =
-    let here : CondAt t c.args.script.now (length c.args.leasts.now) c.args.left c.args.at = cond-at _ _ _ _ _ c.requires.loads c.requires.written_len in here.inside
+    let here : CondAt t c.args.script.now (length c.args.leasts.now) c.args.left c.args.at = cond-at _ _ _ _ _ c.decreases c.requires.loads in here.inside
 
 pub overflow_add-first : goal.overflow_add-first
 overflow_add-first t c =
-    let here : CondAt t c.args.script.now (length c.args.leasts.now) c.args.left c.args.at = cond-at _ _ _ _ _ c.requires.loads c.requires.written_len in omega (arith, here.inside)
+    let here : CondAt t c.args.script.now (length c.args.leasts.now) c.args.left c.args.at = cond-at _ _ _ _ _ c.decreases c.requires.loads in omega (arith, here.inside)
 
 pub overflow_sub-below : goal.overflow_sub-below
 overflow_sub-below t c =
-    let here : CondAt t c.args.script.now (length c.args.leasts.now) c.args.left c.args.at = cond-at _ _ _ _ _ c.requires.loads c.requires.written_len in here.pos
+    let here : CondAt t c.args.script.now (length c.args.leasts.now) c.args.left c.args.at = cond-at _ _ _ _ _ c.decreases c.requires.loads in here.pos

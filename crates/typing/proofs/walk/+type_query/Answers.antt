@@ -11,59 +11,59 @@ use Rattle.typing.proofs.walk.+type_query.Goals as goal
 
 pub type_pattern-requires : goal.type_pattern-requires
 type_pattern-requires t c =
-    let here : QueryAt t c.args.script.now (length c.args.leasts.now) c.args.left c.args.at = query-at _ _ _ _ _ c.requires.loads c.requires.written_len in let whole = ((here.pattern c.in-97.is).all, c.requires.joined) in record { loads = whole.0; written_len = whole.1.0; joined = whole.1.1 }
+    let here : QueryAt t c.args.script.now (length c.args.leasts.now) c.args.left c.args.at = query-at _ _ _ _ _ c.decreases c.requires.loads in let whole = ((here.pattern c.in-97.is).all, (c.requires.written_len, c.requires.joined)) in record { loads = whole.0; written_len = whole.1.0; joined = whole.1.1 }
 
 pub type_cond-requires : goal.type_cond-requires
 type_cond-requires t c =
-    let here : QueryAt t c.args.script.now (length c.args.leasts.now) c.args.left c.args.at = query-at _ _ _ _ _ c.requires.loads c.requires.written_len in let whole = ((here.filter c.in-100.is).child, c.requires.joined) in record { loads = whole.0; written_len = whole.1.0; joined = whole.1.1 }
+    let here : QueryAt t c.args.script.now (length c.args.leasts.now) c.args.left c.args.at = query-at _ _ _ _ _ c.decreases c.requires.loads in let whole = ((here.filter c.in-100.is).child, (c.requires.written_len, c.requires.joined)) in record { loads = whole.0; written_len = whole.1.0; joined = whole.1.1 }
 
 pub type_query-q-requires : goal.type_query-q-requires
 type_query-q-requires t c =
-    let here : QueryAt t c.args.script.now (length c.args.leasts.now) c.args.left c.args.at = query-at _ _ _ _ _ c.requires.loads c.requires.written_len in
+    let here : QueryAt t c.args.script.now (length c.args.leasts.now) c.args.left c.args.at = query-at _ _ _ _ _ c.decreases c.requires.loads in
     let n = (either-read here (omega (arith, c.if-kind-lt97.false, (omega arith))) (omega (arith, c.in-98-to-99.if-kind-lt100-own.true))).parts in
-    (n.falls, (n.first, c.requires.joined))
+    (n.falls, (n.first, (c.requires.written_len, c.requires.joined)))
 
 pub type_query-requires : goal.type_query-requires
 type_query-requires t c =
-    let here : QueryAt t c.args.script.now (length c.args.leasts.now) c.args.left c.args.at = query-at _ _ _ _ _ c.requires.loads c.requires.written_len in
+    let here : QueryAt t c.args.script.now (length c.args.leasts.now) c.args.left c.args.at = query-at _ _ _ _ _ c.decreases c.requires.loads in
     let n = (either-read here (omega (arith, c.if-kind-lt97.false, (omega arith))) (omega (arith, c.in-98-to-99.if-kind-lt100-own.true))).parts in
     let j = tree-joined _ _ _ query_demands c.type_query-q.ensures in
-    (n.falls, (n.second c.type_query-q.ensures, (c.requires.joined.0, j)))
+    (n.falls, (n.second c.type_query-q.ensures, (c.requires.written_len, j)))
 
 pub returns-in-97 : goal.returns-in-97
 returns-in-97 t c =
-    let here : QueryAt t c.args.script.now (length c.args.leasts.now) c.args.left c.args.at = query-at _ _ _ _ _ c.requires.loads c.requires.written_len in walked_as (here.pattern c.in-97.is).read c.type_pattern.ensures
+    let here : QueryAt t c.args.script.now (length c.args.leasts.now) c.args.left c.args.at = query-at _ _ _ _ _ c.decreases c.requires.loads in walked_as (here.pattern c.in-97.is).read c.type_pattern.ensures
 
 pub returns-in-100 : goal.returns-in-100
 unfolding query_demands
 returns-in-100 t c =
-    let here : QueryAt t c.args.script.now (length c.args.leasts.now) c.args.left c.args.at = query-at _ _ _ _ _ c.requires.loads c.requires.written_len in (here.filter c.in-100.is).node c.type_cond.ensures (λ a h. h)
+    let here : QueryAt t c.args.script.now (length c.args.leasts.now) c.args.left c.args.at = query-at _ _ _ _ _ c.decreases c.requires.loads in (here.filter c.in-100.is).node c.type_cond.ensures (λ a h. h)
 
 pub returns-in-98-to-99 : goal.returns-in-98-to-99
 returns-in-98-to-99 t c =
-    let here : QueryAt t c.args.script.now (length c.args.leasts.now) c.args.left c.args.at = query-at _ _ _ _ _ c.requires.loads c.requires.written_len in
+    let here : QueryAt t c.args.script.now (length c.args.leasts.now) c.args.left c.args.at = query-at _ _ _ _ _ c.decreases c.requires.loads in
     let k = either-read here (omega (arith, c.if-kind-lt97.false, (omega arith))) (omega (arith, c.in-98-to-99.if-kind-lt100-own.true)) in
     k.parts.node c.type_query-q.ensures c.type_query.ensures (λ a b x y. either-noted _ _ a b _ (k.means a b) x y)
 
 pub returns-in_default : goal.returns-in_default
 unfolding query_demands
 returns-in_default t c =
-    let here : QueryAt t c.args.script.now (length c.args.leasts.now) c.args.left c.args.at = query-at _ _ _ _ _ c.requires.loads c.requires.written_len in leaf_walked (empty-read here (omega arith) (inl (omega (arith, c.in_default.if-kind-lt97-own.true)))) (nothing-noted _ _ c.requires.joined.1)
+    let here : QueryAt t c.args.script.now (length c.args.leasts.now) c.args.left c.args.at = query-at _ _ _ _ _ c.decreases c.requires.loads in leaf_walked (empty-read here (omega arith) (inl (omega (arith, c.in_default.if-kind-lt97-own.true)))) (nothing-noted _ _ c.requires.joined)
 
 pub returns-in_default-2 : goal.returns-in_default-2
 unfolding query_demands
 returns-in_default-2 t c =
-    let here : QueryAt t c.args.script.now (length c.args.leasts.now) c.args.left c.args.at = query-at _ _ _ _ _ c.requires.loads c.requires.written_len in
-    leaf_walked (empty-read here (omega arith) (inr (omega (arith, c.in_default.if-kind-lt100-own.false)))) (nothing-noted _ _ c.requires.joined.1)
+    let here : QueryAt t c.args.script.now (length c.args.leasts.now) c.args.left c.args.at = query-at _ _ _ _ _ c.decreases c.requires.loads in
+    leaf_walked (empty-read here (omega arith) (inr (omega (arith, c.in_default.if-kind-lt100-own.false)))) (nothing-noted _ _ c.requires.joined)
 
 pub bounds-script-at : goal.bounds-script-at
 bounds-script-at t c =
-    let here : QueryAt t c.args.script.now (length c.args.leasts.now) c.args.left c.args.at = query-at _ _ _ _ _ c.requires.loads c.requires.written_len in here.inside
+    let here : QueryAt t c.args.script.now (length c.args.leasts.now) c.args.left c.args.at = query-at _ _ _ _ _ c.decreases c.requires.loads in here.inside
 
 pub overflow_add-first : goal.overflow_add-first
 overflow_add-first t c =
-    let here : QueryAt t c.args.script.now (length c.args.leasts.now) c.args.left c.args.at = query-at _ _ _ _ _ c.requires.loads c.requires.written_len in omega (arith, here.inside)
+    let here : QueryAt t c.args.script.now (length c.args.leasts.now) c.args.left c.args.at = query-at _ _ _ _ _ c.decreases c.requires.loads in omega (arith, here.inside)
 
 pub overflow_sub-below : goal.overflow_sub-below
 overflow_sub-below t c =
-    let here : QueryAt t c.args.script.now (length c.args.leasts.now) c.args.left c.args.at = query-at _ _ _ _ _ c.requires.loads c.requires.written_len in here.pos
+    let here : QueryAt t c.args.script.now (length c.args.leasts.now) c.args.left c.args.at = query-at _ _ _ _ _ c.decreases c.requires.loads in here.pos

@@ -7,7 +7,7 @@ scaled-requires c =
     rw (plain c.args.v.number c.requires.number) (c.requires.integer c.if-v-eq-INTEGER.true)
 
 pub returns-then-kind-eq-DECIMAL : goal.returns-then-kind-eq-DECIMAL
-returns-then-kind-eq-DECIMAL c = let whole = counted-scaled c.args.v c.args.kind c.requires c.scaled.result (record { sfits = c.scaled.type-inv }) c.if-v-eq-INTEGER.true c.if-kind-eq-DECIMAL.true c.scaled.ensures in record { value = whole.0; t = whole.1 }
+returns-then-kind-eq-DECIMAL c = let whole = counted-scaled c.args.v c.args.kind c.requires c.scaled.result (record { sfits = c.scaled.type_inv }) c.if-v-eq-INTEGER.true c.if-kind-eq-DECIMAL.true c.scaled.ensures in record { value = whole.0; t = whole.1 }
 
 pub returns-else-kind-eq-DECIMAL : goal.returns-else-kind-eq-DECIMAL
 returns-else-kind-eq-DECIMAL c = let whole = counted-integer c.args.v c.args.kind c.requires c.if-v-eq-INTEGER.true c.if-kind-eq-DECIMAL.false in record { value = whole.0; t = whole.1 }

@@ -15,4 +15,4 @@ pub returns : goal.returns
 unfolding sum
 returns c =
     made ◌+ℤ◌ c.args.a c.args.b c.common_kind-kind.result c.common_kind-kind.ensures _ _ _ c.sum.result c.if-not-present.false (c.counted-x.ensures.value, c.counted-x.ensures.t)
-    (c.counted-y.ensures.value, c.counted-y.ensures.t) (record { sfits = c.sum.type-inv }) c.sum.ensures c.limited.ensures
+    (c.counted-y.ensures.value, c.counted-y.ensures.t) (record { sfits = c.sum.type_inv }) c.sum.ensures c.limited.ensures

@@ -1,2 +1,0 @@
--- Distances says what print writes of a number.
-mod Distances
