@@ -34,10 +34,12 @@ passed-short terms schema script c p = omega (arith, schema-fits terms schema sc
 
 -- ── what the code answers ───────────────────────────────────────────────────────────────────
 
-pub card-refused : {m : Result Checked} {n : ℕ} {r : Card} {schema table leasts entries : List ℕ} → m ≡ refused n → r ≡ refused_card n entries
-    → (r ≡ card_of m r.entries) × ((c : Checked) → m ≡ passed c → TablesOf c schema table leasts r.entries)
+pub refused-value : {m : Result Checked} {n : ℕ} {r : Card} {entries : List ℕ} → m ≡ refused n → r ≡ refused_card n entries → r ≡ card_of m r.entries
 unfolding card_of
-card-refused {n = n} e f = (f ∙ ap (refused_card n) (sym (ap (λ (r : Card). r.entries) f)) ∙ rw e, λ c p. absurd (not-refused (sym e ∙ p)))
+refused-value {n = n} e f = f ∙ ap (refused_card n) (sym (ap (λ (r : Card). r.entries) f)) ∙ rw e
+
+pub no_tables : {m : Result Checked} {n : ℕ} {schema table leasts entries : List ℕ} → m ≡ refused n → (c : Checked) → m ≡ passed c → TablesOf c schema table leasts entries
+no_tables e c p = absurd (not-refused (sym e ∙ p))
 
 pub card-number : (m : Result Checked) (entries : List ℕ) → (card_of m entries).refusal ≡ number_of m
 unfolding card_of number_of

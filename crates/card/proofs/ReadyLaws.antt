@@ -33,6 +33,7 @@ use Rattle.records.specs.Listing.{listed_of}
 use Rattle.table.specs.Hashes.{HashedEntries}
 use Rattle.definitions.specs.Calls.{Listed, record_tests, script_tests, Parsed, read_tests}
 use Rattle.card.specs.Check.{number_of, ReadyOf}
+use Rattle.card.specs.declared.refusals.Ready.{Ready}
 use Rattle.card.proofs.RefusalNumbers.{NotZero, number-refused, number-after, refused-number, passed-number, given-not-zero, require-not-zero, bind-not-zero, after-not-zero}
 use Rattle.laws.proofs.Check.{ReadPassed, records-inv, read-passed}
 use Rattle.laws.proofs.Valid.{read-valid}
@@ -91,9 +92,8 @@ full-fits ts e h = let g : Full ≡ Count (length ts) = h ∙ rw e in let z : �
 -- ── the code's answer ───────────────────────────────────────────────────────────────────────
 
 -- of a refusal nothing is promised of the tables
-pub refuses : {m : Result Parsed} {n count : ℕ} {schema table entries : List ℕ} → m ≡ refused n
-    → (n ≡ number_of m) × ((x : Parsed) → m ≡ passed x → ReadyOf x schema table (record { refusal = n; count = count; entries = entries }))
-refuses e = (number-refused e, λ x p. absurd (not-refused (sym e ∙ p)))
+pub no-ready : {m : Result Parsed} {n : ℕ} {schema table : List ℕ} {r : Ready} → m ≡ refused n → (x : Parsed) → m ≡ passed x → ReadyOf x schema table r
+no-ready e x p = absurd (not-refused (sym e ∙ p))
 
 -- what is listed in a table is what is read
 pub listed-so : (S : Schema) {A : Type 0} (f : List Term → A) {o p : Option (List Term)} → o ≡ p → f (with_properties S (list_of o)) ≡ f (with_properties S (list_of p))

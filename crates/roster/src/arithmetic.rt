@@ -129,7 +129,11 @@ fn differences<W: Write>(out: &mut W) -> io::Result<()> {
     show_difference(out, made::integer(2), made::integer(3))?;
     show_difference(out, made::decimal(100000), made::integer(3))?;
     show_difference(out, made::integer(-1000000000000), made::integer(1))?;
-    show_difference(out, made::integer(-1000000000000), made::integer(-1000000000000))?;
+    show_difference(
+        out,
+        made::integer(-1000000000000),
+        made::integer(-1000000000000),
+    )?;
     show_difference(out, made::decimal(-1000000000000000000), made::decimal(1))?;
     show_difference(out, made::decimal(-1000000000000000000), made::decimal(0))?;
     show_difference(out, made::decimal(1), made::decimal(1000000000000000001))

@@ -69,7 +69,11 @@ fn numbers<W: Write>(out: &mut W) -> io::Result<()> {
         made::integer(1000000000000),
         made::decimal(1000000000000000000),
     )?;
-    compare(out, made::integer(1000000000001), made::integer(1000000000001))?;
+    compare(
+        out,
+        made::integer(1000000000001),
+        made::integer(1000000000001),
+    )?;
     compare(out, made::integer(1000000000001), made::decimal(0))?;
     compare(out, made::decimal(0), made::decimal(-1000000000000000001))
 }
@@ -78,7 +82,11 @@ fn numbers<W: Write>(out: &mut W) -> io::Result<()> {
 fn date_times<W: Write>(out: &mut W) -> io::Result<()> {
     compare(out, made::date_time(-1), made::date_time(0))?;
     compare(out, made::date_time(951782400), made::date_time(951782400))?;
-    compare(out, made::date_time(253402300799), made::date_time(-62135596800))
+    compare(
+        out,
+        made::date_time(253402300799),
+        made::date_time(-62135596800),
+    )
 }
 
 // One case: two strings with no tag.
@@ -158,7 +166,10 @@ pub fn cases<W: Write>(out: &mut W) -> io::Result<()> {
     )?;
     string_rows(out, b"|||\n||| \n|ab||abc\n|abc||ab\n|aZ||Aa\n|10||9\n")?;
     // Then by tag.
-    string_rows(out, b"en|a|en|a\nen|a||a\nen|a|fr|a\nfr|a|en|b\nen-a|a|ena|a\n")?;
+    string_rows(
+        out,
+        b"en|a|en|a\nen|a||a\nen|a|fr|a\nfr|a|en|b\nen-a|a|ena|a\n",
+    )?;
     // URIs by bytes.
     uri_rows(out, b"p:Z|p:a\np:a|p:0\np:a|p:aa\np:name|p:name\n")
 }

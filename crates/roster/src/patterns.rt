@@ -46,9 +46,15 @@ fn show_rows<W: Write>(out: &mut W, text: &[u8]) -> io::Result<()> {
 // 32 lines.
 pub fn cases<W: Write>(out: &mut W) -> io::Result<()> {
     // Literal bytes and `.`; some part of the text has to fit, and the empty pattern fits all.
-    show_rows(out, b"|\n|abc\nb|abc\nac|abc\nA|abc\na.c|abc\na.c|ac\n...|ab\n")?;
+    show_rows(
+        out,
+        b"|\n|abc\nb|abc\nac|abc\nA|abc\na.c|abc\na.c|ac\n...|ab\n",
+    )?;
     // `^` and `$`.
-    show_rows(out, b"^a|abc\n^b|abc\nc$|abc\nb$|abc\n^abc$|abc\n^ab$|abc\n^$|\n^$|a\n^|abc\n$|abc\n")?;
+    show_rows(
+        out,
+        b"^a|abc\n^b|abc\nc$|abc\nb$|abc\n^abc$|abc\n^ab$|abc\n^$|\n^$|a\n^|abc\n$|abc\n",
+    )?;
     // `*`: none, one or many, and no more of them than the rest leaves.
     show_rows(
         out,
@@ -60,5 +66,9 @@ pub fn cases<W: Write>(out: &mut W) -> io::Result<()> {
         b"abcdefghijklmnop|abcdefghijklmnop\n^.*.*.*.*.*.*.*$|aaaaaaaaaaaaaaaaaaaaaaaaaaaaaaaaaaaaaaaa\n^a*a*a*a*a*a*b$|aaaaaaaaaaaaaaaaaaaaaaaaaaaaaaaaaaaaaaaa\n",
     )?;
     // No value: unknown, also under the pattern that accepts every text.
-    show_on(out, b"", strings::text::text_of(made::integer(1000000000001)))
+    show_on(
+        out,
+        b"",
+        strings::text::text_of(made::integer(1000000000001)),
+    )
 }

@@ -43,7 +43,10 @@ pub fn cases<W: Write>(out: &mut W) -> io::Result<()> {
     // Document 02's own.
     show_rows(out, b"0.999e2\n-3\n1e-7\n-0\n-0.0\n")?;
     // The literals that XML Schema gives for xsd:decimal, xsd:integer and xsd:double.
-    show_rows(out, b"-1.23\n12678967.543233\n+100000.00\n210\n-1\n0\n12678967543233\n+100000\n")?;
+    show_rows(
+        out,
+        b"-1.23\n12678967.543233\n+100000.00\n210\n-1\n0\n12678967543233\n+100000\n",
+    )?;
     show_rows(out, b"-1E4\n1267.43233E12\n12.78e-2\n12\n-0\n0\nINF\nNaN\n")?;
     // Both limits of each kind, and one past.
     show_rows(

@@ -48,9 +48,19 @@ pub fn cases<W: Write>(out: &mut W) -> io::Result<()> {
     // `*` refuses the empty tag, which str gives too, and accepts the others, also one of hyphens only.
     show_rows(out, b"*|\n*|en\n*|-\n*|--------\n")?;
     show_on(out, b"*", strings::text::text_of(made::integer(3)))?;
-    show_on(out, b"*", strings::text::text_of(made::integer(1000000000001)))?;
+    show_on(
+        out,
+        b"*",
+        strings::text::text_of(made::integer(1000000000001)),
+    )?;
     // Another range accepts its own tag and tags that go on with a hyphen.
-    show_rows(out, b"en|en\nen|en-gb\nen|eng\nen|fr\nen|\nen-gb|en\nen-gb|en-gb\nen-gb|en-gb-ox\n")?;
+    show_rows(
+        out,
+        b"en|en\nen|en-gb\nen|eng\nen|fr\nen|\nen-gb|en\nen-gb|en-gb\nen-gb|en-gb-ox\n",
+    )?;
     // A `-*` at the end counts for nothing, and a hyphen there counts.
-    show_rows(out, b"en-*|en\nen-*|en-gb\nen-*|eng\nen-|en-gb\nen-|en--gb\nabcdefgh|abcdefgh\n")
+    show_rows(
+        out,
+        b"en-*|en\nen-*|en-gb\nen-*|eng\nen-|en-gb\nen-|en--gb\nabcdefgh|abcdefgh\n",
+    )
 }

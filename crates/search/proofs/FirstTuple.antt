@@ -55,6 +55,7 @@ module _ (test : Tuple → Outcome Bool) where
           → (m >>= λ b. elim b as (λ c. Outcome (Option Tuple)) [ true ↦ ok (some t) | false ↦ first test ts ]) ≡ first test ts
       go (ok true) h (fine p) = absurd (h tt)
       go (ok false) h (fine p) = refl
+      go (fault _) h x3 = elim x3 [ ]
 
   module _ (t : Tuple) (passing : T (passes (test t))) where
     first-is : (ts : List Tuple) → All (λ u. Fine Any (test u)) ts → Pairwise earlier ts → ((u : Tuple) → u ∈ ts → T (earlier u t) → T (passes (test u)) → ⊥)

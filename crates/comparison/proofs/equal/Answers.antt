@@ -1,7 +1,6 @@
 -- `comparison::equal` meets its contract, by the laws of ComparisonLaws.
 use Rattle.comparison.proofs.ComparisonLaws.{equal-strings, equal-numbers, equal-date_times, equal-uris}
 use mathlib.Core.Logic.{inl, inr}
-use borrow.Author.Rules.{rules}
 use Rattle.comparison.proofs.equal.Goals as goal
 
 pub returns-in-2 : goal.returns-in-2

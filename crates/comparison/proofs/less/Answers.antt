@@ -1,7 +1,6 @@
 -- `comparison::less` meets its contract, by the laws of ComparisonLaws and OrderLaws.
 use Rattle.comparison.proofs.ComparisonLaws.{less-strings, less-numbers, less-date_times, less-uris}
 use mathlib.Core.Logic.{inl, inr}
-use borrow.Author.Rules.{rules}
 use Rattle.comparison.proofs.less.Goals as goal
 
 pub returns-in-2 : goal.returns-in-2

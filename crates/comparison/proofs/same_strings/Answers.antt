@@ -1,7 +1,6 @@
 -- `comparison::same_strings` meets its contract.
 use mathlib.Core.Bool.{◌&&◌}
 use mathlib.Core.Path.{ap₂}
-use borrow.Author.Rules.{rules}
 use Rattle.comparison.proofs.same_strings.Goals as goal
 
 pub returns : goal.returns

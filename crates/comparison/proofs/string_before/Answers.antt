@@ -2,7 +2,6 @@
 use mathlib.Core.Bool.{◌&&◌, ◌||◌}
 use mathlib.Core.Path.{ap₂}
 use Rattle.definitions.specs.Values.{string_before}
-use borrow.Author.Rules.{rules}
 use Rattle.comparison.proofs.string_before.Goals as goal
 
 pub returns : goal.returns

@@ -1,7 +1,6 @@
 -- `comparison::tag_before` meets its contract.
 use mathlib.Core.Path.{sym, ◌∙◌}
 use Rattle.comparison.proofs.ComparisonLaws.{tag-texts}
-use borrow.Author.Rules.{rules}
 use Rattle.comparison.proofs.tag_before.Goals as goal
 
 pub before-requires : goal.before-requires

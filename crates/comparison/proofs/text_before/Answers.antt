@@ -1,6 +1,5 @@
 -- `comparison::text_before` meets its contract. Assumes nothing.
 use mathlib.Core.Path.{sym, ◌∙◌}
-use borrow.Author.Rules.{rules}
 use Rattle.comparison.proofs.text_before.Goals as goal
 
 pub before-requires : goal.before-requires

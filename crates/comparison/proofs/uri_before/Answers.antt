@@ -2,7 +2,6 @@
 use mathlib.Core.Path.{◌∙◌}
 use Rattle.text_order.proofs.OrderLaws.{by_bytes}
 use Rattle.laws.specs.Lists.{up_from}
-use borrow.Author.Rules.{rules}
 use Rattle.comparison.proofs.uri_before.Goals as goal
 
 pub returns : goal.returns

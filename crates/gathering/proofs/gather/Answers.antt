@@ -15,20 +15,20 @@ returns-then-page-gt-PAGE_LIMIT c = long-page _ _ c.if-schema-ne-SCHEMA_WIDTH.fa
 
 pub returns-then-not-noting : goal.returns-then-not-noting
 returns-then-not-noting c =
-    bad-page _ _ c.if-schema-ne-SCHEMA_WIDTH.false c.if-page-gt-PAGE_LIMIT.false c.subjects_of-noting.ensures.good_value (ap not c.if-not-noting.true)
+    bad-page _ _ c.if-schema-ne-SCHEMA_WIDTH.false c.if-page-gt-PAGE_LIMIT.false c.subjects_of-noting.ensures.good_value c.if-not-noting.true
 
 pub entry_count-entries-requires : goal.entry_count-entries-requires
 entry_count-entries-requires c = c.subjects_of-noting.ensures.count_le_subject_limit
 
 pub returns-then-entries-gt-ENTRY_LIMIT : goal.returns-then-entries-gt-ENTRY_LIMIT
 returns-then-entries-gt-ENTRY_LIMIT c =
-    let p = read c.args.page.now c.args.schema.now c.if-schema-ne-SCHEMA_WIDTH.false c.if-page-gt-PAGE_LIMIT.false c.subjects_of-noting.ensures.good_value (ap not c.if-not-noting.false) in
-    too_many _ _ c.if-schema-ne-SCHEMA_WIDTH.false c.if-page-gt-PAGE_LIMIT.false c.subjects_of-noting.ensures.good_value (ap not c.if-not-noting.false) (c.entry_count-entries.ensures.by_index _ _ (c.subjects_of-noting.ensures.noted p.0 p.1))
+    let p = read c.args.page.now c.args.schema.now c.if-schema-ne-SCHEMA_WIDTH.false c.if-page-gt-PAGE_LIMIT.false c.subjects_of-noting.ensures.good_value c.if-not-noting.false in
+    too_many _ _ c.if-schema-ne-SCHEMA_WIDTH.false c.if-page-gt-PAGE_LIMIT.false c.subjects_of-noting.ensures.good_value c.if-not-noting.false (c.entry_count-entries.ensures.by_index _ _ (c.subjects_of-noting.ensures.noted p.0 p.1))
     c.if-entries-gt-ENTRY_LIMIT.true
 
 pub put_entries-requires : goal.put_entries-requires
 put_entries-requires c =
-    let p = read c.args.page.now c.args.schema.now c.if-schema-ne-SCHEMA_WIDTH.false c.if-page-gt-PAGE_LIMIT.false c.subjects_of-noting.ensures.good_value (ap not c.if-not-noting.false) in
+    let p = read c.args.page.now c.args.schema.now c.if-schema-ne-SCHEMA_WIDTH.false c.if-page-gt-PAGE_LIMIT.false c.subjects_of-noting.ensures.good_value c.if-not-noting.false in
     let h = c.subjects_of-noting.ensures.noted p.0 p.1 in record { count_le_subject_limit = c.subjects_of-noting.ensures.count_le_subject_limit; schema_len = c.if-schema-ne-SCHEMA_WIDTH.false; noted = (askings p.0, h, omega (arith, c.entry_count-entries.ensures.by_index _ _ h, c.if-entries-gt-ENTRY_LIMIT.false)) }
 
 pub overflow_sub-left_out : goal.overflow_sub-left_out
@@ -42,6 +42,6 @@ overflow_cast-result-2 c = omega (arith, c.subjects_of-noting.ensures.count_le_s
 
 pub returns : goal.returns
 returns c =
-    let p = read c.args.page.now c.args.schema.now c.if-schema-ne-SCHEMA_WIDTH.false c.if-page-gt-PAGE_LIMIT.false c.subjects_of-noting.ensures.good_value (ap not c.if-not-noting.false) in
+    let p = read c.args.page.now c.args.schema.now c.if-schema-ne-SCHEMA_WIDTH.false c.if-page-gt-PAGE_LIMIT.false c.subjects_of-noting.ensures.good_value c.if-not-noting.false in
     let h = c.subjects_of-noting.ensures.noted p.0 p.1 in
-    gathers _ _ c.if-schema-ne-SCHEMA_WIDTH.false c.if-page-gt-PAGE_LIMIT.false c.subjects_of-noting.ensures.good_value (ap not c.if-not-noting.false) (c.entry_count-entries.ensures.by_index _ _ h) c.if-entries-gt-ENTRY_LIMIT.false _ h (c.put_entries.ensures _ h)
+    gathers _ _ c.if-schema-ne-SCHEMA_WIDTH.false c.if-page-gt-PAGE_LIMIT.false c.subjects_of-noting.ensures.good_value c.if-not-noting.false (c.entry_count-entries.ensures.by_index _ _ h) c.if-entries-gt-ENTRY_LIMIT.false _ h (c.put_entries.ensures _ h)

@@ -3,7 +3,7 @@ use Prim.Native.Nat.{ℕ}
 use native.Mathlib.Omega.{arith}
 use lib.ListN.{length-replicate}
 use borrow.Author.Tests.{not-true, not-false}
-use Rattle.definitions.specs.Limits.{quad_table_width}
+use Rattle.definitions.specs.Limits.{term_table_width, quad_table_width}
 use Rattle.definitions.specs.Calls.{Lent}
 use Rattle.lengths.specs.Lent.{lent_of}
 use Rattle.lengths.proofs.TableLaws.{fit-ranks, fit-both}
@@ -34,6 +34,14 @@ returns-then-card-ne0 c =
     load-refused l
     (check-refused l c.tables_fit.ensures c.if-not-tables_fit.false c.is_alphabet.ensures c.if-not-is_alphabet.false c.check_card-card.ensures.value c.if-card-ne0.true)
     c.refused-then-card-ne0.ensures
+
+pub copy_from_slice-requires : goal.copy_from_slice-requires
+copy_from_slice-requires c =
+    omega (arith, (fit-both _ c.tables_fit.ensures c.if-not-tables_fit.false).0, c.check_card-card.auto.table, length-replicate {A = ℕ} term_table_width 0)
+
+pub copy_from_slice-requires-2 : goal.copy_from_slice-requires-2
+copy_from_slice-requires-2 c =
+    omega (arith, (fit-both _ c.tables_fit.ensures c.if-not-tables_fit.false).1, length-replicate {A = ℕ} quad_table_width 0)
 
 pub returns : goal.returns
 returns c =

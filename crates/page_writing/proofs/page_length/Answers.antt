@@ -1,11 +1,8 @@
 -- `page_writing::page_length` meets its contract: the length so far is that of the keys so far.
-use Prim.Native.Nat.{◌-◌, ◌*◌, ◌≤◌}
-use mathlib.Core.Path.{◌≡◌, ap, ◌∙◌}
+use mathlib.Core.Path.{ap, ◌∙◌}
 use native.Mathlib.Omega.{arith}
-use borrow.Author.Rules.{rules}
-use lib.ListN.{length, take}
+use lib.ListN.{length}
 use Rattle.sorting.proofs.MergeLaws.{key_in_lem}
-use Rattle.page_writing.specs.Page.{keys_page}
 use Rattle.page_writing.proofs.WritingLaws.{longer, none-long, all-taken}
 use Rattle.page_writing.proofs.page_length.Goals as goal
 

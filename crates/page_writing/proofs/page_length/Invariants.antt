@@ -1,11 +1,7 @@
 use Prim.Native.Nat.{◌-◌, ◌*◌, ◌≤◌}
-use mathlib.Core.Path.{◌≡◌, ap, ◌∙◌}
-use native.Mathlib.Omega.{arith}
-use borrow.Author.Rules.{rules}
+use mathlib.Core.Path.{◌≡◌}
 use lib.ListN.{length, take}
-use Rattle.sorting.proofs.MergeLaws.{key_in_lem}
 use Rattle.page_writing.specs.Page.{keys_page}
-use Rattle.page_writing.proofs.WritingLaws.{longer, none-long, all-taken}
 use Rattle.page_writing.proofs.page_length.Given as goal
 
 abbrev pub invariant-loop-i : goal.invariant-loop-i

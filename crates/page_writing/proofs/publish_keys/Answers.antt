@@ -1,6 +1,5 @@
 -- `page_writing::publish_keys` meets its contract: the keys sorted, their page measured, and written where it fits.
 use native.Mathlib.Omega.{arith}
-use borrow.Author.Rules.{rules}
 use Rattle.page_writing.specs.Page.{sorted_page}
 use Rattle.page_writing.proofs.WritingLaws.{sorted-in, sorted-long, page-long, page-out, too_short, it-fits}
 use Rattle.page_writing.proofs.publish_keys.Goals as goal

@@ -26,11 +26,11 @@ put_byte-first-requires c =
 
 pub put_body-second-requires : goal.put_body-second-requires
 put_body-second-requires c =
-    let room : c.args.at + (object_offset + width_of (of_term_kind (kind_of c.args.table.now (quad_of c.args.key).object))) ≤ length c.args.out.now = omega (arith, record-long c.args.table.now c.args.key c.requires.key_value, c.requires.key_in_bounds) in record { slot_value = slot-named c.args.table.now c.subject_of.ensures.0 (subject-in c.args.table.now c.args.key c.requires.key_value); width_lt_slot_width = omega arith; width_in_bounds = omega (arith, room, c.put_byte-first.ensures.end, c.out-1.given) }
+    let room : c.args.at + (object_offset + width_of (of_term_kind (kind_of c.args.table.now (quad_of c.args.key).object))) ≤ length c.args.out.now = omega (arith, record-long c.args.table.now c.args.key c.requires.key_value, c.requires.key_in_bounds) in record { slot_value = slot-named c.args.table.now c.subject_of.ensures.0 (subject-in c.args.table.now c.args.key c.requires.key_value); width_lt_slot_width = omega arith; width_in_bounds = omega (arith, room, c.put_byte-first.ensures.end) }
 
 pub put_body-third-requires : goal.put_body-third-requires
 put_body-third-requires c =
-    let room : c.args.at + (object_offset + width_of (of_term_kind (kind_of c.args.table.now (quad_of c.args.key).object))) ≤ length c.args.out.now = omega (arith, record-long c.args.table.now c.args.key c.requires.key_value, c.requires.key_in_bounds) in record { slot_value = slot-named c.args.table.now c.property_of.ensures.0 (property-in c.args.table.now c.args.key c.requires.key_value); width_lt_slot_width = omega arith; width_in_bounds = omega (arith, room, c.put_byte-first.ensures.end, c.put_body-second.ensures.value, c.out-1.given, c.out-2-1.given) }
+    let room : c.args.at + (object_offset + width_of (of_term_kind (kind_of c.args.table.now (quad_of c.args.key).object))) ≤ length c.args.out.now = omega (arith, record-long c.args.table.now c.args.key c.requires.key_value, c.requires.key_in_bounds) in record { slot_value = slot-named c.args.table.now c.property_of.ensures.0 (property-in c.args.table.now c.args.key c.requires.key_value); width_lt_slot_width = omega arith; width_in_bounds = omega (arith, room, c.put_byte-first.ensures.end, c.put_body-second.ensures.value) }
 
 pub put_body-requires : goal.put_body-requires
 put_body-requires c =
@@ -44,9 +44,6 @@ put_body-requires c =
         c.put_byte-first.ensures.end,
         c.put_body-second.ensures.value,
         c.put_body-third.ensures.value,
-        c.out-1.given,
-        c.out-2-1.given,
-        c.out-3-1.given,
       );
     }
 

@@ -19,7 +19,7 @@ put_record-at-requires c = record { key_value = key_in_lem c.args.table.now c.ar
 pub loop-i-preserved : goal.loop-i-preserved
 loop-i-preserved c = (
   written_on c.args.table.now c.args.keys.now c.loop-i.i (omega arith) c.loop-i.invariant.0 c.put_record-at.ensures,
-  (omega arith, omega (arith, c.out-1.given, c.loop-i.invariant.1.1)),
+  (omega arith, omega (arith, c.loop-i.invariant.1.1)),
 )
 
 pub shape_of-out : goal.shape_of-out

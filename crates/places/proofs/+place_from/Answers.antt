@@ -1,11 +1,9 @@
 -- `places::place_from` meets its contract.
-use borrow.Author.Rules.{rules}
 use native.Mathlib.Omega.{arith}
 use mathlib.Core.Path.{refl}
 use Rattle.laws.proofs.Walked.{leaf_walked}
 use Rattle.laws.proofs.Productions.{ScriptAt, script-at}
 use Rattle.places.proofs.PlaceLaws.{success-place, named-place, block-place, sequence-place}
-use Prim.Native.Nat.{ℕ, ◌<◌}
 use Rattle.places.proofs.+place_from.Goals as goal
 
 pub after_name-next-requires : goal.after_name-next-requires

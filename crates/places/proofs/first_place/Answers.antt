@@ -1,6 +1,5 @@
 -- `places::first_place` meets its contract.
 use Rattle.places.proofs.PlaceLaws.{first-at}
-use borrow.Author.Rules.{rules}
 use Rattle.places.proofs.first_place.Goals as goal
 
 pub returns-in-At : goal.returns-in-At

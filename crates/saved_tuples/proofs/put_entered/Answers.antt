@@ -33,7 +33,7 @@ put_refused-requires c =
 
 pub returns-then-not-read : goal.returns-then-not-read
 returns-then-not-read c =
-    record { written = written_as c.put_refused.ensures.written (no-saved _ _ _ c.args.tuples.now (read_none _ _ c.read_saved-read.ensures (ap not c.if-not-read.true)) c.unread_number.ensures); upper_bound = omega (arith, c.put_refused.ensures.upper_bound, c.requires.line_room_in_bounds) }
+    record { written = written_as c.put_refused.ensures.written (no-saved _ _ _ c.args.tuples.now (read_none _ _ c.read_saved-read.ensures c.if-not-read.true) c.unread_number.ensures); upper_bound = omega (arith, c.put_refused.ensures.upper_bound, c.requires.line_room_in_bounds) }
 
 pub put_refused-requires-then-found-ne0 : goal.put_refused-requires-then-found-ne0
 put_refused-requires-then-found-ne0 c =
@@ -43,7 +43,7 @@ pub returns-then-found-ne0 : goal.returns-then-found-ne0
 returns-then-found-ne0 c =
     record {
       written = written_as c.put_refused-then-found-ne0.ensures.written
-          (not_in _ _ _ c.args.tuples.now c.requires.t _ (read_some _ _ c.read_saved-read.ensures (ap not c.if-not-read.false)) (not_entered c.enter-found.ensures c.if-found-ne0.true));
+          (not_in _ _ _ c.args.tuples.now c.requires.t _ (read_some _ _ c.read_saved-read.ensures c.if-not-read.false) (not_entered c.enter-found.ensures c.if-found-ne0.true));
       upper_bound = omega (arith, c.put_refused-then-found-ne0.ensures.upper_bound, c.requires.line_room_in_bounds);
     }
 
@@ -55,7 +55,7 @@ pub returns-then-not-is_date_time : goal.returns-then-not-is_date_time
 returns-then-not-is_date_time c =
     let x = entered c.enter-found.ensures c.if-found-ne0.false in record {
       written = written_as c.put_refused-then-not-is_date_time.ensures.written
-          (bad-now _ _ _ c.args.tuples.now c.requires.t _ (read_some _ _ c.read_saved-read.ensures (ap not c.if-not-read.false))
+          (bad-now _ _ _ c.args.tuples.now c.requires.t _ (read_some _ _ c.read_saved-read.ensures c.if-not-read.false)
           x.0 x.1 (sym c.is_date_time.ensures ∙ c.if-not-is_date_time.true));
       upper_bound = omega (arith, c.put_refused-then-not-is_date_time.ensures.upper_bound, c.requires.line_room_in_bounds);
     }
@@ -84,6 +84,6 @@ returns c =
     let levels : length c.read_saved-read.result.saved.control.items ≡ depth_limit = search (length-mapped, rules) in
     let x = entered c.enter-found.ensures c.if-found-ne0.false in record {
       written = lines_now _ _ _ _ _ _ _ x.0 x.1 _ _ _ x.2 marks graphs levels _ c.canonical_control-clean.ensures c.args.clock
-          (sym c.is_date_time.ensures ∙ c.if-not-is_date_time.false) _ (read_some _ _ c.read_saved-read.ensures (ap not c.if-not-read.false)) c.args.tuples.now c.put_lines.ensures.written;
+          (sym c.is_date_time.ensures ∙ c.if-not-is_date_time.false) _ (read_some _ _ c.read_saved-read.ensures c.if-not-read.false) c.args.tuples.now c.put_lines.ensures.written;
       upper_bound = c.put_lines.ensures.upper_bound;
     }

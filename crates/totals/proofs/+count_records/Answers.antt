@@ -8,7 +8,7 @@ use Rattle.definitions.specs.Total.{script_records, has_each}
 use Rattle.laws.proofs.Walked.{leaf_walked}
 use Rattle.laws.proofs.Productions.{ScriptAt, script-at}
 use Rattle.totals.proofs.TotalLaws.{counted-fits}
-use Prim.Native.Nat.{ℕ, ◌+◌, ◌<◌}
+use Prim.Native.Nat.{◌+◌}
 use Rattle.totals.proofs.+count_records.Goals as goal
 
 pub after_name-next-requires : goal.after_name-next-requires

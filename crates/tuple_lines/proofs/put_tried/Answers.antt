@@ -11,7 +11,7 @@ use Rattle.tuple_lines.proofs.put_tried.Goals as goal
 
 pub returns-then-not-tried : goal.returns-then-not-tried
 unfolding ascii line
-returns-then-not-tried c = record { written = written_as c.put_text.ensures (bad-line _ (ap not c.if-not-tried.true)); upper_bound = omega (arith, c.put_text.ensures.end) }
+returns-then-not-tried c = record { written = written_as c.put_text.ensures (bad-line _ c.if-not-tried.true); upper_bound = omega (arith, c.put_text.ensures.end) }
 
 pub returns : goal.returns
-returns c = record { written = written_as (written_then (written_then c.put_truth-a.ensures.written c.put_number-b.ensures.written (omega arith)) c.put_byte.ensures (omega arith)) (good-line _ (ap not c.if-not-tried.false)); upper_bound = omega (arith, c.put_truth-a.ensures.upper_bound, c.put_number-b.ensures.upper_bound, c.put_byte.ensures.end) }
+returns c = record { written = written_as (written_then (written_then c.put_truth-a.ensures.written c.put_number-b.ensures.written (omega arith)) c.put_byte.ensures (omega arith)) (good-line _ c.if-not-tried.false); upper_bound = omega (arith, c.put_truth-a.ensures.upper_bound, c.put_number-b.ensures.upper_bound, c.put_byte.ensures.end) }

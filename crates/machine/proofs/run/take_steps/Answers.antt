@@ -15,12 +15,12 @@ step-next-requires c = record { lends_store = stored-now c.requires.lends_store.
 
 pub returns-then-not-next : goal.returns-then-not-next
 returns-then-not-next c =
-    λ w. stops-here w.lends _ _ _ (c.loop-steps.invariant w) (omega arith) _ (c.step-next.ensures (stored-now w.lends _ _ _ (c.loop-steps.invariant w) w.stored)) c.if-not-next.true
+    λ w. stops-here w.lends _ _ _ (c.loop-steps.invariant w) (omega arith) _ (c.step-next.ensures (stored-now w.lends _ _ _ (c.loop-steps.invariant w) w.stored)) (not-true _ c.if-not-next.true)
     _ refl
 
 pub loop-steps-preserved : goal.loop-steps-preserved
 loop-steps-preserved c =
-    λ w. steps_on w.lends _ _ _ (c.loop-steps.invariant w) (omega arith) _ (c.step-next.ensures (stored-now w.lends _ _ _ (c.loop-steps.invariant w) w.stored)) c.if-not-next.false
+    λ w. steps_on w.lends _ _ _ (c.loop-steps.invariant w) (omega arith) _ (c.step-next.ensures (stored-now w.lends _ _ _ (c.loop-steps.invariant w) w.stored)) (not-false _ c.if-not-next.false)
 
 pub look-ending-requires : goal.look-ending-requires
 look-ending-requires c = record { lends_store = stored-now c.requires.lends_store.lends _ _ _ (c.loop-steps.invariant c.requires.lends_store) c.requires.lends_store.stored; ends_lent = c.requires.ends_lent }

@@ -37,6 +37,14 @@ returns-then-count-gt-QUAD_LIMIT c =
 pub write_keys-requires : goal.write_keys-requires
 write_keys-requires c = record { count_in_bounds = omega (arith, c.put_in_order-count.ensures.upper_bound, c.put_in_order-count.auto.keys, length-replicate {A = ℕ} gathered_limit 0); count_le_quad_limit = c.if-count-gt-QUAD_LIMIT.false; table_value = empty-table }
 
+pub copy_from_slice-requires : goal.copy_from_slice-requires
+copy_from_slice-requires c =
+    omega (arith, held-width _ _ _ c.requires.held_tables.1.terms, c.take_copies-end.auto.terms, length-replicate {A = ℕ} term_table_width 0)
+
+pub copy_from_slice-requires-2 : goal.copy_from_slice-requires-2
+copy_from_slice-requires-2 c =
+    omega (arith, quads-width _ _ _ c.requires.held_tables.1.quads, c.write_keys.auto.table, length-replicate {A = ℕ} quad_table_width 0)
+
 pub with_page-after-requires : goal.with_page-after-requires
 with_page-after-requires c = record { graphs_le_graph_limit = c.requires.held_tables.1.graphs; graph_value = sym c.graph_fits.ensures ∙ c.if-not-graph_fits.false }
 

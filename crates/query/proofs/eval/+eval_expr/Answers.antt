@@ -37,7 +37,7 @@ pub returns-then-not-a : goal.returns-then-not-a
 unfolding expr_known
 returns-then-not-a t c =
     let here : ExprAt t c.args.script.now c.args.context.loaded c.args.left c.args.at = expr-at t c.args.script.now c.args.context.loaded c.args.left c.args.at (omega arith) c.requires.loads in
-    let n = here.str c.in-66.is in record { walked = n.node c.eval_expr-a.ensures.walked_2 (λ e h. open-value _ _ _ (Expr.str e) (sym h ∙ c.if-not-a.true) (good-value _ _ _ c.requires.lent c.eval_expr-a.ensures.walked)); walked_2 = n.node c.eval_expr-a.ensures.walked_2 (λ e h. h) }
+    let n = here.str c.in-66.is in record { walked = n.node c.eval_expr-a.ensures.walked_2 (λ e h. open-value _ _ _ (Expr.str e) (sym h ∙ (not-true _ c.if-not-a.true)) (good-value _ _ _ c.requires.lent c.eval_expr-a.ensures.walked)); walked_2 = n.node c.eval_expr-a.ensures.walked_2 (λ e h. h) }
 
 pub text_of-value-requires : goal.text_of-value-requires
 text_of-value-requires t c = good-value _ _ _ c.requires.lent c.eval_expr-a.ensures.walked
@@ -50,7 +50,7 @@ pub returns-then-not-a-2 : goal.returns-then-not-a-2
 unfolding expr_known
 returns-then-not-a-2 t c =
     let here : ExprAt t c.args.script.now c.args.context.loaded c.args.left c.args.at = expr-at t c.args.script.now c.args.context.loaded c.args.left c.args.at (omega arith) c.requires.loads in
-    let n = here.abs c.in-67.is in record { walked = n.node c.eval_expr-a-in-67.ensures.walked_2 (λ e h. open-value _ _ _ (Expr.abs e) (sym h ∙ c.if-not-a-2.true) (good-value _ _ _ c.requires.lent c.eval_expr-a-in-67.ensures.walked)); walked_2 = n.node c.eval_expr-a-in-67.ensures.walked_2 (λ e h. h) }
+    let n = here.abs c.in-67.is in record { walked = n.node c.eval_expr-a-in-67.ensures.walked_2 (λ e h. open-value _ _ _ (Expr.abs e) (sym h ∙ (not-true _ c.if-not-a-2.true)) (good-value _ _ _ c.requires.lent c.eval_expr-a-in-67.ensures.walked)); walked_2 = n.node c.eval_expr-a-in-67.ensures.walked_2 (λ e h. h) }
 
 pub abs-value-requires : goal.abs-value-requires
 abs-value-requires t c = good-value _ _ _ c.requires.lent c.eval_expr-a-in-67.ensures.walked
@@ -105,13 +105,13 @@ pub returns-else-not-a : goal.returns-else-not-a
 unfolding expr_known
 returns-else-not-a t c =
     let here : ExprAt t c.args.script.now c.args.context.loaded c.args.left c.args.at = expr-at t c.args.script.now c.args.context.loaded c.args.left c.args.at (omega arith) c.requires.loads in
-    let n = here.str c.in-66.is in record { walked = n.node c.eval_expr-a.ensures.walked (λ e h. str-value _ _ _ e h (holds-gives c.text_of-value.ensures)); walked_2 = n.node c.eval_expr-a.ensures.walked_2 (λ e h. sym c.if-not-a.false ∙ h) }
+    let n = here.str c.in-66.is in record { walked = n.node c.eval_expr-a.ensures.walked (λ e h. str-value _ _ _ e h (holds-gives c.text_of-value.ensures)); walked_2 = n.node c.eval_expr-a.ensures.walked_2 (λ e h. sym (not-false _ c.if-not-a.false) ∙ h) }
 
 pub returns-else-not-a-2 : goal.returns-else-not-a-2
 unfolding expr_known
 returns-else-not-a-2 t c =
     let here : ExprAt t c.args.script.now c.args.context.loaded c.args.left c.args.at = expr-at t c.args.script.now c.args.context.loaded c.args.left c.args.at (omega arith) c.requires.loads in
-    let n = here.abs c.in-67.is in record { walked = n.node c.eval_expr-a-in-67.ensures.walked (λ e h. abs-value _ _ _ e h c.abs-value.ensures); walked_2 = n.node c.eval_expr-a-in-67.ensures.walked_2 (λ e h. sym c.if-not-a-2.false ∙ h) }
+    let n = here.abs c.in-67.is in record { walked = n.node c.eval_expr-a-in-67.ensures.walked (λ e h. abs-value _ _ _ e h c.abs-value.ensures); walked_2 = n.node c.eval_expr-a-in-67.ensures.walked_2 (λ e h. sym (not-false _ c.if-not-a-2.false) ∙ h) }
 
 pub returns-else-not-a-b : goal.returns-else-not-a-b
 unfolding expr_known

@@ -78,7 +78,7 @@ returns-then-not-a t c =
     let beyond : (m : ℕ) → Reads (λ d n. m < n) (reading (c.args.left - 1) m) = λ m d n r. (query-within _ _ _ _ d n r).from in
     let end : (e : ℕ) → e ≡ after_in c.args.ends.now (length c.args.script.now) c.args.at → Reads (λ d n. e ≡ n) (reading c.args.left c.args.at) = λ e h d n r. h ∙ query-ends _ _ c.requires.ends_lent.ended _ _ _ d n r in
     let n = here.both c.in-98.is in
-    let ended = end _ c.after-next.ensures in record { walked = left_out n c.eval_query-a.ensures.walked (λ q r h. both_first _ _ _ _ _ q r h (ap not c.if-not-a.true)) ended; records_bound = omega (arith, c.eval_query-a.ensures.records_bound, left-within n c.eval_query-a.ensures.walked (beyond _) ended) }
+    let ended = end _ c.after-next.ensures in record { walked = left_out n c.eval_query-a.ensures.walked (λ q r h. both_first _ _ _ _ _ q r h c.if-not-a.true) ended; records_bound = omega (arith, c.eval_query-a.ensures.records_bound, left-within n c.eval_query-a.ensures.walked (beyond _) ended) }
 
 pub returns-then-a : goal.returns-then-a
 returns-then-a t c =
@@ -99,7 +99,7 @@ pub returns-else-not-a : goal.returns-else-not-a
 returns-else-not-a t c =
     let here : QueryAt t c.args.script.now c.args.context.loaded c.args.left c.args.at = query-at t c.args.script.now c.args.context.loaded c.args.left c.args.at (omega arith) c.requires.loads in record {
       walked = (here.both c.in-98.is).node c.eval_query-a.ensures.walked c.eval_query-b.ensures.walked
-          (λ q r h k. both-holds _ _ _ _ _ q r h k (ap not c.if-not-a.false));
+          (λ q r h k. both-holds _ _ _ _ _ q r h k c.if-not-a.false);
       records_bound = omega (arith, c.eval_query-a.ensures.records_bound, c.eval_query-b.ensures.records_bound);
     }
 

@@ -77,7 +77,7 @@ pub returns-then-not-a : goal.returns-then-not-a
 returns-then-not-a t c =
     let here : CondAt t c.args.script.now c.args.context.loaded c.args.left c.args.at = cond-at t c.args.script.now c.args.context.loaded c.args.left c.args.at (omega arith) c.requires.loads in
     let n = here.regex c.in-85.is in
-    n.rest.node c.eval_expr-a.ensures.walked_2 (λ e h. text-open _ _ _ _ _ e h (ap not c.if-not-a.true) n.value)
+    n.rest.node c.eval_expr-a.ensures.walked_2 (λ e h. text-open _ _ _ _ _ e h c.if-not-a.true n.value)
 
 pub regex-truth-requires : goal.regex-truth-requires
 regex-truth-requires t c =
@@ -95,7 +95,7 @@ pub returns-then-not-a-2 : goal.returns-then-not-a-2
 returns-then-not-a-2 t c =
     let here : CondAt t c.args.script.now c.args.context.loaded c.args.left c.args.at = cond-at t c.args.script.now c.args.context.loaded c.args.left c.args.at (omega arith) c.requires.loads in
     let n = here.lang_matches c.in-86.is in
-    n.rest.node c.eval_expr-a-in-86.ensures.walked_2 (λ e h. tag_open _ _ _ _ _ e h (ap not c.if-not-a-2.true) n.value)
+    n.rest.node c.eval_expr-a-in-86.ensures.walked_2 (λ e h. tag_open _ _ _ _ _ e h c.if-not-a-2.true n.value)
 
 pub lang_matches-truth-requires : goal.lang_matches-truth-requires
 lang_matches-truth-requires t c =
@@ -129,7 +129,7 @@ returns-then-not-a-3 t c =
     let reading : (left at : ℕ) → Got Cond = λ left at. read_cond c.args.script.now c.args.context.loaded left at in
     let here : CondAt t c.args.script.now c.args.context.loaded c.args.left c.args.at = cond-at t c.args.script.now c.args.context.loaded c.args.left c.args.at (omega arith) c.requires.loads in
     let end : (e : ℕ) → e ≡ after_in c.args.ends.now (length c.args.script.now) c.args.at → Reads (λ d n. e ≡ n) (reading c.args.left c.args.at) = λ e h d n r. h ∙ cond-ends _ _ c.requires.ends_lent.ended _ _ _ d n r in
-    left_out (here.equal c.in-87.is) c.eval_expr-a-in-87.ensures.walked_2 (λ e f h. equal-first-open _ _ _ _ _ e f h (ap not c.if-not-a-3.true))
+    left_out (here.equal c.in-87.is) c.eval_expr-a-in-87.ensures.walked_2 (λ e f h. equal-first-open _ _ _ _ _ e f h c.if-not-a-3.true)
     (end _ c.after-next-then-not-a-3.ensures)
 
 pub eval_expr-b-requires : goal.eval_expr-b-requires
@@ -140,7 +140,7 @@ pub returns-then-not-b : goal.returns-then-not-b
 returns-then-not-b t c =
     let here : CondAt t c.args.script.now c.args.context.loaded c.args.left c.args.at = cond-at t c.args.script.now c.args.context.loaded c.args.left c.args.at (omega arith) c.requires.loads in
     (here.equal c.in-87.is).node c.eval_expr-a-in-87.ensures.walked_2 c.eval_expr-b.ensures.walked_2
-    (λ e f h k. equal-second-open _ _ _ _ _ e f h k (ap not c.if-not-a-3.false) (ap not c.if-not-b.true))
+    (λ e f h k. equal-second-open _ _ _ _ _ e f h k c.if-not-a-3.false c.if-not-b.true)
 
 pub equal-truth-requires : goal.equal-truth-requires
 equal-truth-requires t c = record { good = good-value _ _ _ c.requires.ranks_lent.terms c.eval_expr-a-in-87.ensures.walked; good_2 = good-value _ _ _ c.requires.ranks_lent.terms c.eval_expr-b.ensures.walked }
@@ -173,7 +173,7 @@ returns-then-not-a-4 t c =
     let reading : (left at : ℕ) → Got Cond = λ left at. read_cond c.args.script.now c.args.context.loaded left at in
     let here : CondAt t c.args.script.now c.args.context.loaded c.args.left c.args.at = cond-at t c.args.script.now c.args.context.loaded c.args.left c.args.at (omega arith) c.requires.loads in
     let end : (e : ℕ) → e ≡ after_in c.args.ends.now (length c.args.script.now) c.args.at → Reads (λ d n. e ≡ n) (reading c.args.left c.args.at) = λ e h d n r. h ∙ cond-ends _ _ c.requires.ends_lent.ended _ _ _ d n r in
-    left_out (here.less c.in_default.in_default-own.rest) c.eval_expr-a-in_default.ensures.walked_2 (λ e f h. less-first-open _ _ _ _ _ e f h (ap not c.if-not-a-4.true))
+    left_out (here.less c.in_default.in_default-own.rest) c.eval_expr-a-in_default.ensures.walked_2 (λ e f h. less-first-open _ _ _ _ _ e f h c.if-not-a-4.true)
     (end _ c.after-next-then-not-a-4.ensures)
 
 pub eval_expr-b-requires-in_default : goal.eval_expr-b-requires-in_default
@@ -184,7 +184,7 @@ pub returns-then-not-b-2 : goal.returns-then-not-b-2
 returns-then-not-b-2 t c =
     let here : CondAt t c.args.script.now c.args.context.loaded c.args.left c.args.at = cond-at t c.args.script.now c.args.context.loaded c.args.left c.args.at (omega arith) c.requires.loads in
     (here.less c.in_default.in_default-own.rest).node c.eval_expr-a-in_default.ensures.walked_2 c.eval_expr-b-in_default.ensures.walked_2
-    (λ e f h k. less-second-open _ _ _ _ _ e f h k (ap not c.if-not-a-4.false) (ap not c.if-not-b-2.true))
+    (λ e f h k. less-second-open _ _ _ _ _ e f h k c.if-not-a-4.false c.if-not-b-2.true)
 
 pub less-truth-requires : goal.less-truth-requires
 less-truth-requires t c = record { ranks_len = c.requires.ranks_lent.ranked; good = good-value _ _ _ c.requires.ranks_lent.terms c.eval_expr-a-in_default.ensures.walked; good_2 = good-value _ _ _ c.requires.ranks_lent.terms c.eval_expr-b-in_default.ensures.walked }
@@ -216,28 +216,28 @@ returns-else-not-a t c =
     let here : CondAt t c.args.script.now c.args.context.loaded c.args.left c.args.at = cond-at t c.args.script.now c.args.context.loaded c.args.left c.args.at (omega arith) c.requires.loads in
     let n = here.regex c.in-85.is in
     n.rest.node (both-walked c.eval_expr-a.ensures.walked c.eval_expr-a.ensures.walked_2)
-    (λ e h. regex-may _ _ _ _ _ e h.1 (ap not c.if-not-a.false) c.comes_to-holds.ensures _ (regex-truth _ _ _ _ e h.0 _ (c.regex-truth.ensures n.value n.is_good)))
+    (λ e h. regex-may _ _ _ _ _ e h.1 c.if-not-a.false c.comes_to-holds.ensures _ (regex-truth _ _ _ _ e h.0 _ (c.regex-truth.ensures n.value n.is_good)))
 
 pub returns-else-not-a-2 : goal.returns-else-not-a-2
 returns-else-not-a-2 t c =
     let here : CondAt t c.args.script.now c.args.context.loaded c.args.left c.args.at = cond-at t c.args.script.now c.args.context.loaded c.args.left c.args.at (omega arith) c.requires.loads in
     let n = here.lang_matches c.in-86.is in
     n.rest.node (both-walked c.eval_expr-a-in-86.ensures.walked c.eval_expr-a-in-86.ensures.walked_2)
-    (λ e h. language-may _ _ _ _ _ e h.1 (ap not c.if-not-a-2.false) c.comes_to-holds-in-86.ensures _ (language-truth _ _ _ _ e h.0 _ (c.lang_matches-truth.ensures n.value n.is_good)))
+    (λ e h. language-may _ _ _ _ _ e h.1 c.if-not-a-2.false c.comes_to-holds-in-86.ensures _ (language-truth _ _ _ _ e h.0 _ (c.lang_matches-truth.ensures n.value n.is_good)))
 
 pub returns-else-not-b : goal.returns-else-not-b
 returns-else-not-b t c =
     let here : CondAt t c.args.script.now c.args.context.loaded c.args.left c.args.at = cond-at t c.args.script.now c.args.context.loaded c.args.left c.args.at (omega arith) c.requires.loads in
     (here.equal c.in-87.is).node (both-walked c.eval_expr-a-in-87.ensures.walked c.eval_expr-a-in-87.ensures.walked_2)
     (both-walked c.eval_expr-b.ensures.walked c.eval_expr-b.ensures.walked_2)
-    (λ e f h k. equal-may _ _ _ _ _ e f h.1 k.1 (ap not c.if-not-a-3.false) (ap not c.if-not-b.false) c.comes_to-holds-in-87.ensures (equal-truth _ _ _ _ e h.0 f k.0 c.equal-truth.ensures))
+    (λ e f h k. equal-may _ _ _ _ _ e f h.1 k.1 c.if-not-a-3.false c.if-not-b.false c.comes_to-holds-in-87.ensures (equal-truth _ _ _ _ e h.0 f k.0 c.equal-truth.ensures))
 
 pub returns-else-not-b-2 : goal.returns-else-not-b-2
 returns-else-not-b-2 t c =
     let here : CondAt t c.args.script.now c.args.context.loaded c.args.left c.args.at = cond-at t c.args.script.now c.args.context.loaded c.args.left c.args.at (omega arith) c.requires.loads in
     (here.less c.in_default.in_default-own.rest).node (both-walked c.eval_expr-a-in_default.ensures.walked c.eval_expr-a-in_default.ensures.walked_2)
     (both-walked c.eval_expr-b-in_default.ensures.walked c.eval_expr-b-in_default.ensures.walked_2)
-    (λ e f h k. less-may _ _ _ _ _ e f h.1 k.1 (ap not c.if-not-a-4.false) (ap not c.if-not-b-2.false) c.comes_to-holds-in_default.ensures (less-truth _ _ _ _ e h.0 f k.0 c.less-truth.ensures))
+    (λ e f h k. less-may _ _ _ _ _ e f h.1 k.1 c.if-not-a-4.false c.if-not-b-2.false c.comes_to-holds-in_default.ensures (less-truth _ _ _ _ e h.0 f k.0 c.less-truth.ensures))
 
 pub bounds-script-at : goal.bounds-script-at
 bounds-script-at t c =

@@ -1,14 +1,10 @@
 use Prim.Native.Nat.{◌≤◌, ◌-◌}
-use native.Mathlib.Omega.{arith}
-use mathlib.Core.Path.{◌≡◌, sym, ap, ◌∙◌}
-use borrow.Author.Rules.{rules}
+use mathlib.Core.Path.{◌≡◌}
 use lib.ListN.{length}
 use Rattle.definitions.specs.Terms.{read_entry, read_schema}
 use Rattle.fields.specs.Answers.{count_of}
 use Rattle.laws.specs.Records.{records_at}
-use Rattle.laws.proofs.RecordsAt.{entry-forward, schema-at}
-use Rattle.records.proofs.ListLaws.{count-end, count-bad, count_next, next-after}
-use Rattle.table.proofs.CountLaws.{count_from, count-zero}
+use Rattle.table.proofs.CountLaws.{count_from}
 use Rattle.records.proofs.lists.count_entries.Given as goal
 
 abbrev pub invariant-loop-at : goal.invariant-loop-at

@@ -1,15 +1,11 @@
 -- `records::lists::count_triples` meets its contract. The loop keeps what is asked of the rest equal to what is asked of the whole.
-use Prim.Native.Nat.{◌≤◌, ◌-◌}
 use native.Mathlib.Omega.{arith}
-use mathlib.Core.Path.{◌≡◌, sym, ap, ◌∙◌}
-use borrow.Author.Rules.{rules}
-use lib.ListN.{length}
-use Rattle.definitions.specs.Terms.{read_triple, read_page}
+use mathlib.Core.Path.{sym, ap, ◌∙◌}
+use Rattle.definitions.specs.Terms.{read_triple}
 use Rattle.fields.specs.Answers.{count_of}
-use Rattle.laws.specs.Records.{records_at}
 use Rattle.laws.proofs.RecordsAt.{triple-forward, page-at}
 use Rattle.records.proofs.ListLaws.{count-end, count-bad, count_next, next-after}
-use Rattle.table.proofs.CountLaws.{count_from, count-zero}
+use Rattle.table.proofs.CountLaws.{count-zero}
 use Rattle.records.proofs.lists.count_triples.Goals as goal
 
 pub loop-at-init : goal.loop-at-init

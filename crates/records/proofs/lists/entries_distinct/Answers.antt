@@ -1,11 +1,7 @@
 -- `records::lists::entries_distinct` meets its contract. The loop keeps what is asked of the rest equal to what is asked of the whole.
-use Prim.Native.Nat.{◌-◌}
 use native.Mathlib.Omega.{arith}
-use mathlib.Core.Bool.{true}
-use mathlib.Core.Path.{◌≡◌, sym, ap, ◌∙◌}
-use lib.ListN.{length}
-use Rattle.definitions.specs.Terms.{same_property, read_entry, read_schema}
-use Rattle.laws.specs.Records.{records_at}
+use mathlib.Core.Path.{sym, ap, ◌∙◌}
+use Rattle.definitions.specs.Terms.{same_property, read_entry}
 use Rattle.laws.proofs.RecordsAt.{entry-forward, schema-at}
 use Rattle.laws.specs.ReadAnswers.{is_some}
 use Rattle.fields.specs.Answers.{distinct_in}

@@ -1,15 +1,11 @@
 use Prim.Native.Nat.{◌-◌}
-use native.Mathlib.Omega.{arith}
 use mathlib.Core.Bool.{true}
-use mathlib.Core.Path.{◌≡◌, sym, ap, ◌∙◌}
+use mathlib.Core.Path.{◌≡◌}
 use lib.ListN.{length}
 use Rattle.definitions.specs.Terms.{same_property, read_entry, read_schema}
 use Rattle.laws.specs.Records.{records_at}
-use Rattle.laws.proofs.RecordsAt.{entry-forward, schema-at}
 use Rattle.laws.specs.ReadAnswers.{is_some}
 use Rattle.fields.specs.Answers.{distinct_in}
-use Rattle.records.proofs.ListLaws.{good-one, good-after, good-rest, distinct-not, distinct-rest, distinct-end}
-use Rattle.fields.proofs.SameLaws.{entry-inside, entry-ends}
 use Rattle.records.proofs.lists.entries_distinct.Given as goal
 
 abbrev pub invariant-loop-at : goal.invariant-loop-at

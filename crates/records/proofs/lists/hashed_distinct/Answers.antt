@@ -1,15 +1,10 @@
 -- `records::lists::hashed_distinct` meets its contract. The loop keeps what is asked of the rest equal to what is asked of the whole.
-use Prim.Native.Nat.{◌-◌, ◌*◌}
 use native.Mathlib.Omega.{arith}
-use mathlib.Core.Bool.{true}
-use mathlib.Core.Path.{◌≡◌, sym, ap, ◌∙◌}
-use borrow.Author.Rules.{rules}
-use Rattle.definitions.specs.Terms.{same_property, read_entry, read_schema}
-use Rattle.laws.specs.Records.{records_at}
+use mathlib.Core.Path.{sym, ap, ◌∙◌}
+use Rattle.definitions.specs.Terms.{same_property, read_entry}
 use Rattle.laws.proofs.RecordsAt.{entry-forward, schema-at}
 use Rattle.laws.specs.ReadAnswers.{is_some}
 use Rattle.fields.specs.Answers.{distinct_in}
-use Rattle.definitions.specs.Limits.{entry_width}
 use Rattle.records.proofs.ListLaws.{distinct-end}
 use Rattle.records.proofs.EntryLaws.{schema-whole, entry-good, after-good, next-good, distinct-found, distinct-next, distinct-hashes}
 use Rattle.records.proofs.lists.hashed_distinct.Goals as goal

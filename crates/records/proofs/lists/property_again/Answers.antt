@@ -1,13 +1,7 @@
 -- `records::lists::property_again` meets its contract. The loop keeps what is asked of the rest equal to what is asked of the whole.
-use Prim.Native.Nat.{◌-◌}
 use native.Mathlib.Omega.{arith}
-use mathlib.Core.Bool.{true}
-use mathlib.Core.Path.{◌≡◌, refl, sym, ◌∙◌}
-use lib.ListN.{length}
-use Rattle.definitions.specs.Terms.{same_property, read_entry}
-use Rattle.laws.specs.ReadAnswers.{is_some}
-use Rattle.fields.specs.Answers.{again_in}
-use Rattle.laws.specs.Records.{records_at}
+use mathlib.Core.Path.{refl, sym, ◌∙◌}
+use Rattle.definitions.specs.Terms.{read_entry}
 use Rattle.laws.proofs.RecordsAt.{entry-forward}
 use Rattle.records.proofs.ListLaws.{good-one, good-after, good-rest, again-here, again_rest, again-end}
 use Rattle.fields.proofs.SameLaws.{entry-inside, entry-ends}

@@ -1,15 +1,11 @@
 use Prim.Native.Nat.{◌-◌}
-use native.Mathlib.Omega.{arith}
 use mathlib.Core.Bool.{true}
-use mathlib.Core.Path.{◌≡◌, refl, sym, ◌∙◌}
+use mathlib.Core.Path.{◌≡◌}
 use lib.ListN.{length}
 use Rattle.definitions.specs.Terms.{same_property, read_entry}
 use Rattle.laws.specs.ReadAnswers.{is_some}
 use Rattle.fields.specs.Answers.{again_in}
 use Rattle.laws.specs.Records.{records_at}
-use Rattle.laws.proofs.RecordsAt.{entry-forward}
-use Rattle.records.proofs.ListLaws.{good-one, good-after, good-rest, again-here, again_rest, again-end}
-use Rattle.fields.proofs.SameLaws.{entry-inside, entry-ends}
 use Rattle.records.proofs.lists.property_again.Given as goal
 
 abbrev pub invariant-loop-i : goal.invariant-loop-i

@@ -1,13 +1,9 @@
 -- `records::lists::records_distinct` meets its contract. The loop keeps what is asked of the rest equal to what is asked of the whole.
-use Prim.Native.Nat.{◌-◌}
 use native.Mathlib.Omega.{arith}
-use mathlib.Core.Bool.{true}
-use mathlib.Core.Path.{◌≡◌, sym, ap, ◌∙◌}
-use lib.ListN.{length}
-use Rattle.definitions.specs.Terms.{same_term, read_term, read_terms}
+use mathlib.Core.Path.{sym, ap, ◌∙◌}
+use Rattle.definitions.specs.Terms.{same_term, read_term}
 use Rattle.laws.specs.ReadAnswers.{is_some}
 use Rattle.fields.specs.Answers.{distinct_in}
-use Rattle.laws.specs.Records.{records_at}
 use Rattle.laws.proofs.RecordsAt.{term-forward, terms-at}
 use Rattle.records.proofs.ListLaws.{good-one, good-after, good-rest, distinct-not, distinct-rest, distinct-end}
 use Rattle.records.proofs.lists.records_distinct.Goals as goal

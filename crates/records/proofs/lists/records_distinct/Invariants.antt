@@ -1,14 +1,11 @@
 use Prim.Native.Nat.{◌-◌}
-use native.Mathlib.Omega.{arith}
 use mathlib.Core.Bool.{true}
-use mathlib.Core.Path.{◌≡◌, sym, ap, ◌∙◌}
+use mathlib.Core.Path.{◌≡◌}
 use lib.ListN.{length}
 use Rattle.definitions.specs.Terms.{same_term, read_term, read_terms}
 use Rattle.laws.specs.ReadAnswers.{is_some}
 use Rattle.fields.specs.Answers.{distinct_in}
 use Rattle.laws.specs.Records.{records_at}
-use Rattle.laws.proofs.RecordsAt.{term-forward, terms-at}
-use Rattle.records.proofs.ListLaws.{good-one, good-after, good-rest, distinct-not, distinct-rest, distinct-end}
 use Rattle.records.proofs.lists.records_distinct.Given as goal
 
 abbrev pub invariant-loop-at : goal.invariant-loop-at

@@ -1,6 +1,5 @@
 -- `records::lists::same_property` meets its contract.
 use native.Mathlib.Omega.{arith}
-use borrow.Author.Rules.{rules}
 use Rattle.fields.proofs.SameLaws.{entry-inside, same-properties}
 use Rattle.records.proofs.lists.same_property.Goals as goal
 

@@ -1,6 +1,5 @@
 -- `records::lists::same_term` meets its contract.
 use native.Mathlib.Omega.{arith}
-use borrow.Author.Rules.{rules}
 use Rattle.fields.proofs.SameLaws.{term-next, same-terms}
 use Rattle.records.proofs.lists.same_term.Goals as goal
 

@@ -1,14 +1,11 @@
 use Prim.Native.Nat.{◌-◌}
-use native.Mathlib.Omega.{arith}
 use mathlib.Core.Bool.{true}
-use mathlib.Core.Path.{◌≡◌, refl, sym, ◌∙◌}
+use mathlib.Core.Path.{◌≡◌}
 use lib.ListN.{length}
 use Rattle.definitions.specs.Terms.{same_term, read_term}
 use Rattle.laws.specs.ReadAnswers.{is_some}
 use Rattle.fields.specs.Answers.{again_in}
 use Rattle.laws.specs.Records.{records_at}
-use Rattle.laws.proofs.RecordsAt.{term-forward}
-use Rattle.records.proofs.ListLaws.{good-one, good-after, good-rest, again-here, again_rest, again-end}
 use Rattle.records.proofs.lists.term_again.Given as goal
 
 abbrev pub invariant-loop-i : goal.invariant-loop-i

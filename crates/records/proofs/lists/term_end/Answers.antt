@@ -1,6 +1,5 @@
 -- `records::lists::term_end` meets its contract.
 use native.Mathlib.Omega.{arith}
-use borrow.Author.Rules.{rules}
 use Rattle.fields.proofs.SameLaws.{term-inside, term-ends, term_fits}
 use Rattle.records.proofs.lists.term_end.Goals as goal
 

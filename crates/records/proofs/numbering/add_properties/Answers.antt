@@ -1,15 +1,11 @@
 -- `records::numbering::add_properties` meets its contract. The loop keeps what is asked of the rest equal to what is asked of the whole, and the hashes of the terms so far.
 use Prim.Native.Nat.{◌-◌, ◌+◌}
 use native.Mathlib.Omega.{arith}
-use mathlib.Core.Path.{◌≡◌, sym, ◌∙◌}
-use borrow.Author.Rules.{rules}
-use Rattle.definitions.specs.Limits.{text_width, term_limit}
-use lib.ListN.{length, length-take, drop}
-use Rattle.definitions.specs.Saved.{terms_in}
-use Rattle.table.specs.Hashes.{Hashed}
-use Rattle.table.specs.Table.{list_of}
+use mathlib.Core.Path.{sym, ◌∙◌}
+use Rattle.definitions.specs.Limits.{text_width}
+use lib.ListN.{length-take, drop}
 use Rattle.fields.proofs.SameLaws.{entry-inside}
-use Rattle.records.proofs.NumberingLaws.{Adding, held-width, held-holds, count-hashed, full-hashed, entry-good, property-slot, adding-start, adding-end, adding-next, adding-full}
+use Rattle.records.proofs.NumberingLaws.{held-width, held-holds, count-hashed, full-hashed, entry-good, property-slot, adding-start, adding-end, adding-next, adding-full}
 use Rattle.records.proofs.numbering.add_properties.Goals as goal
 
 pub loop-at-init : goal.loop-at-init

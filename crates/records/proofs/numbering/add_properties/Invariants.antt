@@ -1,14 +1,11 @@
-use Prim.Native.Nat.{◌-◌, ◌+◌}
-use native.Mathlib.Omega.{arith}
-use mathlib.Core.Path.{◌≡◌, sym, ◌∙◌}
-use borrow.Author.Rules.{rules}
-use Rattle.definitions.specs.Limits.{text_width, term_limit}
-use lib.ListN.{length, length-take, drop}
+use Prim.Native.Nat.{◌-◌}
+use mathlib.Core.Path.{◌≡◌}
+use Rattle.definitions.specs.Limits.{term_limit}
+use lib.ListN.{length}
 use Rattle.definitions.specs.Saved.{terms_in}
 use Rattle.table.specs.Hashes.{Hashed}
 use Rattle.table.specs.Table.{list_of}
-use Rattle.fields.proofs.SameLaws.{entry-inside}
-use Rattle.records.proofs.NumberingLaws.{Adding, held-width, held-holds, count-hashed, full-hashed, entry-good, property-slot, adding-start, adding-end, adding-next, adding-full}
+use Rattle.records.proofs.NumberingLaws.{Adding}
 use Rattle.records.proofs.numbering.add_properties.Given as goal
 
 abbrev pub invariant-loop-at : goal.invariant-loop-at

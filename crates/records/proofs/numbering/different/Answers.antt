@@ -3,7 +3,6 @@ use mathlib.Core.Path.{ap, ◌∙◌}
 use Rattle.definitions.specs.Terms.{same_term}
 use Rattle.fields.specs.Answers.{distinct_in}
 use Rattle.records.proofs.NumberingLaws.{listed-good, listed-holds, listed_same}
-use borrow.Author.Rules.{rules}
 use Rattle.records.proofs.numbering.different.Goals as goal
 
 pub records_distinct-requires : goal.records_distinct-requires

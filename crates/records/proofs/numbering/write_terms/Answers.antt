@@ -1,11 +1,11 @@
 -- `records::numbering::write_terms` meets its contract. The loop keeps what is read so far, and written as long as there was room.
-use Prim.Native.Nat.{ℕ, ◌-◌}
+use Prim.Native.Nat.{ℕ}
 use native.Mathlib.Omega.{arith}
 use mathlib.Core.Path.{◌≡◌, sym, ap, ◌∙◌}
 use borrow.Author.Rules.{rules}
 use lib.ListN.{length, length-replicate}
 use Rattle.definitions.specs.Limits.{term_table_width}
-use Rattle.records.proofs.NumberingLaws.{Writing, term-after, writing_start, still-hashed, writing-bad, writing-next, writing-count, writing-end}
+use Rattle.records.proofs.NumberingLaws.{term-after, writing_start, still-hashed, writing-bad, writing-next, writing-count, writing-end}
 use Rattle.records.proofs.numbering.write_terms.Goals as goal
 
 pub loop-at-init : goal.loop-at-init

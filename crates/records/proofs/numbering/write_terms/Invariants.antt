@@ -1,10 +1,6 @@
-use Prim.Native.Nat.{ℕ, ◌-◌}
-use native.Mathlib.Omega.{arith}
-use mathlib.Core.Path.{◌≡◌, sym, ap, ◌∙◌}
-use borrow.Author.Rules.{rules}
-use lib.ListN.{length, length-replicate}
-use Rattle.definitions.specs.Limits.{term_table_width}
-use Rattle.records.proofs.NumberingLaws.{Writing, term-after, writing_start, still-hashed, writing-bad, writing-next, writing-count, writing-end}
+use Prim.Native.Nat.{◌-◌}
+use lib.ListN.{length}
+use Rattle.records.proofs.NumberingLaws.{Writing}
 use Rattle.records.proofs.numbering.write_terms.Given as goal
 
 abbrev pub invariant-loop-at : goal.invariant-loop-at

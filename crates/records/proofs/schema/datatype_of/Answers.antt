@@ -1,15 +1,14 @@
 -- `records::schema::datatype_of` meets its contract. The loop keeps what is asked of the rest equal to what is asked of the whole.
-use Prim.Native.Nat.{◌+◌, ◌-◌, ◌/◌}
+use Prim.Native.Nat.{◌+◌, ◌/◌}
 use native.Mathlib.Omega.{arith}
 use mathlib.Core.Path.{sym, ◌∙◌}
-use borrow.Author.Rules.{rules}
 use lib.ListN.{length}
 use lib.Seq.{length-take-le}
 use Rattle.definitions.specs.Limits.{entry_width}
 use Rattle.fields.proofs.SameLaws.{compared}
 use Rattle.table.proofs.PlaceLaws.{place-within}
 use Rattle.records.proofs.SchemaLaws.{code-end}
-use Rattle.records.proofs.EntryLaws.{AskedFrom, schema-whole, next-good, code-next, code-found, code-place, code-first}
+use Rattle.records.proofs.EntryLaws.{schema-whole, next-good, code-next, code-found, code-place, code-first}
 use Rattle.records.proofs.schema.datatype_of.Goals as goal
 
 pub slice_bounds-place_of-end : goal.slice_bounds-place_of-end

@@ -1,10 +1,8 @@
 -- `records::schema::hash_entries` meets its contract. The loop keeps the hashes made so far.
-use Prim.Native.Nat.{ℕ, ◌-◌}
+use Prim.Native.Nat.{ℕ}
 use native.Mathlib.Omega.{arith}
-use mathlib.Core.Path.{◌≡◌}
-use borrow.Author.Rules.{rules}
-use lib.ListN.{length, replicate, length-replicate, length-set}
-use Rattle.records.proofs.EntryLaws.{HashedTo, one_entry, all-entries}
+use lib.ListN.{replicate, length-replicate, length-set}
+use Rattle.records.proofs.EntryLaws.{one_entry, all-entries}
 use Rattle.table.proofs.HashLaws.{none-hashed}
 use Rattle.definitions.specs.Limits.{entry_limit}
 use Rattle.records.proofs.schema.hash_entries.Goals as goal

@@ -1,10 +1,7 @@
-use Prim.Native.Nat.{ℕ, ◌-◌}
-use native.Mathlib.Omega.{arith}
+use Prim.Native.Nat.{◌-◌}
 use mathlib.Core.Path.{◌≡◌}
-use borrow.Author.Rules.{rules}
-use lib.ListN.{length, replicate, length-replicate, length-set}
-use Rattle.records.proofs.EntryLaws.{HashedTo, one_entry, all-entries}
-use Rattle.table.proofs.HashLaws.{none-hashed}
+use lib.ListN.{length}
+use Rattle.records.proofs.EntryLaws.{HashedTo}
 use Rattle.definitions.specs.Limits.{entry_limit}
 use Rattle.records.proofs.schema.hash_entries.Given as goal
 

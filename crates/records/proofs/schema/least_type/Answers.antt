@@ -1,7 +1,6 @@
 -- `records::schema::least_type` meets its contract.
 use native.Mathlib.Omega.{arith}
 use mathlib.Core.Path.{refl, ap, ◌∙◌}
-use borrow.Author.Rules.{rules}
 use Rattle.definitions.specs.Limits.{text_width}
 use Rattle.definitions.specs.Bytes.{part}
 use Rattle.definitions.specs.Terms.{uri_text, read_schema}

@@ -6,7 +6,6 @@ use Rattle.laws.proofs.Productions.{ScriptAt, script-at}
 use Rattle.definitions.specs.Scope.{binders_of}
 use Rattle.scope.specs.Bindings.{bind_all}
 use Rattle.scope.proofs.BindLaws.{pairs-at, block-binds, two-binds}
-use Prim.Native.Nat.{ℕ, ◌<◌}
 use Rattle.scope.proofs.scope.+bind_script.Goals as goal
 
 pub after_name-next-requires : goal.after_name-next-requires

@@ -9,7 +9,6 @@ use Rattle.definitions.specs.Limits.{variable_limit}
 use Rattle.definitions.specs.Scope.{in_name, in_query, is_free}
 use Rattle.scope.proofs.UseLaws.{uses-none, uses-both}
 use Rattle.scope.proofs.BindLaws.{pairs-at, block-hides}
-use Prim.Native.Nat.{ℕ, ◌<◌}
 use Rattle.scope.proofs.scope.+script_uses.Goals as goal
 
 pub name_uses-n-requires : goal.name_uses-n-requires

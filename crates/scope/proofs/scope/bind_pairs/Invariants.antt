@@ -1,13 +1,10 @@
-use native.Mathlib.Omega.{arith}
 use Prim.Native.Nat.{◌+◌, ◌-◌, ◌*◌, ◌≤◌}
 use mathlib.Core.Bool.{true}
-use mathlib.Core.Path.{◌≡◌, sym, ◌∙◌, ap}
-use Rattle.definitions.specs.Limits.{count_offset, pairs_offset}
-use Rattle.definitions.specs.Bytes.{byte}
+use mathlib.Core.Path.{◌≡◌}
+use Rattle.definitions.specs.Limits.{pairs_offset}
 use Rattle.scope.specs.Bindings.{bind_all}
 use Rattle.laws.specs.Pairs.{pair_variables}
 use Rattle.reader.proofs.PairLaws.{pairs_from}
-use Rattle.scope.proofs.BindLaws.{few-pairs, pairs-read, pair-variable, pairs-rest, bind-start, bind-turn, bind_done}
 use Rattle.scope.proofs.scope.bind_pairs.Given as goal
 
 abbrev pub invariant-loop-k : goal.invariant-loop-k

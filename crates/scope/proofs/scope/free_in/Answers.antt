@@ -1,5 +1,4 @@
 -- `scope::scope::free_in` meets its contract.
-use borrow.Author.Rules.{rules}
 use Rattle.scope.proofs.BindLaws.{freed}
 use Rattle.scope.proofs.scope.free_in.Goals as goal
 

@@ -1,6 +1,5 @@
 -- `scope::scope::hide_pairs` meets its contract.
 use mathlib.Core.Path.{ap}
-use borrow.Author.Rules.{rules}
 use Rattle.scope.specs.declared.scope.Bound.{Bound}
 use Rattle.scope.proofs.scope.hide_pairs.Goals as goal
 

@@ -1,5 +1,4 @@
 -- `scope::scope::in_scope` meets its contract.
-use borrow.Author.Rules.{rules}
 use Rattle.walks.proofs.RootLaws.{whole-loads}
 use Rattle.scope.proofs.ScopeLaws.{scope-is}
 use Rattle.scope.proofs.scope.in_scope.Goals as goal

@@ -1,12 +1,9 @@
 -- `scope::scope::none_set` meets its contract.
 use borrow.Author.Rules.{rules}
 use native.Mathlib.Omega.{arith}
-use Prim.Native.Nat.{◌-◌, ◌≤◌}
-use mathlib.Core.Bool.{not}
 use mathlib.Core.Path.{◌≡◌, refl, sym, ◌∙◌}
-use lib.ListN.{length, drop}
+use lib.ListN.{length}
 use Rattle.definitions.specs.Limits.{variable_limit}
-use Rattle.definitions.specs.Lists.{every}
 use Rattle.scope.proofs.ScopeLaws.{flag-stop, flag-turn, flags-done}
 use Rattle.scope.proofs.scope.none_set.Goals as goal
 

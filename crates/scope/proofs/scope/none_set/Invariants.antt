@@ -1,12 +1,9 @@
-use borrow.Author.Rules.{rules}
-use native.Mathlib.Omega.{arith}
 use Prim.Native.Nat.{◌-◌, ◌≤◌}
 use mathlib.Core.Bool.{not}
-use mathlib.Core.Path.{◌≡◌, refl, sym, ◌∙◌}
-use lib.ListN.{length, drop}
+use mathlib.Core.Path.{◌≡◌}
+use lib.ListN.{drop}
 use Rattle.definitions.specs.Limits.{variable_limit}
 use Rattle.definitions.specs.Lists.{every}
-use Rattle.scope.proofs.ScopeLaws.{flag-stop, flag-turn, flags-done}
 use Rattle.scope.proofs.scope.none_set.Given as goal
 
 abbrev pub invariant-loop-i : goal.invariant-loop-i

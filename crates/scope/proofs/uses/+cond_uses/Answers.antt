@@ -8,7 +8,6 @@ use Rattle.definitions.specs.Scope.{in_expr, in_cond}
 use Rattle.laws.proofs.Walked.{leaf_walked}
 use Rattle.laws.proofs.Productions.{CondAt, cond-at}
 use Rattle.scope.proofs.UseLaws.{uses-none, uses-both}
-use Prim.Native.Nat.{ℕ, ◌<◌}
 use Rattle.scope.proofs.uses.+cond_uses.Goals as goal
 
 pub cond_uses-a-requires : goal.cond_uses-a-requires

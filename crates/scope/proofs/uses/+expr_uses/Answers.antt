@@ -8,7 +8,6 @@ use Rattle.definitions.specs.Scope.{in_expr}
 use Rattle.laws.proofs.Walked.{leaf_walked}
 use Rattle.laws.proofs.Productions.{ExprAt, expr-at}
 use Rattle.scope.proofs.UseLaws.{uses-none, uses-both}
-use Prim.Native.Nat.{ℕ, ◌<◌}
 use Rattle.scope.proofs.uses.+expr_uses.Goals as goal
 
 pub name_uses-requires : goal.name_uses-requires

@@ -8,7 +8,6 @@ use Rattle.definitions.specs.Scope.{in_name, in_query}
 use Rattle.laws.proofs.Walked.{leaf_walked}
 use Rattle.laws.proofs.Productions.{QueryAt, query-at}
 use Rattle.scope.proofs.UseLaws.{uses-none, uses-both}
-use Prim.Native.Nat.{ℕ, ◌<◌}
 use Rattle.scope.proofs.uses.+query_uses.Goals as goal
 
 pub name_uses-g-requires : goal.name_uses-g-requires

@@ -2,7 +2,6 @@
 use native.Mathlib.Omega.{arith}
 use Prim.Native.Nat.{◌-◌, ◌/◌}
 use Rattle.strings.proofs.LineLaws.{puts-no-digits, puts-digits, digits-length}
-use Prim.Native.Nat.{ℕ, ◌<◌}
 use Rattle.strings.proofs.line.+digits.Goals as goal
 
 pub returns-then-count-eq0 : goal.returns-then-count-eq0

@@ -1,7 +1,6 @@
 -- `strings::line::fraction` meets its contract, by the laws of LineLaws.
 use native.Mathlib.Omega.{arith}
 use Rattle.strings.proofs.LineLaws.{puts-last, puts-shorter, puts-fraction}
-use Prim.Native.Nat.{ℕ, ◌<◌}
 use Rattle.strings.proofs.line.+fraction.Goals as goal
 
 pub returns-then-count-eq1 : goal.returns-then-count-eq1

@@ -2,7 +2,6 @@
 use native.Mathlib.Omega.{arith}
 use Prim.Native.Nat.{◌-◌, ◌/◌}
 use Rattle.strings.proofs.LineLaws.{puts-nothing, puts-small, puts-natural, short-length}
-use Prim.Native.Nat.{ℕ, ◌<◌}
 use Rattle.strings.proofs.line.+natural.Goals as goal
 
 pub returns-then-left-eq0 : goal.returns-then-left-eq0

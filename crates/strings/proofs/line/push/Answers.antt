@@ -1,6 +1,5 @@
 -- `strings::line::push` meets its contract, by the laws of LineLaws.
 use Rattle.strings.proofs.LineLaws.{puts-byte}
-use borrow.Author.Rules.{rules}
 use Rattle.strings.proofs.line.push.Goals as goal
 
 pub returns : goal.returns

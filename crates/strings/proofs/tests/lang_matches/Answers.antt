@@ -3,7 +3,6 @@ use mathlib.Core.Path.{ap, ◌∙◌}
 use Rattle.definitions.specs.Text.{language_range_of, matches}
 use Rattle.strings.proofs.TestLaws.{tells-text}
 use Rattle.fields.proofs.PartLaws.{some-part, part-long}
-use borrow.Author.Rules.{rules}
 use Rattle.definitions.specs.Limits.{language_range_width}
 use Rattle.strings.proofs.tests.lang_matches.Goals as goal
 

@@ -3,7 +3,6 @@ use mathlib.Core.Path.{ap, ◌∙◌}
 use Rattle.definitions.specs.Text.{pattern_of, accepts}
 use Rattle.strings.proofs.TestLaws.{tells-text}
 use Rattle.fields.proofs.PartLaws.{some-part, part-long}
-use borrow.Author.Rules.{rules}
 use Rattle.definitions.specs.Limits.{pattern_width}
 use Rattle.strings.proofs.tests.regex.Goals as goal
 

@@ -1,6 +1,5 @@
 -- `strings::text::amount` meets its contract, by the laws of TextLaws.
 use Rattle.strings.proofs.TextLaws.{cast_fits, amount-is}
-use borrow.Author.Rules.{rules}
 use Rattle.strings.proofs.text.amount.Goals as goal
 
 pub overflow_cast-result : goal.overflow_cast-result

@@ -5,7 +5,6 @@ use Rattle.definitions.specs.Bytes.{filled}
 use Rattle.calendar.specs.Dates.{meant_date}
 use Rattle.calendar.proofs.CalendarLaws.{date-is}
 use Rattle.strings.proofs.TextLaws.{date_time-written, date-length, time-length}
-use borrow.Author.Rules.{rules}
 use Rattle.strings.proofs.text.date_time.Goals as goal
 
 pub push-mark-requires : goal.push-mark-requires

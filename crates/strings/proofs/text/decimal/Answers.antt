@@ -3,7 +3,6 @@ use native.Mathlib.Omega.{arith}
 use Prim.Native.Nat.{◌/◌}
 use Rattle.strings.proofs.LineLaws.{short-length}
 use Rattle.strings.proofs.TextLaws.{decimal-written}
-use borrow.Author.Rules.{rules}
 use Rattle.strings.proofs.text.decimal.Goals as goal
 
 pub push-point-requires : goal.push-point-requires

@@ -1,6 +1,5 @@
 -- `strings::text::integer` meets its contract, by the laws of TextLaws.
 use Rattle.strings.proofs.TextLaws.{integer-written}
-use borrow.Author.Rules.{rules}
 use Rattle.strings.proofs.text.integer.Goals as goal
 
 pub returns : goal.returns

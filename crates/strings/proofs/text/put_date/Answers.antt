@@ -3,7 +3,6 @@ use native.Mathlib.Omega.{arith}
 use Rattle.strings.proofs.LineLaws.{digits-length}
 use Rattle.strings.proofs.TextLaws.{date-puts}
 use Rattle.calendar.specs.Dates.{meant_date}
-use borrow.Author.Rules.{rules}
 use Rattle.strings.proofs.text.put_date.Goals as goal
 
 pub push-first-requires : goal.push-first-requires

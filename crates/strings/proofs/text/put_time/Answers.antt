@@ -3,7 +3,6 @@ use native.Mathlib.Omega.{arith}
 use Prim.Native.Nat.{◌/◌, ◌%◌}
 use Rattle.strings.proofs.LineLaws.{digits-length}
 use Rattle.strings.proofs.TextLaws.{time-puts}
-use borrow.Author.Rules.{rules}
 use Rattle.strings.proofs.text.put_time.Goals as goal
 
 pub push-first-requires : goal.push-first-requires

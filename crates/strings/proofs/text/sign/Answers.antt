@@ -1,7 +1,6 @@
 -- `strings::text::sign` meets its contract, by the laws of TextLaws.
 use Rattle.strings.proofs.TextLaws.{sign-minus, sign-none}
 use Rattle.definitions.specs.Bytes.{filled}
-use borrow.Author.Rules.{rules}
 use Rattle.strings.proofs.text.sign.Goals as goal
 
 pub returns-then-n-lt0 : goal.returns-then-n-lt0

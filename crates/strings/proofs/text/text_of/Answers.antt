@@ -1,7 +1,6 @@
 -- `strings::text::text_of` meets its contract, by the laws of ArithmeticLaws and TextOfLaws.
 use Rattle.values.proofs.ArithmeticLaws.{plain}
 use Rattle.strings.proofs.TextOfLaws.{str-string, str-uri, str-integer, str-decimal, str-date_time}
-use borrow.Author.Rules.{rules}
 use Rattle.strings.proofs.text.text_of.Goals as goal
 
 pub date_time-line-requires : goal.date_time-line-requires

@@ -11,22 +11,22 @@ use Rattle.typing.proofs.walk.+type_query.Goals as goal
 
 pub type_pattern-requires : goal.type_pattern-requires
 type_pattern-requires t c =
-    let here : QueryAt t c.args.script.now (length c.args.leasts.now) c.args.left c.args.at = query-at _ _ _ _ _ c.decreases c.requires.loads in let whole = ((here.pattern c.in-97.is).all, (c.requires.written_len, c.requires.joined)) in record { loads = whole.0; written_len = whole.1.0; joined = whole.1.1 }
+    let here : QueryAt t c.args.script.now (length c.args.leasts.now) c.args.left c.args.at = query-at _ _ _ _ _ c.decreases c.requires.loads in record { loads = (here.pattern c.in-97.is).all; written_len = c.requires.written_len; joined = c.requires.joined }
 
 pub type_cond-requires : goal.type_cond-requires
 type_cond-requires t c =
-    let here : QueryAt t c.args.script.now (length c.args.leasts.now) c.args.left c.args.at = query-at _ _ _ _ _ c.decreases c.requires.loads in let whole = ((here.filter c.in-100.is).child, (c.requires.written_len, c.requires.joined)) in record { loads = whole.0; written_len = whole.1.0; joined = whole.1.1 }
+    let here : QueryAt t c.args.script.now (length c.args.leasts.now) c.args.left c.args.at = query-at _ _ _ _ _ c.decreases c.requires.loads in record { loads = (here.filter c.in-100.is).child; written_len = c.requires.written_len; joined = c.requires.joined }
 
 pub type_query-q-requires : goal.type_query-q-requires
 type_query-q-requires t c =
     let here : QueryAt t c.args.script.now (length c.args.leasts.now) c.args.left c.args.at = query-at _ _ _ _ _ c.decreases c.requires.loads in
-    let n = (either-read here (omega (arith, c.if-kind-lt97.false, (omega arith))) (omega (arith, c.in-98-to-99.if-kind-lt100-own.true))).parts in
+    let n = (either-read here (omega arith) (omega arith)).parts in
     (n.falls, (n.first, (c.requires.written_len, c.requires.joined)))
 
 pub type_query-requires : goal.type_query-requires
 type_query-requires t c =
     let here : QueryAt t c.args.script.now (length c.args.leasts.now) c.args.left c.args.at = query-at _ _ _ _ _ c.decreases c.requires.loads in
-    let n = (either-read here (omega (arith, c.if-kind-lt97.false, (omega arith))) (omega (arith, c.in-98-to-99.if-kind-lt100-own.true))).parts in
+    let n = (either-read here (omega arith) (omega arith)).parts in
     let j = tree-joined _ _ _ query_demands c.type_query-q.ensures in
     (n.falls, (n.second c.type_query-q.ensures, (c.requires.written_len, j)))
 
@@ -42,19 +42,19 @@ returns-in-100 t c =
 pub returns-in-98-to-99 : goal.returns-in-98-to-99
 returns-in-98-to-99 t c =
     let here : QueryAt t c.args.script.now (length c.args.leasts.now) c.args.left c.args.at = query-at _ _ _ _ _ c.decreases c.requires.loads in
-    let k = either-read here (omega (arith, c.if-kind-lt97.false, (omega arith))) (omega (arith, c.in-98-to-99.if-kind-lt100-own.true)) in
+    let k = either-read here (omega arith) (omega arith) in
     k.parts.node c.type_query-q.ensures c.type_query.ensures (λ a b x y. either-noted _ _ a b _ (k.means a b) x y)
 
 pub returns-in_default : goal.returns-in_default
 unfolding query_demands
 returns-in_default t c =
-    let here : QueryAt t c.args.script.now (length c.args.leasts.now) c.args.left c.args.at = query-at _ _ _ _ _ c.decreases c.requires.loads in leaf_walked (empty-read here (omega arith) (inl (omega (arith, c.in_default.if-kind-lt97-own.true)))) (nothing-noted _ _ c.requires.joined)
+    let here : QueryAt t c.args.script.now (length c.args.leasts.now) c.args.left c.args.at = query-at _ _ _ _ _ c.decreases c.requires.loads in leaf_walked (empty-read here ((tt, λ e. omega arith), λ e. omega arith) (inl (omega arith))) (nothing-noted _ _ c.requires.joined)
 
 pub returns-in_default-2 : goal.returns-in_default-2
 unfolding query_demands
 returns-in_default-2 t c =
     let here : QueryAt t c.args.script.now (length c.args.leasts.now) c.args.left c.args.at = query-at _ _ _ _ _ c.decreases c.requires.loads in
-    leaf_walked (empty-read here (omega arith) (inr (omega (arith, c.in_default.if-kind-lt100-own.false)))) (nothing-noted _ _ c.requires.joined)
+    leaf_walked (empty-read here ((tt, λ e. omega arith), λ e. omega arith) (inr (omega arith))) (nothing-noted _ _ c.requires.joined)
 
 pub bounds-script-at : goal.bounds-script-at
 bounds-script-at t c =

@@ -31,7 +31,7 @@ overflow_add-query t c =
 
 pub type_query-q-requires : goal.type_query-q-requires
 type_query-q-requires t c =
-    let here : ScriptAt t c.args.script.now (length c.args.leasts.now) c.args.left c.args.at = script-at _ _ _ _ _ c.decreases c.requires.loads in let whole = ((here.block c.in-115.is).parts.first, (c.requires.written_len, c.requires.joined)) in record { loads = whole.0; written_len = whole.1.0; joined = whole.1.1 }
+    let here : ScriptAt t c.args.script.now (length c.args.leasts.now) c.args.left c.args.at = script-at _ _ _ _ _ c.decreases c.requires.loads in record { loads = (here.block c.in-115.is).parts.first; written_len = c.requires.written_len; joined = c.requires.joined }
 
 pub type_script-requires-in-115 : goal.type_script-requires-in-115
 type_script-requires-in-115 t c =
