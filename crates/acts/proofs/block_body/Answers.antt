@@ -1,5 +1,4 @@
 use Rattle.acts.proofs.StepLaws.{body-after}
-use borrow.Author.Rules.{rules}
 use Rattle.acts.proofs.block_body.Goals as goal
 
 pub returns : goal.returns

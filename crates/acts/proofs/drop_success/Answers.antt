@@ -1,6 +1,5 @@
 use native.Mathlib.Omega.{arith}
 use Rattle.acts.proofs.StepLaws.{height-is, room, success-acts}
-use borrow.Author.Rules.{rules}
 use Rattle.acts.proofs.drop_success.Goals as goal
 
 pub pop-requires : goal.pop-requires

@@ -1,7 +1,5 @@
 use native.Mathlib.Omega.{arith}
-use borrow.Author.Tests.{not-true, not-false}
 use Rattle.acts.proofs.StepLaws.{height-is, room, blocked, bound_by, bound-height, each-drops, each-enters}
-use borrow.Author.Rules.{rules}
 use Rattle.acts.proofs.enter_each.Goals as goal
 
 pub pop-requires : goal.pop-requires

@@ -1,6 +1,5 @@
 use native.Mathlib.Omega.{arith}
 use Rattle.acts.proofs.StepLaws.{height-is, room, inside, from, fetched-acts, wanted-acts}
-use borrow.Author.Rules.{rules}
 use Rattle.acts.proofs.enter_named.Goals as goal
 
 pub overflow_add-name : goal.overflow_add-name

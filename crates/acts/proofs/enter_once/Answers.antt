@@ -1,7 +1,5 @@
 use native.Mathlib.Omega.{arith}
-use borrow.Author.Tests.{not-true, not-false}
 use Rattle.acts.proofs.StepLaws.{room, blocked, bound_by, bound-height, once-waits, once-enters}
-use borrow.Author.Rules.{rules}
 use Rattle.acts.proofs.enter_once.Goals as goal
 
 pub returns-then-not-found : goal.returns-then-not-found

@@ -1,6 +1,5 @@
 use native.Mathlib.Omega.{arith}
 use Rattle.acts.proofs.StepLaws.{height-is, inside, two, sequence-acts}
-use borrow.Author.Rules.{rules}
 use Rattle.acts.proofs.enter_sequence.Goals as goal
 
 pub overflow_add-first : goal.overflow_add-first

@@ -1,6 +1,5 @@
 use native.Mathlib.Omega.{arith}
 use Rattle.acts.proofs.StepLaws.{name-bytes, variable-number, constant_number}
-use borrow.Author.Rules.{rules}
 use Rattle.acts.proofs.number_of.Goals as goal
 
 pub overflow_add-first : goal.overflow_add-first

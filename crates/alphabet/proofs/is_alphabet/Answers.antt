@@ -1,9 +1,7 @@
 -- `alphabet::is_alphabet` meets its contract: ranks that are met once each, 95 in all, are all ranks. Assumes nothing.
 use Prim.Native.Nat.{◌-◌}
 use native.Mathlib.Omega.{arith}
-use borrow.Author.Rules.{rules}
-use Rattle.definitions.specs.Limits.{ranks_width}
-use Rattle.alphabet.proofs.Pass.{Passed, pass-start, pass-ends, pass-large, pass-twice, pass-turn}
+use Rattle.alphabet.proofs.Pass.{pass-start, pass-ends, pass-large, pass-twice, pass-turn}
 use Rattle.alphabet.proofs.is_alphabet.Goals as goal
 
 pub loop-i-init : goal.loop-i-init

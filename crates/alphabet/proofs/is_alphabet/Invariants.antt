@@ -1,8 +1,6 @@
 use Prim.Native.Nat.{◌-◌}
-use native.Mathlib.Omega.{arith}
-use borrow.Author.Rules.{rules}
 use Rattle.definitions.specs.Limits.{ranks_width}
-use Rattle.alphabet.proofs.Pass.{Passed, pass-start, pass-ends, pass-large, pass-twice, pass-turn}
+use Rattle.alphabet.proofs.Pass.{Passed}
 use Rattle.alphabet.proofs.is_alphabet.Given as goal
 
 abbrev pub invariant-loop-i : goal.invariant-loop-i

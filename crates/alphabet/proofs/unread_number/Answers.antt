@@ -1,6 +1,5 @@
 -- By whether the ranks are an alphabet.
 use mathlib.Core.Path.{refl, sym, ◌∙◌}
-use borrow.Author.Rules.{rules}
 use Rattle.alphabet.proofs.unread_number.Goals as goal
 
 pub returns-then-is_alphabet : goal.returns-then-is_alphabet

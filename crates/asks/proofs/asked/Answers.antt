@@ -1,7 +1,6 @@
 -- `asks::asked` meets its contract: by the kind of the record, its property and its object.
 use Rattle.definitions.specs.Ascii.{ascii}
 use Rattle.asks.proofs.AskLaws.{no-uri, uri-inside, range-asks, no_kind, kind-yes, kind-no}
-use borrow.Author.Rules.{rules}
 use mathlib.Core.Path.{ap}
 use mathlib.Core.Bool.{not}
 use Rattle.asks.proofs.asked.Goals as goal

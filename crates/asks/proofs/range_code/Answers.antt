@@ -3,7 +3,6 @@ use mathlib.Core.Path.{sym, ◌∙◌}
 use Rattle.definitions.specs.Ascii.{ascii}
 use Rattle.definitions.specs.Types.{string, decimal, date_time, integer, datatype_name}
 use Rattle.asks.proofs.AskLaws.{text-is, range-named, range_other}
-use borrow.Author.Rules.{rules}
 use Rattle.asks.proofs.range_code.Goals as goal
 
 pub returns-then-is_text : goal.returns-then-is_text

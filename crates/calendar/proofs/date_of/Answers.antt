@@ -1,7 +1,6 @@
 -- `calendar::date_of` meets its contract.
 use mathlib.Core.Path.{sym, subst}
 use Rattle.calendar.specs.Dates.{DateIs}
-use borrow.Author.Rules.{rules}
 use Rattle.calendar.proofs.date_of.Goals as goal
 
 pub returns : goal.returns

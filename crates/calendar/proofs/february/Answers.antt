@@ -1,6 +1,5 @@
 -- `calendar::february` meets its contract.
 use mathlib.Core.Path.{◌∙◌, sym}
-use borrow.Author.Rules.{rules}
 use Rattle.calendar.proofs.february.Goals as goal
 
 pub returns-then-is_leap : goal.returns-then-is_leap

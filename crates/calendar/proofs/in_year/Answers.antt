@@ -1,9 +1,8 @@
 -- `calendar::in_year` meets its contract, by the laws of CalendarLaws.
-use Prim.Native.Nat.{suc, ◌-◌, ◌≤◌}
-use mathlib.Core.Path.{◌≡◌, refl, sym, ap}
+use Prim.Native.Nat.{◌-◌}
+use mathlib.Core.Path.{refl, sym, ap}
 use native.Mathlib.Omega.{arith}
-use lib.ListN.{length, drop}
-use Rattle.definitions.specs.Calendar.{month_from, month_lengths}
+use Rattle.definitions.specs.Calendar.{month_from}
 use Rattle.calendar.proofs.CalendarLaws.{months_with, lengths-are, date-found, month-passed, date-after}
 use Rattle.calendar.proofs.in_year.Goals as goal
 

@@ -1,9 +1,7 @@
 use Prim.Native.Nat.{suc, ◌-◌, ◌≤◌}
-use mathlib.Core.Path.{◌≡◌, refl, sym, ap}
-use native.Mathlib.Omega.{arith}
+use mathlib.Core.Path.{◌≡◌}
 use lib.ListN.{length, drop}
 use Rattle.definitions.specs.Calendar.{month_from, month_lengths}
-use Rattle.calendar.proofs.CalendarLaws.{months_with, lengths-are, date-found, month-passed, date-after}
 use Rattle.calendar.proofs.in_year.Given as goal
 
 abbrev pub invariant-loop-passed : goal.invariant-loop-passed

@@ -2,7 +2,6 @@
 use native.Mathlib.Omega.{arith}
 use mathlib.Core.Path.{refl}
 use Rattle.calendar.proofs.CalendarLaws.{by-cycles, year-small}
-use borrow.Author.Rules.{rules}
 use Rattle.calendar.proofs.year_day.Goals as goal
 
 pub overflow_add-year-3 : goal.overflow_add-year-3

@@ -2,7 +2,6 @@
 use mathlib.Core.Path.{sym, ap₂, ◌∙◌}
 use mathlib.Core.Bool.{true, false}
 use lib.Dec.{eqb}
-use borrow.Author.Rules.{rules}
 use Rattle.codes.proofs.CodeLaws.{below-is}
 use Rattle.codes.proofs.below.Goals as goal
 

@@ -1,5 +1,4 @@
 -- `codes::normal` meets its contract. Assumes nothing.
-use borrow.Author.Rules.{rules}
 use Rattle.codes.proofs.CodeLaws.{normal-plain, normal-range}
 use Rattle.codes.proofs.normal.Goals as goal
 

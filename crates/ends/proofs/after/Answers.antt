@@ -1,7 +1,6 @@
 -- `ends::after` meets its contract.
 use native.Mathlib.Omega.{arith}
 use mathlib.Core.Path.{refl}
-use borrow.Author.Rules.{rules}
 use borrow.Author.Tests.{lt-ltb, le-ltb}
 use Rattle.laws.specs.Ends.{after_in}
 use Rattle.ends.proofs.after.Goals as goal

@@ -1,6 +1,5 @@
 -- `ends::children` meets its contract.
 use native.Mathlib.Omega.{arith}
-use borrow.Author.Rules.{rules}
 use Rattle.definitions.specs.Ascii.{ascii}
 use Rattle.ends.proofs.ExtentLaws.{kept, no-children, digit-children, is_digit_lem}
 use Rattle.ends.proofs.children.Goals as goal

@@ -1,11 +1,10 @@
 -- `ends::end_at` meets its contract. The loop's invariant: what is left to step over, from where it stands, ends where all ends.
-use mathlib.Core.Path.{◌≡◌, refl, ap, ap₂, ◌∙◌, sym}
+use mathlib.Core.Path.{ap₂, ◌∙◌, sym}
 use Prim.Native.Nat.{◌+◌}
 use native.Mathlib.Omega.{arith}
 use lib.ListN.{length}
-use borrow.Author.Rules.{rules}
 use Rattle.definitions.specs.Bytes.{byte}
-use Rattle.laws.specs.Ends.{extent_of, after_in, after_all, end_at}
+use Rattle.laws.specs.Ends.{after_in, after_all, end_at}
 use Rattle.ends.proofs.ExtentLaws.{widths}
 use Rattle.ends.proofs.EndLaws.{all-on, all-off}
 use Rattle.ends.proofs.end_at.Goals as goal

@@ -1,12 +1,6 @@
-use mathlib.Core.Path.{◌≡◌, refl, ap, ap₂, ◌∙◌, sym}
-use Prim.Native.Nat.{◌+◌}
-use native.Mathlib.Omega.{arith}
+use mathlib.Core.Path.{◌≡◌}
 use lib.ListN.{length}
-use borrow.Author.Rules.{rules}
-use Rattle.definitions.specs.Bytes.{byte}
-use Rattle.laws.specs.Ends.{extent_of, after_in, after_all, end_at}
-use Rattle.ends.proofs.ExtentLaws.{widths}
-use Rattle.ends.proofs.EndLaws.{all-on, all-off}
+use Rattle.laws.specs.Ends.{after_in, after_all, end_at}
 use Rattle.ends.proofs.end_at.Given as goal
 
 abbrev pub invariant-loop-left : goal.invariant-loop-left

@@ -1,10 +1,9 @@
 -- `ends::fill_ends` meets its contract. The loop's invariant: the numbers from the offset on are right.
-use Prim.Native.Nat.{◌-◌, ◌≤◌}
-use mathlib.Core.Path.{◌≡◌, refl, ◌∙◌}
+use Prim.Native.Nat.{◌-◌}
+use mathlib.Core.Path.{refl, ◌∙◌}
 use native.Mathlib.Omega.{arith}
-use lib.ListN.{length, length-set}
-use borrow.Author.Rules.{rules}
-use Rattle.ends.proofs.EndLaws.{Filled, none_filled, all-filled, turn-bounds, turn}
+use lib.ListN.{length-set}
+use Rattle.ends.proofs.EndLaws.{none_filled, all-filled, turn-bounds, turn}
 use Rattle.ends.proofs.fill_ends.Goals as goal
 
 pub loop-at-init : goal.loop-at-init

@@ -1,9 +1,7 @@
 use Prim.Native.Nat.{◌-◌, ◌≤◌}
-use mathlib.Core.Path.{◌≡◌, refl, ◌∙◌}
-use native.Mathlib.Omega.{arith}
-use lib.ListN.{length, length-set}
-use borrow.Author.Rules.{rules}
-use Rattle.ends.proofs.EndLaws.{Filled, none_filled, all-filled, turn-bounds, turn}
+use mathlib.Core.Path.{◌≡◌}
+use lib.ListN.{length}
+use Rattle.ends.proofs.EndLaws.{Filled}
 use Rattle.ends.proofs.fill_ends.Given as goal
 
 abbrev pub invariant-loop-at : goal.invariant-loop-at

@@ -1,6 +1,5 @@
 -- A law of InputLaws for each shape.
 use native.Mathlib.Omega.{arith}
-use borrow.Author.Rules.{rules}
 use Rattle.evaluator_input.proofs.InputLaws.{too_long, cut-before, cut-within, whole}
 use Rattle.evaluator_input.proofs.shape_of.Goals as goal
 

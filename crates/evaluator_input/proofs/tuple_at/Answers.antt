@@ -1,6 +1,5 @@
 -- Four numbers, two bytes each.
 use Rattle.evaluator_input.proofs.InputLaws.{four-words}
-use borrow.Author.Rules.{rules}
 use Rattle.evaluator_input.proofs.tuple_at.Goals as goal
 
 pub returns : goal.returns

@@ -1,7 +1,7 @@
 -- `keys::lower` meets its contract. Before the lower end each key is below x, from what is left on none is. Assumes nothing.
 use native.Mathlib.Omega.{arith}
 use mathlib.Core.Path.{refl}
-use Rattle.keys.proofs.Rise.{Halving, halved, met}
+use Rattle.keys.proofs.Rise.{halved, met}
 use Rattle.keys.proofs.lower.Goals as goal
 
 pub loop-size-init : goal.loop-size-init

@@ -1,6 +1,4 @@
-use native.Mathlib.Omega.{arith}
-use mathlib.Core.Path.{refl}
-use Rattle.keys.proofs.Rise.{Halving, halved, met}
+use Rattle.keys.proofs.Rise.{Halving}
 use Rattle.keys.proofs.lower.Given as goal
 
 abbrev pub invariant-loop-size : goal.invariant-loop-size

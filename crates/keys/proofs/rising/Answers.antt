@@ -1,9 +1,6 @@
 -- `keys::rising` meets its contract. What is left, after the last key, gives what the whole gives. Assumes nothing.
-use Prim.Native.Nat.{◌-◌, ◌≤◌}
-use mathlib.Core.Path.{◌≡◌}
-use mathlib.Core.List.{◌∷◌}
+use Prim.Native.Nat.{◌-◌}
 use native.Mathlib.Omega.{arith}
-use Rattle.keys.specs.Keys.{keys_from, rising as is_rising}
 use Rattle.keys.proofs.Rise.{rise-none, rise-start, rise-turn, rise-fails, rise-ends}
 use Rattle.keys.proofs.rising.Goals as goal
 

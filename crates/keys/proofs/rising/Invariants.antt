@@ -1,9 +1,7 @@
 use Prim.Native.Nat.{◌-◌, ◌≤◌}
 use mathlib.Core.Path.{◌≡◌}
 use mathlib.Core.List.{◌∷◌}
-use native.Mathlib.Omega.{arith}
 use Rattle.keys.specs.Keys.{keys_from, rising as is_rising}
-use Rattle.keys.proofs.Rise.{rise-none, rise-start, rise-turn, rise-fails, rise-ends}
 use Rattle.keys.proofs.rising.Given as goal
 
 abbrev pub invariant-loop-i : goal.invariant-loop-i

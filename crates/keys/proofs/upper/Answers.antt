@@ -1,7 +1,6 @@
 -- `keys::upper` meets its contract. Each key of 64 bits is below 2^64. Assumes nothing.
 use native.Mathlib.Omega.{arith}
 use Rattle.keys.proofs.Rise.{all-below}
-use borrow.Author.Rules.{rules}
 use Rattle.keys.proofs.upper.Goals as goal
 
 pub returns-then-x-eq-LAST_KEY : goal.returns-then-x-eq-LAST_KEY

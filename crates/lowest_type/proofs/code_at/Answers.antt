@@ -1,6 +1,5 @@
 -- `lowest_type::code_at` meets its contract. Assumes nothing.
 use Rattle.lowest_type.proofs.LowestLaws.{code_at}
-use borrow.Author.Rules.{rules}
 use Rattle.lowest_type.proofs.code_at.Goals as goal
 
 pub returns : goal.returns

@@ -1,6 +1,5 @@
 -- `lowest_type::does` meets its contract. Assumes nothing.
 use Rattle.lowest_type.proofs.LowestLaws.{does-is}
-use borrow.Author.Rules.{rules}
 use Rattle.lowest_type.proofs.does.Goals as goal
 
 pub returns : goal.returns

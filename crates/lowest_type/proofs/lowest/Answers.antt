@@ -1,14 +1,8 @@
 -- `lowest_type::lowest` meets its contract. Invariant: what is lowest is so among the variables from `x` on. The measure is what is left of the
 -- variables. Assumes nothing.
-use Prim.Native.Nat.{◌≤◌, ◌-◌}
+use Prim.Native.Nat.{◌-◌}
 use native.Mathlib.Omega.{arith}
-use mathlib.Core.Path.{◌≡◌, refl}
-use lib.ListN.{drop}
-use Rattle.definitions.specs.Limits.{variable_limit}
-use Rattle.definitions.specs.Scope.{variables}
-use Rattle.definitions.specs.Suggest.{lowest_in}
-use Rattle.facts.specs.Codes.{all_written}
-use Rattle.lowest_type.specs.Does.{does_in}
+use mathlib.Core.Path.{refl}
 use Rattle.lowest_type.proofs.LowestLaws.{lowest-found, lowest-next, lowest-none}
 use Rattle.lowest_type.proofs.lowest.Goals as goal
 

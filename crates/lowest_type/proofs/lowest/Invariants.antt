@@ -1,13 +1,11 @@
 use Prim.Native.Nat.{◌≤◌, ◌-◌}
-use native.Mathlib.Omega.{arith}
-use mathlib.Core.Path.{◌≡◌, refl}
+use mathlib.Core.Path.{◌≡◌}
 use lib.ListN.{drop}
 use Rattle.definitions.specs.Limits.{variable_limit}
 use Rattle.definitions.specs.Scope.{variables}
 use Rattle.definitions.specs.Suggest.{lowest_in}
 use Rattle.facts.specs.Codes.{all_written}
 use Rattle.lowest_type.specs.Does.{does_in}
-use Rattle.lowest_type.proofs.LowestLaws.{lowest-found, lowest-next, lowest-none}
 use Rattle.lowest_type.proofs.lowest.Given as goal
 
 abbrev pub invariant-loop-x : goal.invariant-loop-x

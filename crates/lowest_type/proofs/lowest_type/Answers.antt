@@ -1,14 +1,7 @@
 -- `lowest_type::lowest_type` meets its contract. Invariant: the lowest type that does is the first from the place `i` on. The measure is what is left
 -- of the types. Assumes nothing.
-use Prim.Native.Nat.{◌≤◌, ◌-◌}
+use Prim.Native.Nat.{◌-◌}
 use native.Mathlib.Omega.{arith}
-use mathlib.Core.Path.{◌≡◌}
-use lib.ListN.{length, drop}
-use Rattle.definitions.specs.Lists.{find}
-use Rattle.definitions.specs.Types.{all_types}
-use Rattle.definitions.specs.Suggest.{lowest_type}
-use Rattle.facts.specs.Codes.{all_written}
-use Rattle.lowest_type.specs.Does.{does_in}
 use Rattle.lowest_type.proofs.LowestLaws.{type-closed, type-open, type-found, type-next, type-none}
 use Rattle.lowest_type.proofs.lowest_type.Goals as goal
 

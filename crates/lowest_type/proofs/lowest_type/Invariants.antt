@@ -1,5 +1,4 @@
 use Prim.Native.Nat.{◌≤◌, ◌-◌}
-use native.Mathlib.Omega.{arith}
 use mathlib.Core.Path.{◌≡◌}
 use lib.ListN.{length, drop}
 use Rattle.definitions.specs.Lists.{find}
@@ -7,7 +6,6 @@ use Rattle.definitions.specs.Types.{all_types}
 use Rattle.definitions.specs.Suggest.{lowest_type}
 use Rattle.facts.specs.Codes.{all_written}
 use Rattle.lowest_type.specs.Does.{does_in}
-use Rattle.lowest_type.proofs.LowestLaws.{type-closed, type-open, type-found, type-next, type-none}
 use Rattle.lowest_type.proofs.lowest_type.Given as goal
 
 abbrev pub invariant-loop-i : goal.invariant-loop-i

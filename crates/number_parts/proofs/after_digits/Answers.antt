@@ -1,10 +1,7 @@
 -- The loop: the digits end where those from `i` on do.
 use Prim.Native.Nat.{◌-◌}
 use native.Mathlib.Omega.{arith}
-use mathlib.Core.Path.{◌≡◌, refl}
-use borrow.Author.Rules.{rules}
-use lib.ListN.{length}
-use Rattle.number_parts.proofs.PartLaws.{digits_end, digits-below, digits_above, digits-over, digits-next}
+use Rattle.number_parts.proofs.PartLaws.{digits-below, digits_above, digits-over, digits-next}
 use Rattle.number_parts.proofs.after_digits.Goals as goal
 
 pub returns-then-b-lt48 : goal.returns-then-b-lt48

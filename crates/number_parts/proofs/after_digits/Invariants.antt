@@ -1,9 +1,7 @@
 use Prim.Native.Nat.{◌-◌}
-use native.Mathlib.Omega.{arith}
-use mathlib.Core.Path.{◌≡◌, refl}
-use borrow.Author.Rules.{rules}
+use mathlib.Core.Path.{◌≡◌}
 use lib.ListN.{length}
-use Rattle.number_parts.proofs.PartLaws.{digits_end, digits-below, digits_above, digits-over, digits-next}
+use Rattle.number_parts.proofs.PartLaws.{digits_end}
 use Rattle.number_parts.proofs.after_digits.Given as goal
 
 abbrev pub invariant-loop-i : goal.invariant-loop-i

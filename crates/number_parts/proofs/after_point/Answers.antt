@@ -1,5 +1,4 @@
 -- By whether there is a fraction.
-use borrow.Author.Rules.{rules}
 use borrow.Author.Tests.{lt-ltb, le-ltb}
 use Rattle.number_parts.proofs.after_point.Goals as goal
 

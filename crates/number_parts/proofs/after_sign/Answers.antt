@@ -1,6 +1,5 @@
 -- By the byte that stands there.
 use native.Mathlib.Omega.{arith}
-use borrow.Author.Rules.{rules}
 use Rattle.number_parts.proofs.PartLaws.{sign-inside, sign-there, no_sign}
 use Rattle.number_parts.proofs.after_sign.Goals as goal
 

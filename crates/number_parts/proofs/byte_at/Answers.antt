@@ -1,6 +1,5 @@
 -- The byte, or 0 past the end.
 use mathlib.Core.Path.{sym}
-use borrow.Author.Rules.{rules}
 use Rattle.laws.proofs.Reading.{byte-out}
 use Rattle.number_parts.proofs.byte_at.Goals as goal
 

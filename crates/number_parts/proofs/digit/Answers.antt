@@ -1,7 +1,6 @@
 -- A digit is from 30 to 39.
 use native.Mathlib.Omega.{arith}
 use mathlib.Core.Path.{refl}
-use borrow.Author.Rules.{rules}
 use Rattle.laws.proofs.Numerals.{digit-range}
 use Rattle.number_parts.proofs.digit.Goals as goal
 

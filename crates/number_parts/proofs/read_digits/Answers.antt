@@ -1,5 +1,4 @@
 -- By how many there are.
-use borrow.Author.Rules.{rules}
 use Rattle.number_parts.proofs.PartLaws.{no-digits, many-digits, some-digits}
 use Rattle.number_parts.proofs.read_digits.Goals as goal
 

@@ -1,8 +1,7 @@
 -- Nothing, or digits after the e and its sign.
 use native.Mathlib.Omega.{arith}
 use mathlib.Core.Path.{sym, ◌∙◌}
-use borrow.Author.Rules.{rules}
-use borrow.Author.Tests.{not-true, not-false, eq-eqb, ne_eqb}
+use borrow.Author.Tests.{eq-eqb, ne_eqb}
 use Rattle.definitions.specs.Numerals.{exponent_digits}
 use Rattle.number_parts.proofs.PartLaws.{Found, found, no_shift, e-inside, bad-shift, shift-down, shift-up}
 use Rattle.number_parts.proofs.read_exponent.Goals as goal

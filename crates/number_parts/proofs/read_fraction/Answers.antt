@@ -1,6 +1,5 @@
 -- Nothing, or digits after the point.
 use native.Mathlib.Omega.{arith}
-use borrow.Author.Rules.{rules}
 use Rattle.number_parts.proofs.PartLaws.{no_fraction, point-inside, fraction-after}
 use Rattle.number_parts.proofs.read_fraction.Goals as goal
 

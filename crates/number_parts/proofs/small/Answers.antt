@@ -1,7 +1,6 @@
 -- One digit, or two.
 use native.Mathlib.Omega.{arith}
 use mathlib.Core.Path.{◌∙◌}
-use borrow.Author.Rules.{rules}
 use Rattle.number_parts.proofs.PartLaws.{digit-in, one-digit, two_digits}
 use Rattle.number_parts.proofs.small.Goals as goal
 

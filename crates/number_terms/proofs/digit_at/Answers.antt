@@ -2,7 +2,6 @@
 use Prim.Native.Nat.{◌-◌}
 use native.Mathlib.Omega.{arith}
 use mathlib.Core.Path.{ap, ◌∙◌}
-use borrow.Author.Rules.{rules}
 use Rattle.number_terms.proofs.AmountLaws.{first-is, first-digit, second_is, second-digit, past-digits}
 use Rattle.number_terms.proofs.digit_at.Goals as goal
 

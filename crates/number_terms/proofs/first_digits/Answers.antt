@@ -1,8 +1,7 @@
 -- The loop: `n` is what the digits up to `i` write, and within the limit.
-use Prim.Native.Nat.{◌-◌, ◌≤◌}
+use Prim.Native.Nat.{◌-◌}
 use native.Mathlib.Omega.{arith}
-use mathlib.Core.Path.{◌≡◌, refl}
-use mathlib.Core.List.{◌++◌}
+use mathlib.Core.Path.{refl}
 use Rattle.number_terms.specs.Amounts.{front}
 use Rattle.number_terms.proofs.AmountLaws.{front-next, front-over, front-end}
 use Rattle.number_terms.proofs.first_digits.Goals as goal

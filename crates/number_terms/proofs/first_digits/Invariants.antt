@@ -1,9 +1,7 @@
 use Prim.Native.Nat.{◌-◌, ◌≤◌}
-use native.Mathlib.Omega.{arith}
-use mathlib.Core.Path.{◌≡◌, refl}
+use mathlib.Core.Path.{◌≡◌}
 use mathlib.Core.List.{◌++◌}
 use Rattle.number_terms.specs.Amounts.{front}
-use Rattle.number_terms.proofs.AmountLaws.{front-next, front-over, front-end}
 use Rattle.number_terms.proofs.first_digits.Given as goal
 
 abbrev pub invariant-loop-i : goal.invariant-loop-i

@@ -1,11 +1,10 @@
 -- The loop: the digits up to `i` are 0, and the rest decides.
 use Prim.Native.Nat.{◌-◌}
 use native.Mathlib.Omega.{arith}
-use mathlib.Core.Path.{◌≡◌, refl, sym, ◌∙◌}
+use mathlib.Core.Path.{refl, sym, ◌∙◌}
 use mathlib.Core.List.{◌++◌}
-use lib.ListN.{length, length-append}
+use lib.ListN.{length-append}
 use Rattle.definitions.specs.Terms.{Text}
-use Rattle.number_terms.specs.Amounts.{rest_zero}
 use Rattle.number_terms.proofs.AmountLaws.{rest-next, rest-stop, rest_end}
 use Rattle.number_terms.proofs.rest_is_zero.Goals as goal
 

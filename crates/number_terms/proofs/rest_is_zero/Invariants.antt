@@ -1,11 +1,8 @@
 use Prim.Native.Nat.{◌-◌}
-use native.Mathlib.Omega.{arith}
-use mathlib.Core.Path.{◌≡◌, refl, sym, ◌∙◌}
+use mathlib.Core.Path.{◌≡◌}
 use mathlib.Core.List.{◌++◌}
-use lib.ListN.{length, length-append}
-use Rattle.definitions.specs.Terms.{Text}
+use lib.ListN.{length}
 use Rattle.number_terms.specs.Amounts.{rest_zero}
-use Rattle.number_terms.proofs.AmountLaws.{rest-next, rest-stop, rest_end}
 use Rattle.number_terms.proofs.rest_is_zero.Given as goal
 
 abbrev pub invariant-loop-i : goal.invariant-loop-i

@@ -3,7 +3,6 @@ use Prim.Native.Nat.{◌+◌}
 use native.Mathlib.Omega.{arith}
 use mathlib.Core.List.{◌++◌}
 use mathlib.Core.Option.{Option}
-use borrow.Author.Rules.{rules}
 use lib.ListN.{length, length-append}
 use Rattle.definitions.specs.Terms.{Term}
 use Rattle.definitions.specs.Numerals.{natural_of}

@@ -1,6 +1,5 @@
 -- By the digits after the first.
 use mathlib.Core.Path.{sym, ◌∙◌}
-use borrow.Author.Rules.{rules}
 use Rattle.number_terms.specs.Amounts.{whole_amount}
 use Rattle.number_terms.proofs.whole_amount.Goals as goal
 

@@ -1,5 +1,4 @@
 -- Zero, a number below it, or one above.
-use borrow.Author.Rules.{rules}
 use Rattle.number_terms.proofs.TermLaws.{zero-signed, plus-signed, minus-signed}
 use Rattle.number_terms.proofs.with_sign.Goals as goal
 

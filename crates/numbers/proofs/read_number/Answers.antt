@@ -1,6 +1,5 @@
 -- By the part that is not there, and else by the parts' offsets.
 use mathlib.Core.Path.{◌∙◌}
-use borrow.Author.Rules.{rules}
 use Rattle.number_parts.proofs.PartLaws.{found}
 use Rattle.numbers.proofs.NumberLaws.{WholeRead, FractionRead, fraction-read, ExponentRead, exponent-read, Placed, placed}
 use Rattle.numbers.proofs.NumberLaws.{too_long, no_whole, bad-fraction, bad-exponent, more-after}
@@ -30,7 +29,7 @@ returns-in_default-read_exponent c =
       found = found _ _ _ _ c.read_digits.ensures c.in-Next.is;
     } in
     let fraction : FractionRead c.args.text.now c.after_sign-start.result c.in-Next.point c.in-Next-read_fraction.tail =
-      fraction-read whole c.read_fraction.ensures c.in-Next-read_fraction.is in
+    fraction-read whole c.read_fraction.ensures c.in-Next-read_fraction.is in
     bad-exponent fraction c.read_exponent.ensures c.in_default-read_exponent.is
 
 pub returns-then-end-text : goal.returns-then-end-text
@@ -41,7 +40,7 @@ returns-then-end-text c =
       found = found _ _ _ _ c.read_digits.ensures c.in-Next.is;
     } in
     let fraction : FractionRead c.args.text.now c.after_sign-start.result c.in-Next.point c.in-Next-read_fraction.tail =
-      fraction-read whole c.read_fraction.ensures c.in-Next-read_fraction.is in
+    fraction-read whole c.read_fraction.ensures c.in-Next-read_fraction.is in
     let exponent : ExponentRead c.args.text.now c.in-Next-read_fraction.tail c.in-By.up c.in-By.down c.in-By.end = exponent-read c.read_exponent.ensures c.in-By.is in
     more-after fraction exponent c.if-end-text.true
 
@@ -53,10 +52,10 @@ term_of-requires c =
       found = found _ _ _ _ c.read_digits.ensures c.in-Next.is;
     } in
     let fraction : FractionRead c.args.text.now c.after_sign-start.result c.in-Next.point c.in-Next-read_fraction.tail =
-      fraction-read whole c.read_fraction.ensures c.in-Next-read_fraction.is in
+    fraction-read whole c.read_fraction.ensures c.in-Next-read_fraction.is in
     let exponent : ExponentRead c.args.text.now c.in-Next-read_fraction.tail c.in-By.up c.in-By.down c.in-By.end = exponent-read c.read_exponent.ensures c.in-By.is in
     let here : Placed c.args.text.now c.after_sign-start.result c.in-Next.point c.after_point-first.result c.in-Next-read_fraction.tail
-        c.in-By.up c.in-By.down c.in-By.end = placed fraction exponent c.if-end-text.false c.after_point-first.ensures in
+    c.in-By.up c.in-By.down c.in-By.end = placed fraction exponent c.if-end-text.false c.after_point-first.ensures in
     let p = here in record { digits = p.digits; up_lt_places_limit = p.few }
 
 pub returns : goal.returns
@@ -67,10 +66,10 @@ returns c =
       found = found _ _ _ _ c.read_digits.ensures c.in-Next.is;
     } in
     let fraction : FractionRead c.args.text.now c.after_sign-start.result c.in-Next.point c.in-Next-read_fraction.tail =
-      fraction-read whole c.read_fraction.ensures c.in-Next-read_fraction.is in
+    fraction-read whole c.read_fraction.ensures c.in-Next-read_fraction.is in
     let exponent : ExponentRead c.args.text.now c.in-Next-read_fraction.tail c.in-By.up c.in-By.down c.in-By.end = exponent-read c.read_exponent.ensures c.in-By.is in
     let here : Placed c.args.text.now c.after_sign-start.result c.in-Next.point c.after_point-first.result c.in-Next-read_fraction.tail
-        c.in-By.up c.in-By.down c.in-By.end = placed fraction exponent c.if-end-text.false c.after_point-first.ensures in
+    c.in-By.up c.in-By.down c.in-By.end = placed fraction exponent c.if-end-text.false c.after_point-first.ensures in
     c.term_of.ensures ∙ here.is c.byte_at-minus.ensures
 
 pub slice_bounds-term_of-count : goal.slice_bounds-term_of-count
@@ -81,10 +80,10 @@ slice_bounds-term_of-count c =
       found = found _ _ _ _ c.read_digits.ensures c.in-Next.is;
     } in
     let fraction : FractionRead c.args.text.now c.after_sign-start.result c.in-Next.point c.in-Next-read_fraction.tail =
-      fraction-read whole c.read_fraction.ensures c.in-Next-read_fraction.is in
+    fraction-read whole c.read_fraction.ensures c.in-Next-read_fraction.is in
     let exponent : ExponentRead c.args.text.now c.in-Next-read_fraction.tail c.in-By.up c.in-By.down c.in-By.end = exponent-read c.read_exponent.ensures c.in-By.is in
     let here : Placed c.args.text.now c.after_sign-start.result c.in-Next.point c.after_point-first.result c.in-Next-read_fraction.tail
-        c.in-By.up c.in-By.down c.in-By.end = placed fraction exponent c.if-end-text.false c.after_point-first.ensures in
+    c.in-By.up c.in-By.down c.in-By.end = placed fraction exponent c.if-end-text.false c.after_point-first.ensures in
     here.order.0
 
 pub slice_bounds-term_of-start : goal.slice_bounds-term_of-start
@@ -95,10 +94,10 @@ slice_bounds-term_of-start c =
       found = found _ _ _ _ c.read_digits.ensures c.in-Next.is;
     } in
     let fraction : FractionRead c.args.text.now c.after_sign-start.result c.in-Next.point c.in-Next-read_fraction.tail =
-      fraction-read whole c.read_fraction.ensures c.in-Next-read_fraction.is in
+    fraction-read whole c.read_fraction.ensures c.in-Next-read_fraction.is in
     let exponent : ExponentRead c.args.text.now c.in-Next-read_fraction.tail c.in-By.up c.in-By.down c.in-By.end = exponent-read c.read_exponent.ensures c.in-By.is in
     let here : Placed c.args.text.now c.after_sign-start.result c.in-Next.point c.after_point-first.result c.in-Next-read_fraction.tail
-        c.in-By.up c.in-By.down c.in-By.end = placed fraction exponent c.if-end-text.false c.after_point-first.ensures in
+    c.in-By.up c.in-By.down c.in-By.end = placed fraction exponent c.if-end-text.false c.after_point-first.ensures in
     here.order.0
 
 pub slice_bounds-term_of-end : goal.slice_bounds-term_of-end
@@ -109,10 +108,10 @@ slice_bounds-term_of-end c =
       found = found _ _ _ _ c.read_digits.ensures c.in-Next.is;
     } in
     let fraction : FractionRead c.args.text.now c.after_sign-start.result c.in-Next.point c.in-Next-read_fraction.tail =
-      fraction-read whole c.read_fraction.ensures c.in-Next-read_fraction.is in
+    fraction-read whole c.read_fraction.ensures c.in-Next-read_fraction.is in
     let exponent : ExponentRead c.args.text.now c.in-Next-read_fraction.tail c.in-By.up c.in-By.down c.in-By.end = exponent-read c.read_exponent.ensures c.in-By.is in
     let here : Placed c.args.text.now c.after_sign-start.result c.in-Next.point c.after_point-first.result c.in-Next-read_fraction.tail
-        c.in-By.up c.in-By.down c.in-By.end = placed fraction exponent c.if-end-text.false c.after_point-first.ensures in
+    c.in-By.up c.in-By.down c.in-By.end = placed fraction exponent c.if-end-text.false c.after_point-first.ensures in
     here.order.1
 
 pub slice_bounds-term_of-count-2 : goal.slice_bounds-term_of-count-2
@@ -123,10 +122,10 @@ slice_bounds-term_of-count-2 c =
       found = found _ _ _ _ c.read_digits.ensures c.in-Next.is;
     } in
     let fraction : FractionRead c.args.text.now c.after_sign-start.result c.in-Next.point c.in-Next-read_fraction.tail =
-      fraction-read whole c.read_fraction.ensures c.in-Next-read_fraction.is in
+    fraction-read whole c.read_fraction.ensures c.in-Next-read_fraction.is in
     let exponent : ExponentRead c.args.text.now c.in-Next-read_fraction.tail c.in-By.up c.in-By.down c.in-By.end = exponent-read c.read_exponent.ensures c.in-By.is in
     let here : Placed c.args.text.now c.after_sign-start.result c.in-Next.point c.after_point-first.result c.in-Next-read_fraction.tail
-        c.in-By.up c.in-By.down c.in-By.end = placed fraction exponent c.if-end-text.false c.after_point-first.ensures in
+    c.in-By.up c.in-By.down c.in-By.end = placed fraction exponent c.if-end-text.false c.after_point-first.ensures in
     here.order.2
 
 pub slice_bounds-term_of-start-2 : goal.slice_bounds-term_of-start-2
@@ -137,10 +136,10 @@ slice_bounds-term_of-start-2 c =
       found = found _ _ _ _ c.read_digits.ensures c.in-Next.is;
     } in
     let fraction : FractionRead c.args.text.now c.after_sign-start.result c.in-Next.point c.in-Next-read_fraction.tail =
-      fraction-read whole c.read_fraction.ensures c.in-Next-read_fraction.is in
+    fraction-read whole c.read_fraction.ensures c.in-Next-read_fraction.is in
     let exponent : ExponentRead c.args.text.now c.in-Next-read_fraction.tail c.in-By.up c.in-By.down c.in-By.end = exponent-read c.read_exponent.ensures c.in-By.is in
     let here : Placed c.args.text.now c.after_sign-start.result c.in-Next.point c.after_point-first.result c.in-Next-read_fraction.tail
-        c.in-By.up c.in-By.down c.in-By.end = placed fraction exponent c.if-end-text.false c.after_point-first.ensures in
+    c.in-By.up c.in-By.down c.in-By.end = placed fraction exponent c.if-end-text.false c.after_point-first.ensures in
     here.order.2
 
 pub slice_bounds-term_of-end-2 : goal.slice_bounds-term_of-end-2
@@ -151,8 +150,8 @@ slice_bounds-term_of-end-2 c =
       found = found _ _ _ _ c.read_digits.ensures c.in-Next.is;
     } in
     let fraction : FractionRead c.args.text.now c.after_sign-start.result c.in-Next.point c.in-Next-read_fraction.tail =
-      fraction-read whole c.read_fraction.ensures c.in-Next-read_fraction.is in
+    fraction-read whole c.read_fraction.ensures c.in-Next-read_fraction.is in
     let exponent : ExponentRead c.args.text.now c.in-Next-read_fraction.tail c.in-By.up c.in-By.down c.in-By.end = exponent-read c.read_exponent.ensures c.in-By.is in
     let here : Placed c.args.text.now c.after_sign-start.result c.in-Next.point c.after_point-first.result c.in-Next-read_fraction.tail
-        c.in-By.up c.in-By.down c.in-By.end = placed fraction exponent c.if-end-text.false c.after_point-first.ensures in
+    c.in-By.up c.in-By.down c.in-By.end = placed fraction exponent c.if-end-text.false c.after_point-first.ensures in
     here.order.3

@@ -1,13 +1,9 @@
 -- `ordering::drop_graph` meets its contract. Those before the graph's stretch stay, those after it move down. Assumes nothing.
-use mathlib.Core.Path.{◌≡◌, refl}
-use mathlib.Core.List.{◌++◌}
-use Prim.Native.Nat.{◌-◌, ◌≤◌}
+use mathlib.Core.Path.{refl}
+use Prim.Native.Nat.{◌-◌}
 use native.Mathlib.Omega.{arith}
-use lib.ListN.{length, length-set}
-use borrow.Author.Rules.{rules}
-use Rattle.keys.specs.Keys.{keys_from}
+use lib.ListN.{length-set}
 use Rattle.keys.proofs.Rise.{ordered}
-use Rattle.ordering.specs.Sets.{others}
 use Rattle.ordering.proofs.Others.{around, down, all-down}
 use Rattle.ordering.proofs.drop_graph.Goals as goal
 

@@ -1,13 +1,9 @@
-use mathlib.Core.Path.{◌≡◌, refl}
+use mathlib.Core.Path.{◌≡◌}
 use mathlib.Core.List.{◌++◌}
 use Prim.Native.Nat.{◌-◌, ◌≤◌}
-use native.Mathlib.Omega.{arith}
-use lib.ListN.{length, length-set}
-use borrow.Author.Rules.{rules}
+use lib.ListN.{length}
 use Rattle.keys.specs.Keys.{keys_from}
-use Rattle.keys.proofs.Rise.{ordered}
 use Rattle.ordering.specs.Sets.{others}
-use Rattle.ordering.proofs.Others.{around, down, all-down}
 use Rattle.ordering.proofs.drop_graph.Given as goal
 
 abbrev pub invariant-loop-i : goal.invariant-loop-i

@@ -1,7 +1,6 @@
 -- `ordering::take_page` meets its contract. By what its callees ensure. Assumes nothing.
 use native.Mathlib.Omega.{arith}
 use Rattle.ordering.proofs.Page.{kept-rise, new-rise, page-in}
-use borrow.Author.Rules.{rules}
 use Rattle.ordering.proofs.take_page.Goals as goal
 
 pub merge-count-requires : goal.merge-count-requires

@@ -1,7 +1,5 @@
 -- `output::put_digits` meets its contract: the digits before the last, then the last; the digits left fall.
 use native.Mathlib.Omega.{arith}
-use Prim.Native.Nat.{ℕ, ◌<◌}
-use borrow.Author.Rules.{rules}
 use Rattle.output.proofs.WritingLaws.{written_none, written_as, written_then, no-digits, last-digit, more-digits}
 use Rattle.output.proofs.+put_digits.Goals as goal
 

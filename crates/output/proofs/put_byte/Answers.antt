@@ -1,7 +1,6 @@
 -- One byte is set.
 use native.Mathlib.Omega.{arith}
 use Rattle.output.proofs.WritingLaws.{written_byte}
-use borrow.Author.Rules.{rules}
 use Rattle.output.proofs.put_byte.Goals as goal
 
 pub returns : goal.returns

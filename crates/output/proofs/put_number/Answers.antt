@@ -1,5 +1,4 @@
 -- All digits of a number.
-use borrow.Author.Rules.{rules}
 use Rattle.definitions.specs.Values.{natural_text}
 use Rattle.output.proofs.put_number.Goals as goal
 

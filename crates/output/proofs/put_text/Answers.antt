@@ -1,6 +1,5 @@
 -- The text is copied to its place.
 use Rattle.output.proofs.WritingLaws.{written-text}
-use borrow.Author.Rules.{rules}
 use Rattle.output.proofs.put_text.Goals as goal
 
 pub returns : goal.returns

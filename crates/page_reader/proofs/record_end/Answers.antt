@@ -1,6 +1,5 @@
 -- `page_reader::record_end` meets its contract.
 use native.Mathlib.Omega.{arith}
-use borrow.Author.Rules.{rules}
 use Rattle.page_reader.proofs.RecordLaws.{triple-inside, triple-kind, triple-ends, triple-fits}
 use Rattle.page_reader.proofs.record_end.Goals as goal
 

@@ -2,7 +2,6 @@
 use mathlib.Core.Path.{ap, ◌∙◌}
 use Rattle.table.specs.Hashes.{hash_of}
 use Rattle.page_typing.proofs.TypingLaws.{property-uri, typed-is}
-use borrow.Author.Rules.{rules}
 use Rattle.page_typing.proofs.well_typed.Goals as goal
 
 pub datatype_of-wanted-requires : goal.datatype_of-wanted-requires

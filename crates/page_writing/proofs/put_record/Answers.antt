@@ -1,7 +1,6 @@
 -- `page_writing::put_record` meets its contract: kind, subject, property and object, one after the other.
 use Prim.Native.Nat.{◌+◌, ◌*◌, ◌≤◌, ◌<◌}
 use native.Mathlib.Omega.{arith}
-use borrow.Author.Rules.{rules}
 use lib.ListN.{length}
 use Rattle.definitions.specs.Limits.{slot_width, object_offset}
 use Rattle.definitions.specs.Terms.{of_term_kind}

@@ -1,12 +1,8 @@
 -- `page_writing::write_page` meets its contract: the page of the keys so far stands first, and what the buffer had after it.
-use Prim.Native.Nat.{◌-◌, ◌≤◌}
-use mathlib.Core.Path.{◌≡◌, refl}
+use Prim.Native.Nat.{◌-◌}
+use mathlib.Core.Path.{refl}
 use native.Mathlib.Omega.{arith}
-use borrow.Author.Rules.{rules}
-use lib.ListN.{length, take}
-use Rattle.output.specs.Written.{Written}
 use Rattle.sorting.proofs.MergeLaws.{key_in_lem}
-use Rattle.page_writing.specs.Page.{keys_page}
 use Rattle.page_writing.proofs.WritingLaws.{within, written_on, none_written, page-written}
 use Rattle.page_writing.proofs.write_page.Goals as goal
 

@@ -1,6 +1,5 @@
 -- `patterns::literal` meets its contract.
 use Rattle.patterns.proofs.FieldLaws.{literal-is}
-use borrow.Author.Rules.{rules}
 use Rattle.patterns.proofs.literal.Goals as goal
 
 pub returns : goal.returns

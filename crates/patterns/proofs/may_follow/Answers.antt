@@ -1,7 +1,6 @@
 -- `patterns::may_follow` meets its contract.
 use borrow.Author.Tests.{eq-eqb, ne_eqb}
 use Rattle.patterns.specs.Fields.{may_follow}
-use borrow.Author.Rules.{rules}
 use Rattle.patterns.proofs.may_follow.Goals as goal
 
 pub returns-then-b-eq42 : goal.returns-then-b-eq42

@@ -1,7 +1,6 @@
 -- `patterns::pattern_ok` meets its contract.
 use mathlib.Core.Path.{sym, ◌∙◌}
 use Rattle.patterns.proofs.FieldLaws.{anchored, unanchored}
-use borrow.Author.Rules.{rules}
 use Rattle.patterns.proofs.pattern_ok.Goals as goal
 
 pub returns-then-s-at-eq94 : goal.returns-then-s-at-eq94

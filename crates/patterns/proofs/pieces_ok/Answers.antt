@@ -1,12 +1,9 @@
 -- `patterns::pieces_ok` meets its contract.
 use native.Mathlib.Omega.{arith}
 use Prim.Native.Nat.{◌-◌}
-use borrow.Author.Rules.{rules}
-use borrow.Author.Tests.{not-true, not-false}
-use mathlib.Core.Path.{◌≡◌, sym, ◌∙◌}
+use mathlib.Core.Path.{sym, ◌∙◌}
 use Rattle.definitions.specs.Bytes.{part}
-use Rattle.patterns.specs.Fields.{are_pieces}
-use Rattle.patterns.proofs.FieldLaws.{good_from, pieces-from, pieces-zero, pieces_end, pieces-bad, pieces-turn, pieces-done}
+use Rattle.patterns.proofs.FieldLaws.{pieces-from, pieces-zero, pieces_end, pieces-bad, pieces-turn, pieces-done}
 use Rattle.patterns.proofs.pieces_ok.Goals as goal
 
 pub loop-i-init : goal.loop-i-init

@@ -1,11 +1,8 @@
-use native.Mathlib.Omega.{arith}
 use Prim.Native.Nat.{◌-◌}
-use borrow.Author.Rules.{rules}
-use borrow.Author.Tests.{not-true, not-false}
-use mathlib.Core.Path.{◌≡◌, sym, ◌∙◌}
+use mathlib.Core.Path.{◌≡◌}
 use Rattle.definitions.specs.Bytes.{part}
 use Rattle.patterns.specs.Fields.{are_pieces}
-use Rattle.patterns.proofs.FieldLaws.{good_from, pieces-from, pieces-zero, pieces_end, pieces-bad, pieces-turn, pieces-done}
+use Rattle.patterns.proofs.FieldLaws.{good_from}
 use Rattle.patterns.proofs.pieces_ok.Given as goal
 
 abbrev pub invariant-loop-i : goal.invariant-loop-i

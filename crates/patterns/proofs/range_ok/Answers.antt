@@ -1,15 +1,9 @@
 -- `patterns::range_ok` meets its contract.
 use native.Mathlib.Omega.{arith}
 use Prim.Native.Nat.{◌-◌, ◌+◌}
-use borrow.Author.Rules.{rules}
-use borrow.Author.Tests.{not-true, not-false}
 use mathlib.Core.Bool.{Bool, ◌&&◌}
-use mathlib.Core.Path.{◌≡◌, sym, ap, ◌∙◌}
-use Rattle.definitions.specs.Limits.{language_range_width}
-use Rattle.definitions.specs.Bytes.{part}
-use Rattle.definitions.specs.Text.{language_range_of}
-use Rattle.laws.specs.ReadAnswers.{is_some}
-use Rattle.patterns.proofs.FieldLaws.{range_from, star-alone, tag-begins, tag-zero, tag-end, tag-bad, tag-turn, tag-done}
+use mathlib.Core.Path.{sym, ap, ◌∙◌}
+use Rattle.patterns.proofs.FieldLaws.{star-alone, tag-begins, tag-zero, tag-end, tag-bad, tag-turn, tag-done}
 use Rattle.patterns.proofs.range_ok.Goals as goal
 
 pub returns-then-s-at-eq42 : goal.returns-then-s-at-eq42

@@ -1,14 +1,10 @@
-use native.Mathlib.Omega.{arith}
-use Prim.Native.Nat.{◌-◌, ◌+◌}
-use borrow.Author.Rules.{rules}
-use borrow.Author.Tests.{not-true, not-false}
-use mathlib.Core.Bool.{Bool, ◌&&◌}
-use mathlib.Core.Path.{◌≡◌, sym, ap, ◌∙◌}
+use Prim.Native.Nat.{◌-◌}
+use mathlib.Core.Path.{◌≡◌}
 use Rattle.definitions.specs.Limits.{language_range_width}
 use Rattle.definitions.specs.Bytes.{part}
 use Rattle.definitions.specs.Text.{language_range_of}
 use Rattle.laws.specs.ReadAnswers.{is_some}
-use Rattle.patterns.proofs.FieldLaws.{range_from, star-alone, tag-begins, tag-zero, tag-end, tag-bad, tag-turn, tag-done}
+use Rattle.patterns.proofs.FieldLaws.{range_from}
 use Rattle.patterns.proofs.range_ok.Given as goal
 
 abbrev pub invariant-loop-i : goal.invariant-loop-i

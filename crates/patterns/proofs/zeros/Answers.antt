@@ -1,8 +1,8 @@
 -- `patterns::zeros` meets its contract.
 use native.Mathlib.Omega.{arith}
 use Prim.Native.Nat.{◌-◌}
-use mathlib.Core.Path.{◌≡◌, refl, sym, ap, ◌∙◌}
-use Rattle.definitions.specs.Bytes.{part, all_zero}
+use mathlib.Core.Path.{sym, ap, ◌∙◌}
+use Rattle.definitions.specs.Bytes.{all_zero}
 use Rattle.patterns.proofs.FieldLaws.{part-done, zeros-turn, zeros-stop}
 use Rattle.patterns.proofs.zeros.Goals as goal
 

@@ -1,8 +1,6 @@
-use native.Mathlib.Omega.{arith}
 use Prim.Native.Nat.{◌-◌}
-use mathlib.Core.Path.{◌≡◌, refl, sym, ap, ◌∙◌}
+use mathlib.Core.Path.{◌≡◌}
 use Rattle.definitions.specs.Bytes.{part, all_zero}
-use Rattle.patterns.proofs.FieldLaws.{part-done, zeros-turn, zeros-stop}
 use Rattle.patterns.proofs.zeros.Given as goal
 
 abbrev pub invariant-loop-i : goal.invariant-loop-i

@@ -1,6 +1,5 @@
 -- `quad_table::key_at` meets its contract.
 use mathlib.Core.Path.{◌∙◌}
-use borrow.Author.Rules.{rules}
 use Rattle.keys.specs.Keys.{key_of}
 use Rattle.quad_table.specs.Quads.{quad}
 use Rattle.quad_table.proofs.key_at.Goals as goal

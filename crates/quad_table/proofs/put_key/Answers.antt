@@ -1,7 +1,6 @@
 -- `quad_table::put_key` meets its contract.
 use mathlib.Core.Path.{◌∙◌}
 use mathlib.Core.List.{[], ◌∷◌}
-use borrow.Author.Rules.{rules}
 use Rattle.definitions.specs.Saved.{quad_bytes}
 use Rattle.quad_table.specs.Quads.{quad}
 use Rattle.quad_table.proofs.QuadLaws.{quad-stored}

@@ -1,7 +1,6 @@
 use mathlib.Core.List.{[], ◌∷◌}
 use Rattle.definitions.specs.Bytes.{little_bytes}
 use Rattle.definitions.specs.Saved.{quad_bytes}
-use borrow.Author.Rules.{rules}
 use Rattle.quad_table.proofs.quad_bytes.Goals as goal
 
 pub returns : goal.returns

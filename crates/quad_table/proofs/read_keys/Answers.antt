@@ -1,9 +1,8 @@
 -- `quad_table::read_keys` meets its contract.
-use Prim.Native.Nat.{ℕ, ◌-◌, ◌≤◌}
+use Prim.Native.Nat.{ℕ, ◌-◌}
 use native.Mathlib.Omega.{arith}
 use mathlib.Core.Path.{◌≡◌, refl, ap, sym, ◌∙◌}
-use lib.ListN.{length, length-set}
-use borrow.Author.Rules.{rules}
+use lib.ListN.{length-set}
 use Rattle.definitions.specs.Saved.{quads_from}
 use Rattle.keys.specs.Keys.{keys_from, keys_of}
 use Rattle.quad_table.proofs.QuadLaws.{read_next}

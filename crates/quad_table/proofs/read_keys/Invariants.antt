@@ -1,11 +1,8 @@
-use Prim.Native.Nat.{ℕ, ◌-◌, ◌≤◌}
-use native.Mathlib.Omega.{arith}
-use mathlib.Core.Path.{◌≡◌, refl, ap, sym, ◌∙◌}
-use lib.ListN.{length, length-set}
-use borrow.Author.Rules.{rules}
+use Prim.Native.Nat.{◌-◌, ◌≤◌}
+use mathlib.Core.Path.{◌≡◌}
+use lib.ListN.{length}
 use Rattle.definitions.specs.Saved.{quads_from}
 use Rattle.keys.specs.Keys.{keys_from, keys_of}
-use Rattle.quad_table.proofs.QuadLaws.{read_next}
 use Rattle.quad_table.proofs.read_keys.Given as goal
 
 abbrev pub invariant-loop-i : goal.invariant-loop-i

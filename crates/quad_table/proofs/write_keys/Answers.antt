@@ -1,11 +1,9 @@
 -- `quad_table::write_keys` meets its contract.
-use Prim.Native.Nat.{ℕ, ◌-◌, ◌≤◌}
+use Prim.Native.Nat.{ℕ, ◌-◌}
 use native.Mathlib.Omega.{arith}
 use mathlib.Core.Path.{◌≡◌, ap, sym, ◌∙◌}
 use mathlib.Core.List.{[]}
 use lib.ListN.{length}
-use borrow.Author.Rules.{rules}
-use Rattle.definitions.specs.Limits.{quad_table_width}
 use Rattle.definitions.specs.Saved.{quad_table}
 use Rattle.laws.proofs.Tables.{quad-table-length}
 use Rattle.keys.specs.Keys.{rows_from}

@@ -1,14 +1,9 @@
-use Prim.Native.Nat.{ℕ, ◌-◌, ◌≤◌}
-use native.Mathlib.Omega.{arith}
-use mathlib.Core.Path.{◌≡◌, ap, sym, ◌∙◌}
-use mathlib.Core.List.{[]}
+use Prim.Native.Nat.{◌-◌, ◌≤◌}
+use mathlib.Core.Path.{◌≡◌}
 use lib.ListN.{length}
-use borrow.Author.Rules.{rules}
 use Rattle.definitions.specs.Limits.{quad_table_width}
 use Rattle.definitions.specs.Saved.{quad_table}
-use Rattle.laws.proofs.Tables.{quad-table-length}
 use Rattle.keys.specs.Keys.{rows_from}
-use Rattle.quad_table.proofs.QuadLaws.{written_next}
 use Rattle.quad_table.proofs.write_keys.Given as goal
 
 abbrev pub invariant-loop-i : goal.invariant-loop-i

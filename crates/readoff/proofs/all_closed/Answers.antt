@@ -1,14 +1,7 @@
 -- `readoff::all_closed` meets its contract. Invariant: all below `x` pass. The measure is what is left of the variables. Assumes nothing.
-use Prim.Native.Nat.{◌≤◌, ◌-◌}
+use Prim.Native.Nat.{◌-◌}
 use native.Mathlib.Omega.{arith}
-use mathlib.Core.Path.{◌≡◌}
-use mathlib.Core.Bool.{true, not, ◌||◌}
-use lib.ListN.{get_or}
-use borrow.Author.Tests.{not-true, not-false}
-use Rattle.definitions.specs.Limits.{variable_limit}
-use Rattle.definitions.specs.Typing.{unbound, is_open}
-use Rattle.facts.specs.Infer.{all_below, settled}
-use Rattle.facts.specs.Codes.{all_written}
+use mathlib.Core.Bool.{true}
 use Rattle.readoff.proofs.ReadOffLaws.{below_none, below_more, below_fails, below-done}
 use Rattle.readoff.proofs.all_closed.Goals as goal
 

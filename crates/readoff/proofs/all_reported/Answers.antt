@@ -1,9 +1,8 @@
 -- `readoff::all_reported` meets its contract. Invariant: the types below `x` are there. The measure is what is left of the variables. Assumes nothing.
-use Prim.Native.Nat.{ℕ, ◌≤◌, ◌<◌, ◌-◌}
+use Prim.Native.Nat.{◌-◌}
 use native.Mathlib.Omega.{arith}
-use mathlib.Core.Path.{◌≡◌, refl}
-use lib.ListN.{length, get_or, length-set}
-use Rattle.definitions.specs.Limits.{variable_limit}
+use mathlib.Core.Path.{refl}
+use lib.ListN.{length-set}
 use Rattle.laws.proofs.Fill.{filled_more}
 use Rattle.facts.specs.Codes.{all_written}
 use Rattle.facts.specs.Answers.{reported_at}

@@ -1,12 +1,9 @@
 use Prim.Native.Nat.{ℕ, ◌≤◌, ◌<◌, ◌-◌}
-use native.Mathlib.Omega.{arith}
-use mathlib.Core.Path.{◌≡◌, refl}
-use lib.ListN.{length, get_or, length-set}
+use mathlib.Core.Path.{◌≡◌}
+use lib.ListN.{length, get_or}
 use Rattle.definitions.specs.Limits.{variable_limit}
-use Rattle.laws.proofs.Fill.{filled_more}
 use Rattle.facts.specs.Codes.{all_written}
 use Rattle.facts.specs.Answers.{reported_at}
-use Rattle.readoff.proofs.ReadOffLaws.{filled-all, written-length}
 use Rattle.readoff.proofs.all_reported.Given as goal
 
 abbrev pub invariant-loop-x : goal.invariant-loop-x

@@ -1,11 +1,7 @@
 -- `readoff::all_tight` meets its contract. Invariant: all below `p` pass. The measure is what is left of the variables. Assumes nothing.
-use Prim.Native.Nat.{◌≤◌, ◌-◌}
+use Prim.Native.Nat.{◌-◌}
 use native.Mathlib.Omega.{arith}
-use mathlib.Core.Path.{◌≡◌}
 use mathlib.Core.Bool.{true}
-use borrow.Author.Tests.{not-true, not-false}
-use Rattle.definitions.specs.Limits.{variable_limit}
-use Rattle.facts.specs.Infer.{all_below, tight}
 use Rattle.readoff.proofs.ReadOffLaws.{below_none, below_more, below_fails, below-done}
 use Rattle.readoff.proofs.all_tight.Goals as goal
 

@@ -1,5 +1,4 @@
 -- `readoff::apart` meets its contract: three roots. Assumes nothing.
-use borrow.Author.Rules.{rules}
 use Rattle.readoff.proofs.ReadOffLaws.{apart-is}
 use Rattle.readoff.proofs.apart.Goals as goal
 

@@ -1,6 +1,5 @@
 -- `readoff::best` meets its contract, by the flags of the variable. Assumes nothing.
 use mathlib.Core.Path.{refl}
-use borrow.Author.Rules.{rules}
 use Rattle.codes.specs.TypeCodes.{datatype_of}
 use Rattle.readoff.proofs.ReadOffLaws.{best-range, best-plain}
 use Rattle.readoff.proofs.best.Goals as goal

@@ -1,5 +1,4 @@
 -- `readoff::closed` meets its contract: an open variable has the code 0. Assumes nothing.
-use borrow.Author.Rules.{rules}
 use Rattle.readoff.proofs.ReadOffLaws.{closed-written, closed-open}
 use Rattle.readoff.proofs.closed.Goals as goal
 

@@ -1,5 +1,4 @@
 -- `readoff::of_family` meets its contract, arm by arm. Assumes nothing.
-use borrow.Author.Rules.{rules}
 use Rattle.readoff.proofs.ReadOffLaws.{numbers-family, last-family}
 use Rattle.readoff.proofs.of_family.Goals as goal
 

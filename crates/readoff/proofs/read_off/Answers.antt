@@ -1,6 +1,4 @@
 -- `readoff::read_off` meets its contract: an answer for each test that fails, and one where none does. Assumes nothing.
-use borrow.Author.Rules.{rules}
-use borrow.Author.Tests.{not-true, not-false}
 use Rattle.readoff.proofs.ReadOffLaws.{off-joined, off-open, off-loose, off-types}
 use Rattle.readoff.proofs.read_off.Goals as goal
 

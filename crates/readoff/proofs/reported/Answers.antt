@@ -1,5 +1,4 @@
 -- `readoff::reported` meets its contract: open, unbound or fixed. Assumes nothing.
-use borrow.Author.Rules.{rules}
 use Rattle.readoff.proofs.ReadOffLaws.{reported-open, reported-unbound, reported-fixed}
 use Rattle.readoff.proofs.reported.Goals as goal
 

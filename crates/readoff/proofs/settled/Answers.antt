@@ -1,5 +1,4 @@
 -- `readoff::settled` meets its contract: two roots. Assumes nothing.
-use borrow.Author.Rules.{rules}
 use Rattle.readoff.proofs.ReadOffLaws.{settled_is}
 use Rattle.readoff.proofs.settled.Goals as goal
 

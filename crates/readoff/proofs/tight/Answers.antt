@@ -1,6 +1,4 @@
 -- `readoff::tight` meets its contract. Assumes nothing.
-use borrow.Author.Rules.{rules}
-use borrow.Author.Tests.{not-true, not-false}
 use Rattle.readoff.proofs.ReadOffLaws.{tight-apart, tight-edge}
 use Rattle.readoff.proofs.tight.Goals as goal
 

@@ -1,11 +1,8 @@
 use Prim.Native.Nat.{◌≤◌, ◌-◌}
-use native.Mathlib.Omega.{arith}
 use mathlib.Core.Path.{◌≡◌}
 use mathlib.Core.Bool.{true}
-use borrow.Author.Tests.{not-true, not-false}
 use Rattle.definitions.specs.Limits.{variable_limit}
 use Rattle.facts.specs.Infer.{all_below, tight}
-use Rattle.readoff.proofs.ReadOffLaws.{below_none, below_more, below_fails, below-done}
 use Rattle.readoff.proofs.tight_with.Given as goal
 
 abbrev pub invariant-loop-x : goal.invariant-loop-x

@@ -1,5 +1,4 @@
 -- `record_reading::has_room` meets its contract.
-use borrow.Author.Rules.{rules}
 use Rattle.record_reading.proofs.ReadLaws.{room-none, room-left}
 use Rattle.record_reading.proofs.has_room.Goals as goal
 

@@ -1,6 +1,5 @@
 -- `record_reading::read_body` meets its contract.
 use native.Mathlib.Omega.{arith}
-use borrow.Author.Rules.{rules}
 use Rattle.record_reading.proofs.ReadLaws.{room_fits, body-none, body-short, body-bad, body-next}
 use mathlib.Core.Path.{ap}
 use mathlib.Core.Bool.{not}

@@ -2,7 +2,6 @@
 use native.Mathlib.Omega.{arith}
 use mathlib.Core.Logic.{inl, inr}
 use Rattle.record_reading.proofs.ReadLaws.{room_fits, entry-short, entry-kind, entry-uri, entry-code, entry_next}
-use borrow.Author.Rules.{rules}
 use mathlib.Core.Path.{ap}
 use mathlib.Core.Bool.{not}
 use Rattle.record_reading.proofs.read_entry.Goals as goal

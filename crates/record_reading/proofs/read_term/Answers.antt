@@ -1,6 +1,5 @@
 -- `record_reading::read_term` meets its contract.
 use mathlib.Core.Path.{ap, ◌∙◌}
-use borrow.Author.Rules.{rules}
 use Rattle.laws.specs.ReadAnswers.{next_of}
 use Rattle.record_reading.proofs.ReadLaws.{term-out, term_is}
 use Rattle.record_reading.proofs.read_term.Goals as goal

@@ -1,7 +1,6 @@
 -- `record_reading::read_triple` meets its contract.
 use native.Mathlib.Omega.{arith}
 use mathlib.Core.Logic.{inl, inr}
-use borrow.Author.Rules.{rules}
 use Rattle.record_reading.proofs.ReadLaws.{triple-out, triple-kind, triple-subject, triple-property, triple-object}
 use Rattle.record_reading.proofs.read_triple.Goals as goal
 

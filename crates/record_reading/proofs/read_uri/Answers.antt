@@ -1,6 +1,5 @@
 -- `record_reading::read_uri` meets its contract.
 use native.Mathlib.Omega.{arith}
-use borrow.Author.Rules.{rules}
 use Rattle.record_reading.proofs.ReadLaws.{room_fits, uri-short, uri-bad, uri-next}
 use mathlib.Core.Path.{ap}
 use mathlib.Core.Bool.{not}

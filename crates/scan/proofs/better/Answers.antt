@@ -1,5 +1,4 @@
 -- `scan::better` meets its contract. One law for each way through. Assumes nothing.
-use borrow.Author.Rules.{rules}
 use native.Mathlib.Omega.{arith}
 use mathlib.Core.Path.{◌∙◌}
 use Rattle.scan.proofs.StretchScan.{row-far, row-taken, row-left}

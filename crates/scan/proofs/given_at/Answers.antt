@@ -1,5 +1,4 @@
 -- `scan::given_at` meets its contract. Assumes nothing.
-use borrow.Author.Rules.{rules}
 use mathlib.Core.Path.{refl}
 use Rattle.scan.specs.Codes.{given_at, place_number}
 use Rattle.scan.proofs.given_at.Goals as goal

@@ -1,12 +1,6 @@
 -- `scan::least_by_graph` meets its contract. The graphs passed give the best so far, and the next graph starts where their stretch ends. Assumes nothing.
-use borrow.Author.Rules.{rules}
-use mathlib.Core.Path.{◌≡◌}
-use Prim.Native.Nat.{ℕ, ◌-◌, ◌/◌, ◌≤◌, ◌<◌}
+use Prim.Native.Nat.{◌-◌}
 use native.Mathlib.Omega.{arith}
-use lib.ListN.{get_or}
-use Rattle.keys.specs.Keys.{graph_weight, rows_from}
-use Rattle.scan.specs.Scan.{scan}
-use Rattle.scan.specs.Codes.{sought_code, places_at}
 use Rattle.scan.proofs.StretchScan.{started, ends}
 use Rattle.scan.proofs.Graphs.{passed}
 use Rattle.scan.proofs.least_by_graph.Goals as goal

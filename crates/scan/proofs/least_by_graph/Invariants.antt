@@ -1,13 +1,9 @@
-use borrow.Author.Rules.{rules}
 use mathlib.Core.Path.{◌≡◌}
 use Prim.Native.Nat.{ℕ, ◌-◌, ◌/◌, ◌≤◌, ◌<◌}
-use native.Mathlib.Omega.{arith}
 use lib.ListN.{get_or}
 use Rattle.keys.specs.Keys.{graph_weight, rows_from}
 use Rattle.scan.specs.Scan.{scan}
 use Rattle.scan.specs.Codes.{sought_code, places_at}
-use Rattle.scan.proofs.StretchScan.{started, ends}
-use Rattle.scan.proofs.Graphs.{passed}
 use Rattle.scan.proofs.least_by_graph.Given as goal
 
 abbrev pub invariant-loop-i : goal.invariant-loop-i

@@ -1,5 +1,4 @@
 -- `scan::least_by_stretch` meets its contract. No quad fits outside the stretch. Assumes nothing.
-use borrow.Author.Rules.{rules}
 use native.Mathlib.Omega.{arith}
 use Rattle.scan.proofs.StretchScan.{idle, from-there}
 use Rattle.scan.proofs.least_by_stretch.Goals as goal

@@ -1,12 +1,8 @@
 -- `scan::least_in` meets its contract. What is left, from the best so far, gives what the whole gives. Assumes nothing.
-use borrow.Author.Rules.{rules}
 use mathlib.Core.Bool.{true}
-use mathlib.Core.Path.{◌≡◌, refl}
-use Prim.Native.Nat.{◌-◌, ◌≤◌}
+use mathlib.Core.Path.{refl}
+use Prim.Native.Nat.{◌-◌}
 use native.Mathlib.Omega.{arith}
-use Rattle.keys.specs.Keys.{rows_from}
-use Rattle.scan.specs.Scan.{scan}
-use Rattle.scan.specs.Codes.{sought_code, places_at}
 use Rattle.scan.proofs.StretchScan.{not-above, ends, passed_over, past, settled, unsettled}
 use Rattle.scan.proofs.least_in.Goals as goal
 

@@ -1,12 +1,9 @@
-use borrow.Author.Rules.{rules}
 use mathlib.Core.Bool.{true}
-use mathlib.Core.Path.{◌≡◌, refl}
+use mathlib.Core.Path.{◌≡◌}
 use Prim.Native.Nat.{◌-◌, ◌≤◌}
-use native.Mathlib.Omega.{arith}
 use Rattle.keys.specs.Keys.{rows_from}
 use Rattle.scan.specs.Scan.{scan}
 use Rattle.scan.specs.Codes.{sought_code, places_at}
-use Rattle.scan.proofs.StretchScan.{not-above, ends, passed_over, past, settled, unsettled}
 use Rattle.scan.proofs.least_in.Given as goal
 
 abbrev pub invariant-loop-i : goal.invariant-loop-i

@@ -1,7 +1,6 @@
 -- `scan::next_between` meets its contract. The keys passed lie elsewhere. Assumes nothing.
-use Prim.Native.Nat.{◌-◌, ◌≤◌}
+use Prim.Native.Nat.{◌-◌}
 use native.Mathlib.Omega.{arith}
-use Rattle.scan.specs.Codes.{Avoids}
 use Rattle.scan.proofs.StretchScan.{one_outside}
 use Rattle.scan.proofs.next_between.Goals as goal
 

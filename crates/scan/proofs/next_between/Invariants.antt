@@ -1,7 +1,5 @@
 use Prim.Native.Nat.{◌-◌, ◌≤◌}
-use native.Mathlib.Omega.{arith}
 use Rattle.scan.specs.Codes.{Avoids}
-use Rattle.scan.proofs.StretchScan.{one_outside}
 use Rattle.scan.proofs.next_between.Given as goal
 
 abbrev pub invariant-loop-i : goal.invariant-loop-i

@@ -1,7 +1,6 @@
 -- `scan::next_subject` meets its contract. The keys passed have another subject. Assumes nothing.
-use Prim.Native.Nat.{◌-◌, ◌≤◌}
+use Prim.Native.Nat.{◌-◌}
 use native.Mathlib.Omega.{arith}
-use Rattle.scan.specs.Codes.{Lacks}
 use Rattle.scan.proofs.StretchScan.{one_more}
 use Rattle.scan.proofs.next_subject.Goals as goal
 

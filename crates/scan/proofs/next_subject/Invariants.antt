@@ -1,7 +1,5 @@
 use Prim.Native.Nat.{◌-◌, ◌≤◌}
-use native.Mathlib.Omega.{arith}
 use Rattle.scan.specs.Codes.{Lacks}
-use Rattle.scan.proofs.StretchScan.{one_more}
 use Rattle.scan.proofs.next_subject.Given as goal
 
 abbrev pub invariant-loop-i : goal.invariant-loop-i

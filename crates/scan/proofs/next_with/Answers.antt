@@ -1,5 +1,4 @@
 -- `scan::next_with` meets its contract. One law for each place. Assumes nothing.
-use borrow.Author.Rules.{rules}
 use native.Mathlib.Omega.{arith}
 use lib.Dec.{leb, ltb}
 use borrow.Author.Tests.{ltb-true}

@@ -1,6 +1,5 @@
 -- `scan::row_stands` meets its contract. Assumes nothing.
 use mathlib.Core.Path.{refl}
-use borrow.Author.Rules.{rules}
 use Rattle.scan.proofs.row_stands.Goals as goal
 
 pub returns : goal.returns

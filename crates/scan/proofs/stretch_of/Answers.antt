@@ -1,5 +1,4 @@
 -- `scan::stretch_of` meets its contract. One law for each place that may be open. Assumes nothing.
-use borrow.Author.Rules.{rules}
 use Rattle.scan.proofs.Stretches.{open-graph, open-subject, open-property, open-object, all_known}
 use Rattle.scan.proofs.stretch_of.Goals as goal
 

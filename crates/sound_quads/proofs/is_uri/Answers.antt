@@ -1,7 +1,6 @@
 -- `sound_quads::is_uri` meets its contract. Each return is one law.
 use native.Mathlib.Omega.{arith}
 use Rattle.sound_quads.proofs.StoreLaws.{uri-out, uri-in}
-use borrow.Author.Rules.{rules}
 use Rattle.sound_quads.proofs.is_uri.Goals as goal
 
 pub returns-then-count-at : goal.returns-then-count-at

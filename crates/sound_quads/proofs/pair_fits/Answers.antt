@@ -1,7 +1,6 @@
 -- `sound_quads::pair_fits` meets its contract. Each return is one law.
 use native.Mathlib.Omega.{arith}
 use Rattle.sound_quads.proofs.StoreLaws.{no-property, no-object, no-range, pair_is}
-use borrow.Author.Rules.{rules}
 use Rattle.sound_quads.proofs.pair_fits.Goals as goal
 
 pub returns-then-count-p : goal.returns-then-count-p

@@ -4,7 +4,6 @@ use mathlib.Core.Path.{◌∙◌, ap, ap₂}
 use Rattle.definitions.specs.Lists.{is_in}
 use Rattle.sound_quads.specs.TermNumbers.{uri_number, pair_numbers}
 use Rattle.sound_quads.proofs.StoreLaws.{not-fetched, no-graph, no-subject, quad_is}
-use borrow.Author.Rules.{rules}
 use mathlib.Core.Bool.{not}
 use Rattle.sound_quads.proofs.quad_sound.Goals as goal
 

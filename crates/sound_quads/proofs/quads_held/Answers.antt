@@ -1,7 +1,6 @@
 -- `sound_quads::quads_held` meets its contract. Each return is one law.
 use native.Mathlib.Omega.{arith}
 use Rattle.sound_quads.proofs.QuadLaws.{too_many, held-is}
-use borrow.Author.Rules.{rules}
 use Rattle.sound_quads.proofs.quads_held.Goals as goal
 
 pub returns-then-n-gt-QUAD_LIMIT : goal.returns-then-n-gt-QUAD_LIMIT

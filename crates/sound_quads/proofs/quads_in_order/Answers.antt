@@ -2,7 +2,6 @@
 use native.Mathlib.Omega.{arith}
 use mathlib.Core.Path.{sym, ◌∙◌}
 use Rattle.keys.proofs.Quads.{table-order}
-use borrow.Author.Rules.{rules}
 use Rattle.sound_quads.proofs.quads_in_order.Goals as goal
 
 pub returns : goal.returns

@@ -1,13 +1,10 @@
 -- `sound_quads::quads_sound` meets its contract. The loop keeps what is asked of the rest equal to what is asked of the whole.
 use Prim.Native.Nat.{◌-◌}
 use native.Mathlib.Omega.{arith}
-use borrow.Author.Rules.{rules}
-use borrow.Author.Tests.{not-true, not-false}
-use mathlib.Core.Path.{◌≡◌, sym, ap, ◌∙◌}
+use mathlib.Core.Path.{sym, ap, ◌∙◌}
 use Rattle.definitions.specs.Lists.{every}
-use Rattle.keys.specs.Keys.{rows_from}
 use Rattle.sound_quads.specs.TermNumbers.{quad_numbers}
-use Rattle.sound_quads.proofs.QuadLaws.{rows_left, rows_all, row-fails, row-passes, rows_pass}
+use Rattle.sound_quads.proofs.QuadLaws.{rows_all, row-fails, row-passes, rows_pass}
 use Rattle.sound_quads.proofs.quads_sound.Goals as goal
 
 pub loop-i-init : goal.loop-i-init

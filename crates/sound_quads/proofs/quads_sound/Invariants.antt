@@ -1,12 +1,9 @@
 use Prim.Native.Nat.{◌-◌}
-use native.Mathlib.Omega.{arith}
-use borrow.Author.Rules.{rules}
-use borrow.Author.Tests.{not-true, not-false}
-use mathlib.Core.Path.{◌≡◌, sym, ap, ◌∙◌}
+use mathlib.Core.Path.{◌≡◌}
 use Rattle.definitions.specs.Lists.{every}
 use Rattle.keys.specs.Keys.{rows_from}
 use Rattle.sound_quads.specs.TermNumbers.{quad_numbers}
-use Rattle.sound_quads.proofs.QuadLaws.{rows_left, rows_all, row-fails, row-passes, rows_pass}
+use Rattle.sound_quads.proofs.QuadLaws.{rows_left}
 use Rattle.sound_quads.proofs.quads_sound.Given as goal
 
 abbrev pub invariant-loop-i : goal.invariant-loop-i

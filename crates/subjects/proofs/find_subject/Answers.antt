@@ -1,10 +1,9 @@
 -- `subjects::find_subject` meets its contract. No field before the place looked at is the same.
-use Prim.Native.Nat.{◌-◌, ◌≤◌}
+use Prim.Native.Nat.{◌-◌}
 use native.Mathlib.Omega.{arith}
 use mathlib.Core.Path.{sym}
 use lib.Seq.{length-take-le}
-use Rattle.subjects.proofs.NotedLaws.{NoneBefore, to-first, place_found, place-next, place_none}
-use borrow.Author.Rules.{rules}
+use Rattle.subjects.proofs.NotedLaws.{to-first, place_found, place-next, place_none}
 use Rattle.subjects.proofs.find_subject.Goals as goal
 
 pub slice_bounds-place_of-end : goal.slice_bounds-place_of-end

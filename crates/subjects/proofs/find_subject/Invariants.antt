@@ -1,9 +1,5 @@
 use Prim.Native.Nat.{◌-◌, ◌≤◌}
-use native.Mathlib.Omega.{arith}
-use mathlib.Core.Path.{sym}
-use lib.Seq.{length-take-le}
-use Rattle.subjects.proofs.NotedLaws.{NoneBefore, to-first, place_found, place-next, place_none}
-use borrow.Author.Rules.{rules}
+use Rattle.subjects.proofs.NotedLaws.{NoneBefore}
 use Rattle.subjects.proofs.find_subject.Given as goal
 
 abbrev pub invariant-loop-i : goal.invariant-loop-i

@@ -1,6 +1,5 @@
 -- `subjects::join` meets its contract.
 use Rattle.subjects.proofs.NotedLaws.{join-none, join-held, join-code, join_apart}
-use borrow.Author.Rules.{rules}
 use Rattle.subjects.proofs.join.Goals as goal
 
 pub returns-then-held-eq0 : goal.returns-then-held-eq0

@@ -2,12 +2,10 @@
 use Prim.Native.Nat.{◌+◌, ◌*◌, ◌-◌, ◌≤◌}
 use native.Mathlib.Omega.{arith}
 use mathlib.Core.Path.{sym, ap}
-use lib.ListN.{length}
 use Rattle.laws.specs.ReadAnswers.{is_some}
 use Rattle.laws.proofs.Options.{some-not-none}
 use Rattle.subjects.specs.Room.{asking_width}
-use Rattle.subjects.proofs.PageLaws.{Going, going-first, going_end, going-noted, going-bad, record-at, next-after, record-long, going_on, going-noting}
-use borrow.Author.Rules.{rules}
+use Rattle.subjects.proofs.PageLaws.{going-first, going_end, going-noted, going-bad, record-at, next-after, record-long, going_on, going-noting}
 use Rattle.subjects.proofs.subjects_of.Goals as goal
 
 pub loop-at-init : goal.loop-at-init

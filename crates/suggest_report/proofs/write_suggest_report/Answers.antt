@@ -1,5 +1,4 @@
 -- By the cases of the answer.
-use borrow.Author.Rules.{rules}
 use Rattle.suggest_report.proofs.SuggestReport.{suggest-refused, suggest-accepted, suggest-named, suggest-none}
 use Rattle.suggest_report.proofs.write_suggest_report.Goals as goal
 

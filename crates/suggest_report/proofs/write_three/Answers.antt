@@ -1,5 +1,4 @@
 -- The bytes are set one after the other.
-use borrow.Author.Rules.{rules}
 use Rattle.suggest_report.proofs.SuggestReport.{three}
 use Rattle.suggest_report.proofs.write_three.Goals as goal
 

@@ -1,6 +1,5 @@
 -- `term_values::in_slot` meets its contract, by the laws of SlotLaws.
 use Rattle.term_values.proofs.SlotLaws.{uri-holds, string-holds, integer-holds, decimal-holds, date_time-holds}
-use borrow.Author.Rules.{rules}
 use Rattle.term_values.proofs.in_slot.Goals as goal
 
 pub returns-in-17 : goal.returns-in-17

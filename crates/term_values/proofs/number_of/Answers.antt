@@ -1,6 +1,5 @@
 -- `term_values::number_of` meets its contract, by the laws of SlotLaws.
 use Rattle.term_values.proofs.SlotLaws.{number-held}
-use borrow.Author.Rules.{rules}
 use Rattle.term_values.proofs.number_of.Goals as goal
 
 pub returns : goal.returns

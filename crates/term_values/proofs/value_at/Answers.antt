@@ -2,7 +2,6 @@
 use mathlib.Core.Path.{ap, ◌∙◌}
 use Rattle.definitions.specs.Saved.{slot_term}
 use Rattle.fields.proofs.PartLaws.{some-part, part-long}
-use borrow.Author.Rules.{rules}
 use Rattle.definitions.specs.Limits.{slot_width}
 use Rattle.term_values.proofs.value_at.Goals as goal
 

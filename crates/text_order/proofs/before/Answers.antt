@@ -4,9 +4,6 @@ use Rattle.definitions.specs.Terms.{text_byte}
 use Rattle.matching.proofs.FieldLaws.{byte-passes}
 use Rattle.text_order.proofs.OrderLaws.{order-start, order-end, order-first, order_other, order-more, order-out}
 use Prim.Native.Nat.{◌-◌}
-use lib.ListN.{length}
-use Rattle.definitions.specs.Values.{rank_in}
-use Rattle.text_order.proofs.OrderLaws.{Ordered}
 use Rattle.text_order.proofs.before.Goals as goal
 
 pub loop-i-init : goal.loop-i-init

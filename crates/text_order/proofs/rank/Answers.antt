@@ -3,7 +3,6 @@ use mathlib.Core.Path.{refl}
 use Rattle.definitions.specs.Values.{rank_in}
 use Rattle.text_order.proofs.OrderLaws.{place}
 use native.Mathlib.Omega.{arith}
-use borrow.Author.Rules.{rules}
 use Rattle.text_order.proofs.rank.Goals as goal
 
 pub overflow_sub-place : goal.overflow_sub-place

@@ -2,11 +2,7 @@
 use native.Mathlib.Omega.{arith}
 use mathlib.Core.Path.{refl}
 use Rattle.text_order.proofs.OrderLaws.{same_out, same_end, same_more, same-other}
-use Prim.Native.Nat.{◌-◌, ◌≤◌}
-use mathlib.Core.Path.{◌≡◌}
-use lib.ListN.{length}
-use Rattle.definitions.specs.Bytes.{same_bytes, unfilled}
-use Rattle.matching.proofs.FieldLaws.{rest}
+use Prim.Native.Nat.{◌-◌}
 use Rattle.text_order.proofs.same.Goals as goal
 
 pub loop-i-init : goal.loop-i-init

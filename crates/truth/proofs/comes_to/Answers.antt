@@ -1,7 +1,6 @@
 -- `truth::comes_to` meets its contract.
 use mathlib.Core.Path.{ap, ◌∙◌}
 use Rattle.definitions.specs.Truth.{is_true}
-use borrow.Author.Rules.{rules}
 use Rattle.truth.proofs.comes_to.Goals as goal
 
 pub returns-then-want : goal.returns-then-want

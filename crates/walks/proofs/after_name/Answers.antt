@@ -1,5 +1,4 @@
 -- `walks::after_name` meets its contract.
-use borrow.Author.Rules.{rules}
 use Rattle.laws.proofs.ReadAnswers.{never-fails, ends_next}
 use Rattle.walks.proofs.after_name.Goals as goal
 

@@ -1,5 +1,4 @@
 -- `walks::after_query` meets its contract.
-use borrow.Author.Rules.{rules}
 use Rattle.laws.proofs.ReadAnswers.{never-fails, ends_next}
 use Rattle.walks.proofs.after_query.Goals as goal
 

@@ -1,7 +1,6 @@
 -- `whole_script::script_ok` meets its contract.
 use mathlib.Core.Path.{sym, ◌∙◌}
 use Rattle.whole_script.proofs.WholeLaws.{whole-fails, whole-ends}
-use borrow.Author.Rules.{rules}
 use Rattle.whole_script.proofs.script_ok.Goals as goal
 
 pub returns-in_default : goal.returns-in_default

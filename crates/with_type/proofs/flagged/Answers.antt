@@ -1,11 +1,10 @@
 -- `with_type::flagged` meets its contract. Invariant: the flags below `other` are there. The measure is what is left of the variables.
 -- Assumes nothing.
-use Prim.Native.Nat.{ℕ, ◌≤◌, ◌<◌, ◌-◌}
+use Prim.Native.Nat.{ℕ, ◌-◌}
 use native.Mathlib.Omega.{arith}
-use mathlib.Core.Path.{◌≡◌, refl, ap, sym}
-use mathlib.Core.Bool.{Bool, false, ◌||◌}
-use lib.ListN.{length, get_or, length-set}
-use Rattle.definitions.specs.Limits.{variable_limit}
+use mathlib.Core.Path.{refl, ap, sym}
+use mathlib.Core.Bool.{false, ◌||◌}
+use lib.ListN.{length-set}
 use Rattle.laws.specs.Lists.{flag}
 use Rattle.laws.proofs.Fill.{filled_more}
 use Rattle.laws.proofs.Variables.{made-is}

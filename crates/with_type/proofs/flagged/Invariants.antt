@@ -1,13 +1,10 @@
 use Prim.Native.Nat.{ℕ, ◌≤◌, ◌<◌, ◌-◌}
-use native.Mathlib.Omega.{arith}
-use mathlib.Core.Path.{◌≡◌, refl, ap, sym}
-use mathlib.Core.Bool.{Bool, false, ◌||◌}
-use lib.ListN.{length, get_or, length-set}
+use mathlib.Core.Path.{◌≡◌}
+use mathlib.Core.Bool.{false, ◌||◌}
+use lib.ListN.{length, get_or}
 use Rattle.definitions.specs.Limits.{variable_limit}
 use Rattle.laws.specs.Lists.{flag}
-use Rattle.laws.proofs.Fill.{filled_more}
-use Rattle.laws.proofs.Variables.{made-is}
-use Rattle.with_type.specs.WithType.{pair_at, flagged}
+use Rattle.with_type.specs.WithType.{pair_at}
 use Rattle.with_type.proofs.flagged.Given as goal
 
 abbrev pub invariant-loop-other : goal.invariant-loop-other

@@ -1,6 +1,5 @@
 -- `with_type::leaves` meets its contract. Assumes nothing.
 use Rattle.with_type.proofs.WithTypeLaws.{leaves-plain, leaves-range}
-use borrow.Author.Rules.{rules}
 use Rattle.with_type.proofs.leaves.Goals as goal
 
 pub returns-then-code-lt8 : goal.returns-then-code-lt8

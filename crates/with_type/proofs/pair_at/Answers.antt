@@ -1,7 +1,6 @@
 -- `with_type::pair_at` meets its contract. Assumes nothing.
 use native.Mathlib.Omega.{arith}
 use mathlib.Core.Path.{refl}
-use borrow.Author.Rules.{rules}
 use Rattle.with_type.proofs.pair_at.Goals as goal
 
 pub returns-then-objects : goal.returns-then-objects

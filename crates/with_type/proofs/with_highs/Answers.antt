@@ -1,6 +1,5 @@
 -- `with_type::with_highs` meets its contract. Assumes nothing.
 use Rattle.with_type.proofs.WithTypeLaws.{highs-are}
-use borrow.Author.Rules.{rules}
 use Rattle.with_type.proofs.with_highs.Goals as goal
 
 pub returns : goal.returns

@@ -1,6 +1,5 @@
 -- `with_type::with_lows` meets its contract. Assumes nothing.
 use Rattle.with_type.proofs.WithTypeLaws.{lows-are}
-use borrow.Author.Rules.{rules}
 use Rattle.with_type.proofs.with_lows.Goals as goal
 
 pub returns : goal.returns

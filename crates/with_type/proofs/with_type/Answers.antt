@@ -1,7 +1,5 @@
 -- `with_type::with_type` meets its contract. Assumes nothing.
-use borrow.Author.Tests.{not-true, not-false}
 use Rattle.with_type.proofs.WithTypeLaws.{not_left, noted-decimal, noted-plain, noted-integer, noted-range}
-use borrow.Author.Rules.{rules}
 use Rattle.with_type.proofs.with_type.Goals as goal
 
 pub returns-then-not-leaves : goal.returns-then-not-leaves

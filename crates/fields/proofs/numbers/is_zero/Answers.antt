@@ -1,10 +1,5 @@
 -- `fields::numbers::is_zero` meets its contract. What was looked at is zero, and so is the rest, where all is.
 use Prim.Native.Nat.{◌-◌}
-use borrow.Author.Rules.{rules}
-use mathlib.Core.Bool.{◌&&◌}
-use mathlib.Core.Path.{◌≡◌, refl}
-use lib.ListN.{length, drop}
-use Rattle.definitions.specs.Bytes.{all_zero}
 use Rattle.fields.proofs.NumberLaws.{zero-next, zero-end}
 use Rattle.fields.proofs.numbers.is_zero.Goals as goal
 

@@ -1,10 +1,8 @@
 use Prim.Native.Nat.{◌-◌}
-use borrow.Author.Rules.{rules}
 use mathlib.Core.Bool.{◌&&◌}
-use mathlib.Core.Path.{◌≡◌, refl}
+use mathlib.Core.Path.{◌≡◌}
 use lib.ListN.{length, drop}
 use Rattle.definitions.specs.Bytes.{all_zero}
-use Rattle.fields.proofs.NumberLaws.{zero-next, zero-end}
 use Rattle.fields.proofs.numbers.is_zero.Given as goal
 
 abbrev pub invariant-loop-i : goal.invariant-loop-i

@@ -1,6 +1,5 @@
 -- `fields::numbers::long_at` meets its contract.
 use native.Mathlib.Omega.{arith}
-use borrow.Author.Rules.{rules}
 use Rattle.fields.proofs.NumberLaws.{eight}
 use Rattle.fields.proofs.numbers.long_at.Goals as goal
 

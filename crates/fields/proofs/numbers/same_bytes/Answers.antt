@@ -1,11 +1,6 @@
 -- `fields::numbers::same_bytes` meets its contract. What was looked at is the same, and so is the rest, where all is.
 use Prim.Native.Nat.{◌-◌}
 use native.Mathlib.Omega.{arith}
-use borrow.Author.Rules.{rules}
-use mathlib.Core.Path.{◌≡◌, refl}
-use mathlib.Core.Bool.{◌&&◌}
-use lib.ListN.{length, drop}
-use Rattle.definitions.specs.Bytes.{same_bytes}
 use Rattle.fields.proofs.SameLaws.{same_next, same_end, same-lengths}
 use Rattle.fields.proofs.numbers.same_bytes.Goals as goal
 

@@ -1,11 +1,8 @@
 use Prim.Native.Nat.{◌-◌}
-use native.Mathlib.Omega.{arith}
-use borrow.Author.Rules.{rules}
-use mathlib.Core.Path.{◌≡◌, refl}
+use mathlib.Core.Path.{◌≡◌}
 use mathlib.Core.Bool.{◌&&◌}
 use lib.ListN.{length, drop}
 use Rattle.definitions.specs.Bytes.{same_bytes}
-use Rattle.fields.proofs.SameLaws.{same_next, same_end, same-lengths}
 use Rattle.fields.proofs.numbers.same_bytes.Given as goal
 
 abbrev pub invariant-loop-i : goal.invariant-loop-i

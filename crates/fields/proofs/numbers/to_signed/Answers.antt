@@ -1,6 +1,5 @@
 -- `fields::numbers::to_signed` meets its contract.
 use native.Mathlib.Omega.{arith}
-use borrow.Author.Rules.{rules}
 use Rattle.fields.proofs.NumberLaws.{low_value, high_fits, high_value}
 use Rattle.fields.proofs.numbers.to_signed.Goals as goal
 

@@ -1,7 +1,6 @@
 -- `fields::numbers::wide` meets its contract.
 use native.Mathlib.Omega.{arith}
 use mathlib.Core.Path.{refl}
-use borrow.Author.Rules.{rules}
 use Rattle.fields.proofs.numbers.wide.Goals as goal
 
 pub overflow_cast-result : goal.overflow_cast-result

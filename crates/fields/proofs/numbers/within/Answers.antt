@@ -1,6 +1,5 @@
 -- `fields::numbers::within` meets its contract.
 use native.Mathlib.Omega.{arith}
-use borrow.Author.Rules.{rules}
 use Rattle.fields.proofs.NumberLaws.{low-within, high-within}
 use Rattle.fields.proofs.numbers.within.Goals as goal
 

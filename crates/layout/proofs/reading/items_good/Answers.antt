@@ -1,9 +1,8 @@
 -- The loop: the items before `i` have passed the test, so the rest decides.
-use Prim.Native.Nat.{◌≤◌, ◌-◌, ◌+◌, ◌*◌}
+use Prim.Native.Nat.{◌-◌}
 use native.Mathlib.Omega.{arith}
 use mathlib.Core.Path.{◌≡◌, ap}
-use borrow.Author.Rules.{rules}
-use Rattle.definitions.specs.Limits.{items_offset, item_width}
+use Rattle.definitions.specs.Limits.{items_offset}
 use Rattle.definitions.specs.Exports.{items_good}
 use Rattle.layout.proofs.Items.{good-next, good-mark, good-zero, good_none}
 use Rattle.layout.proofs.reading.items_good.Goals as goal

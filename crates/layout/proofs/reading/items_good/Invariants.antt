@@ -1,10 +1,7 @@
 use Prim.Native.Nat.{◌≤◌, ◌-◌, ◌+◌, ◌*◌}
-use native.Mathlib.Omega.{arith}
-use mathlib.Core.Path.{◌≡◌, ap}
-use borrow.Author.Rules.{rules}
+use mathlib.Core.Path.{◌≡◌}
 use Rattle.definitions.specs.Limits.{items_offset, item_width}
 use Rattle.definitions.specs.Exports.{items_good}
-use Rattle.layout.proofs.Items.{good-next, good-mark, good-zero, good_none}
 use Rattle.layout.proofs.reading.items_good.Given as goal
 
 abbrev pub invariant-loop-i : goal.invariant-loop-i

@@ -1,12 +1,9 @@
 -- The loop: the marks before `i` have passed the test, so the rest decides.
-use Prim.Native.Nat.{◌≤◌, ◌-◌}
+use Prim.Native.Nat.{◌-◌}
 use native.Mathlib.Omega.{arith}
-use mathlib.Core.Path.{◌≡◌}
-use borrow.Author.Rules.{rules}
 use borrow.Author.Tests.{le-leb, lt-leb}
 use lib.Dec.{leb}
-use lib.ListN.{length, drop, get_or}
-use Rattle.definitions.specs.Lists.{every}
+use lib.ListN.{get_or}
 use Rattle.laws.proofs.EveryFrom.{every-next, every-stop, every-none}
 use Rattle.layout.proofs.reading.marks_good.Goals as goal
 

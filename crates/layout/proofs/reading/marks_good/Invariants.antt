@@ -1,12 +1,8 @@
 use Prim.Native.Nat.{◌≤◌, ◌-◌}
-use native.Mathlib.Omega.{arith}
 use mathlib.Core.Path.{◌≡◌}
-use borrow.Author.Rules.{rules}
-use borrow.Author.Tests.{le-leb, lt-leb}
 use lib.Dec.{leb}
-use lib.ListN.{length, drop, get_or}
+use lib.ListN.{length, drop}
 use Rattle.definitions.specs.Lists.{every}
-use Rattle.laws.proofs.EveryFrom.{every-next, every-stop, every-none}
 use Rattle.layout.proofs.reading.marks_good.Given as goal
 
 abbrev pub invariant-loop-i : goal.invariant-loop-i

@@ -1,6 +1,5 @@
 -- Field by field, from what the calls give.
 use mathlib.Core.Path.{ap, ◌∙◌}
-use borrow.Author.Rules.{rules}
 use Rattle.definitions.specs.Limits.{items_offset}
 use Rattle.definitions.specs.Exports.{items_from}
 use Rattle.layout.proofs.reading.read_control.Goals as goal

@@ -1,6 +1,5 @@
 -- Field by field, from what the calls give.
 use Prim.Native.Nat.{◌+◌}
-use borrow.Author.Rules.{rules}
 use lib.Dec.{eqb}
 use lib.ListN.{get_or}
 use Rattle.layout.proofs.reading.read_item.Goals as goal

@@ -1,8 +1,7 @@
 -- The loop: the items before `i` are read, and zeros stand in the places after them.
-use Prim.Native.Nat.{◌≤◌, ◌-◌}
+use Prim.Native.Nat.{◌-◌}
 use native.Mathlib.Omega.{arith}
 use mathlib.Core.Path.{◌≡◌, ap, sym, ◌∙◌}
-use borrow.Author.Rules.{rules}
 use lib.ListN.{replicate}
 use Rattle.definitions.specs.Limits.{items_offset}
 use Rattle.definitions.specs.Exports.{items_from}

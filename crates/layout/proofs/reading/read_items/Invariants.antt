@@ -1,12 +1,7 @@
 use Prim.Native.Nat.{◌≤◌, ◌-◌}
-use native.Mathlib.Omega.{arith}
-use mathlib.Core.Path.{◌≡◌, ap, sym, ◌∙◌}
-use borrow.Author.Rules.{rules}
-use lib.ListN.{replicate}
+use mathlib.Core.Path.{◌≡◌}
 use Rattle.definitions.specs.Limits.{items_offset}
 use Rattle.definitions.specs.Exports.{items_from}
-use Rattle.laws.proofs.Saved.{items-none}
-use Rattle.layout.proofs.Items.{items-next}
 use Rattle.layout.proofs.reading.read_items.Given as goal
 
 abbrev pub invariant-loop-i : goal.invariant-loop-i

@@ -1,11 +1,9 @@
 -- The loop: the marks before `i` are read.
-use Prim.Native.Nat.{◌≤◌, ◌-◌}
+use Prim.Native.Nat.{◌-◌}
 use native.Mathlib.Omega.{arith}
-use mathlib.Core.Path.{◌≡◌}
 use borrow.Author.Rules.{rules}
 use lib.Dec.{eqb}
-use lib.ListN.{length}
-use Rattle.laws.proofs.Writing.{mapped, map_next, map-all}
+use Rattle.laws.proofs.Writing.{map_next, map-all}
 use Rattle.layout.proofs.reading.read_marks.Goals as goal
 
 pub loop-i-preserved : goal.loop-i-preserved

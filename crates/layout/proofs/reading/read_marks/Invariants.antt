@@ -1,10 +1,8 @@
 use Prim.Native.Nat.{◌≤◌, ◌-◌}
-use native.Mathlib.Omega.{arith}
 use mathlib.Core.Path.{◌≡◌}
-use borrow.Author.Rules.{rules}
 use lib.Dec.{eqb}
 use lib.ListN.{length}
-use Rattle.laws.proofs.Writing.{mapped, map_next, map-all}
+use Rattle.laws.proofs.Writing.{mapped}
 use Rattle.layout.proofs.reading.read_marks.Given as goal
 
 abbrev pub invariant-loop-i : goal.invariant-loop-i

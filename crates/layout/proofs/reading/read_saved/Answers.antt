@@ -1,8 +1,6 @@
 -- A law for each test that fails, and one where all pass.
 use mathlib.Core.Path.{ap, sym, ◌∙◌}
 use mathlib.Core.Bool.{true}
-use borrow.Author.Tests.{not-true, not-false}
-use borrow.Author.Rules.{rules}
 use Rattle.layout.specs.ReadSaved.{read_of}
 use Rattle.layout.proofs.SavedTests.{too-high, bad-marks, bad-items, all-good}
 use Rattle.layout.proofs.reading.read_saved.Goals as goal

@@ -1,5 +1,4 @@
 -- Field by field, from what the calls give.
-use borrow.Author.Rules.{rules}
 use Rattle.layout.proofs.reading.read_store.Goals as goal
 
 pub returns : goal.returns

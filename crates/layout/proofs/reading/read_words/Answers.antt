@@ -1,10 +1,7 @@
 -- The loop: the numbers before `i` are read.
-use Prim.Native.Nat.{◌≤◌, ◌-◌}
+use Prim.Native.Nat.{◌-◌}
 use native.Mathlib.Omega.{arith}
-use mathlib.Core.Path.{◌≡◌}
-use mathlib.Core.List.{◌++◌}
 use borrow.Author.Rules.{rules}
-use lib.ListN.{length, drop}
 use Rattle.definitions.specs.Exports.{words_from}
 use Rattle.layout.proofs.Words.{words-next, words-all}
 use Rattle.layout.proofs.reading.read_words.Goals as goal

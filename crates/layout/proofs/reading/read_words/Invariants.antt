@@ -1,11 +1,8 @@
 use Prim.Native.Nat.{◌≤◌, ◌-◌}
-use native.Mathlib.Omega.{arith}
 use mathlib.Core.Path.{◌≡◌}
 use mathlib.Core.List.{◌++◌}
-use borrow.Author.Rules.{rules}
 use lib.ListN.{length, drop}
 use Rattle.definitions.specs.Exports.{words_from}
-use Rattle.layout.proofs.Words.{words-next, words-all}
 use Rattle.layout.proofs.reading.read_words.Given as goal
 
 abbrev pub invariant-loop-i : goal.invariant-loop-i

@@ -1,7 +1,6 @@
 -- `layout::reading::unsound` meets its contract.
 use mathlib.Core.Bool.{false}
 use mathlib.Core.Path.{ap}
-use borrow.Author.Rules.{rules}
 use Rattle.definitions.specs.declared.SavedRun.{SavedRun}
 use Rattle.layout.specs.declared.SavedRead.{SavedRead}
 use Rattle.layout.proofs.reading.unsound.Goals as goal

@@ -1,13 +1,13 @@
 -- The loop: the items before `i` are written, in the bytes before `at`.
-use Prim.Native.Nat.{◌≤◌, ◌-◌, ◌*◌, ◌+◌}
+use Prim.Native.Nat.{◌-◌, ◌+◌}
 use native.Mathlib.Omega.{arith}
 use mathlib.Core.Path.{◌≡◌, ◌∙◌}
 use borrow.Author.Rules.{rules}
-use lib.ListN.{length, take}
+use lib.ListN.{length}
 use Rattle.definitions.specs.Saved.{no_item}
 use Rattle.definitions.specs.Limits.{item_width}
 use Rattle.definitions.specs.Exports.{item_bytes}
-use Rattle.laws.proofs.Writing.{Put, put-none, joined, put-joined, put-joined-all}
+use Rattle.laws.proofs.Writing.{put-none, put-joined, put-joined-all}
 use Rattle.layout.proofs.JoinedBytes.{items-joined}
 use Rattle.layout.proofs.writing.write_items.Goals as goal
 

@@ -1,13 +1,9 @@
-use Prim.Native.Nat.{◌≤◌, ◌-◌, ◌*◌, ◌+◌}
-use native.Mathlib.Omega.{arith}
-use mathlib.Core.Path.{◌≡◌, ◌∙◌}
-use borrow.Author.Rules.{rules}
+use Prim.Native.Nat.{◌≤◌, ◌-◌, ◌*◌}
+use mathlib.Core.Path.{◌≡◌}
 use lib.ListN.{length, take}
-use Rattle.definitions.specs.Saved.{no_item}
 use Rattle.definitions.specs.Limits.{item_width}
 use Rattle.definitions.specs.Exports.{item_bytes}
-use Rattle.laws.proofs.Writing.{Put, put-none, joined, put-joined, put-joined-all}
-use Rattle.layout.proofs.JoinedBytes.{items-joined}
+use Rattle.laws.proofs.Writing.{Put, joined}
 use Rattle.layout.proofs.writing.write_items.Given as goal
 
 abbrev pub invariant-loop-i : goal.invariant-loop-i

@@ -1,12 +1,12 @@
 -- The loop: the marks before `i` are written.
-use Prim.Native.Nat.{◌≤◌, ◌-◌}
+use Prim.Native.Nat.{◌-◌}
 use native.Mathlib.Omega.{arith}
-use mathlib.Core.Path.{◌≡◌, ap, ◌∙◌}
+use mathlib.Core.Path.{ap, ◌∙◌}
 use mathlib.Core.Bool.{false}
 use borrow.Author.Rules.{rules}
-use lib.ListN.{length, set}
+use lib.ListN.{set}
 use Rattle.definitions.specs.Exports.{mark_of}
-use Rattle.laws.proofs.Writing.{mapped, map_next, map-all}
+use Rattle.laws.proofs.Writing.{map_next, map-all}
 use Rattle.layout.proofs.writing.write_marks.Goals as goal
 
 pub loop-i-preserved : goal.loop-i-preserved

@@ -1,11 +1,8 @@
 use Prim.Native.Nat.{◌≤◌, ◌-◌}
-use native.Mathlib.Omega.{arith}
-use mathlib.Core.Path.{◌≡◌, ap, ◌∙◌}
-use mathlib.Core.Bool.{false}
-use borrow.Author.Rules.{rules}
-use lib.ListN.{length, set}
+use mathlib.Core.Path.{◌≡◌}
+use lib.ListN.{length}
 use Rattle.definitions.specs.Exports.{mark_of}
-use Rattle.laws.proofs.Writing.{mapped, map_next, map-all}
+use Rattle.laws.proofs.Writing.{mapped}
 use Rattle.layout.proofs.writing.write_marks.Given as goal
 
 abbrev pub invariant-loop-i : goal.invariant-loop-i

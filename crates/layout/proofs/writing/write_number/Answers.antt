@@ -1,12 +1,12 @@
 -- The loop: the bytes before `i` are written, and `rest` is what is left of the number.
-use Prim.Native.Nat.{◌≤◌, ◌-◌, ◌/◌}
+use Prim.Native.Nat.{◌-◌, ◌/◌}
 use native.Mathlib.Omega.{arith}
 use mathlib.Core.Path.{◌≡◌, ap, ◌∙◌}
 use borrow.Author.Rules.{rules}
 use lib.ListN.{length}
 use Rattle.definitions.specs.Bytes.{little_bytes}
-use Rattle.laws.proofs.Writing.{Put, put-none, put_all}
-use Rattle.layout.proofs.NumberBytes.{after, after_next, little-next}
+use Rattle.laws.proofs.Writing.{put-none, put_all}
+use Rattle.layout.proofs.NumberBytes.{after_next, little-next}
 use Rattle.layout.proofs.writing.write_number.Goals as goal
 
 pub loop-i-init : goal.loop-i-init

@@ -1,11 +1,9 @@
-use Prim.Native.Nat.{◌≤◌, ◌-◌, ◌/◌}
-use native.Mathlib.Omega.{arith}
-use mathlib.Core.Path.{◌≡◌, ap, ◌∙◌}
-use borrow.Author.Rules.{rules}
+use Prim.Native.Nat.{◌≤◌, ◌-◌}
+use mathlib.Core.Path.{◌≡◌}
 use lib.ListN.{length}
 use Rattle.definitions.specs.Bytes.{little_bytes}
-use Rattle.laws.proofs.Writing.{Put, put-none, put_all}
-use Rattle.layout.proofs.NumberBytes.{after, after_next, little-next}
+use Rattle.laws.proofs.Writing.{Put}
+use Rattle.layout.proofs.NumberBytes.{after}
 use Rattle.layout.proofs.writing.write_number.Given as goal
 
 abbrev pub invariant-loop-i : goal.invariant-loop-i

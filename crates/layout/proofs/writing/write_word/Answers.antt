@@ -1,6 +1,5 @@
 -- A number in two bytes.
 use mathlib.Core.Path.{ap, ◌∙◌}
-use borrow.Author.Rules.{rules}
 use Rattle.definitions.specs.Bytes.{little_bytes}
 use Rattle.layout.proofs.writing.write_word.Goals as goal
 

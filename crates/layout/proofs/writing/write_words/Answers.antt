@@ -1,11 +1,10 @@
 -- The loop: the numbers before `i` are written, in the bytes before `at`.
-use Prim.Native.Nat.{◌≤◌, ◌-◌, ◌*◌, ◌+◌}
+use Prim.Native.Nat.{◌-◌, ◌+◌}
 use native.Mathlib.Omega.{arith}
-use mathlib.Core.Path.{◌≡◌, ◌∙◌}
+use mathlib.Core.Path.{◌∙◌}
 use borrow.Author.Rules.{rules}
-use lib.ListN.{length, take}
 use Rattle.definitions.specs.Bytes.{little_bytes}
-use Rattle.laws.proofs.Writing.{Put, put-none, joined, put-joined, put-joined-all}
+use Rattle.laws.proofs.Writing.{put-none, put-joined, put-joined-all}
 use Rattle.layout.proofs.JoinedBytes.{words-joined}
 use Rattle.layout.proofs.writing.write_words.Goals as goal
 

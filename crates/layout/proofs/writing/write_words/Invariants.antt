@@ -1,11 +1,8 @@
-use Prim.Native.Nat.{◌≤◌, ◌-◌, ◌*◌, ◌+◌}
-use native.Mathlib.Omega.{arith}
-use mathlib.Core.Path.{◌≡◌, ◌∙◌}
-use borrow.Author.Rules.{rules}
+use Prim.Native.Nat.{◌≤◌, ◌-◌, ◌*◌}
+use mathlib.Core.Path.{◌≡◌}
 use lib.ListN.{length, take}
 use Rattle.definitions.specs.Bytes.{little_bytes}
-use Rattle.laws.proofs.Writing.{Put, put-none, joined, put-joined, put-joined-all}
-use Rattle.layout.proofs.JoinedBytes.{words-joined}
+use Rattle.laws.proofs.Writing.{Put, joined}
 use Rattle.layout.proofs.writing.write_words.Given as goal
 
 abbrev pub invariant-loop-i : goal.invariant-loop-i

@@ -1,6 +1,5 @@
 -- `matching::pattern::accepts` meets its contract, by the laws of PatternRows.
 use Rattle.matching.proofs.PatternRows.{with-caret, no-caret, caret-there}
-use borrow.Author.Rules.{rules}
 use Rattle.matching.proofs.pattern.accepts.Goals as goal
 
 pub search-found-requires : goal.search-found-requires

@@ -1,7 +1,6 @@
 -- `matching::pattern::cell` meets its contract, by the laws of PatternRows.
 use native.Mathlib.Omega.{arith}
 use Rattle.matching.proofs.PatternRows.{cell-dollar, cell-last, cell-many, cell-one}
-use borrow.Author.Rules.{rules}
 use Rattle.matching.proofs.pattern.cell.Goals as goal
 
 pub returns-then-a-eq-DOLLAR : goal.returns-then-a-eq-DOLLAR

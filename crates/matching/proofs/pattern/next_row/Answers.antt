@@ -1,11 +1,10 @@
 -- `matching::pattern::next_row` meets its contract, by the laws of PatternRows.
 use Rattle.definitions.specs.Limits.{pattern_width}
-use Prim.Native.Nat.{◌+◌, ◌-◌, ◌≤◌}
+use Prim.Native.Nat.{◌+◌, ◌-◌}
 use mathlib.Core.Bool.{true, false}
 use mathlib.Core.Path.{◌≡◌, ◌∙◌, subst}
 use native.Mathlib.Omega.{arith}
-use lib.ListN.{length, length-set, replicate}
-use Rattle.definitions.specs.Terms.{Text}
+use lib.ListN.{length-set, replicate}
 use Rattle.matching.specs.Matching.{ahead, RowFrom}
 use Rattle.matching.proofs.PatternRows.{row-start, row_more}
 use Rattle.matching.proofs.pattern.next_row.Goals as goal

@@ -1,12 +1,9 @@
 use Rattle.definitions.specs.Limits.{pattern_width}
 use Prim.Native.Nat.{◌+◌, ◌-◌, ◌≤◌}
-use mathlib.Core.Bool.{true, false}
-use mathlib.Core.Path.{◌≡◌, ◌∙◌, subst}
-use native.Mathlib.Omega.{arith}
-use lib.ListN.{length, length-set, replicate}
+use mathlib.Core.Path.{◌≡◌}
+use lib.ListN.{length}
 use Rattle.definitions.specs.Terms.{Text}
 use Rattle.matching.specs.Matching.{ahead, RowFrom}
-use Rattle.matching.proofs.PatternRows.{row-start, row_more}
 use Rattle.matching.proofs.pattern.next_row.Given as goal
 
 abbrev pub invariant-loop-k : goal.invariant-loop-k

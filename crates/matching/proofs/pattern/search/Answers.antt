@@ -3,7 +3,7 @@ use native.Mathlib.Omega.{arith}
 use mathlib.Core.List.{[]}
 use mathlib.Core.Path.{refl}
 use Rattle.matching.proofs.FieldLaws.{text-fits}
-use Rattle.matching.proofs.PatternRows.{Swept, sweep-start, sweep-more, sweep-end}
+use Rattle.matching.proofs.PatternRows.{sweep-start, sweep-more, sweep-end}
 use Rattle.matching.proofs.pattern.search.Goals as goal
 
 pub next_row-row-requires : goal.next_row-row-requires

@@ -1,8 +1,4 @@
-use native.Mathlib.Omega.{arith}
-use mathlib.Core.List.{[]}
-use mathlib.Core.Path.{refl}
-use Rattle.matching.proofs.FieldLaws.{text-fits}
-use Rattle.matching.proofs.PatternRows.{Swept, sweep-start, sweep-more, sweep-end}
+use Rattle.matching.proofs.PatternRows.{Swept}
 use Rattle.matching.proofs.pattern.search.Given as goal
 
 abbrev pub invariant-loop-i : goal.invariant-loop-i

@@ -1,10 +1,7 @@
 -- `matching::pattern::text_length` meets its contract, by the laws of FieldLaws.
-use Prim.Native.Nat.{◌+◌, ◌-◌, ◌≤◌}
-use mathlib.Core.Path.{◌≡◌}
+use Prim.Native.Nat.{◌-◌}
 use native.Mathlib.Omega.{arith}
-use lib.ListN.{length}
-use Rattle.definitions.specs.Bytes.{unfilled}
-use Rattle.matching.proofs.FieldLaws.{rest, rest_end, rest_out, counted-end, counted-more}
+use Rattle.matching.proofs.FieldLaws.{rest_end, rest_out, counted-end, counted-more}
 use Rattle.matching.proofs.pattern.text_length.Goals as goal
 
 pub returns-then-field-i-eq0 : goal.returns-then-field-i-eq0

@@ -1,9 +1,8 @@
 use Prim.Native.Nat.{◌+◌, ◌-◌, ◌≤◌}
 use mathlib.Core.Path.{◌≡◌}
-use native.Mathlib.Omega.{arith}
 use lib.ListN.{length}
 use Rattle.definitions.specs.Bytes.{unfilled}
-use Rattle.matching.proofs.FieldLaws.{rest, rest_end, rest_out, counted-end, counted-more}
+use Rattle.matching.proofs.FieldLaws.{rest}
 use Rattle.matching.proofs.pattern.text_length.Given as goal
 
 abbrev pub invariant-loop-i : goal.invariant-loop-i

@@ -1,6 +1,5 @@
 -- `matching::range::accepts` meets its contract, by the laws of RangeLaws.
 use Rattle.matching.proofs.RangeLaws.{accepts-tagged, accepts-beginning}
-use borrow.Author.Rules.{rules}
 use Rattle.matching.proofs.range.accepts.Goals as goal
 
 pub returns-then-range-eq-STAR : goal.returns-then-range-eq-STAR

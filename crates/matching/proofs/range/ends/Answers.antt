@@ -1,7 +1,6 @@
 -- `matching::range::ends` meets its contract, by the laws of RangeLaws.
 use Rattle.matching.proofs.RangeLaws.{ends-zero, ends-other, ends_last, ends-hyphen}
 use native.Mathlib.Omega.{arith}
-use borrow.Author.Rules.{rules}
 use Rattle.matching.proofs.range.ends.Goals as goal
 
 pub returns-then-a-eq0 : goal.returns-then-a-eq0

@@ -1,16 +1,10 @@
 -- `matching::range::goes_on` meets its contract, by the laws of RangeLaws.
-use Rattle.definitions.specs.Limits.{language_range_width}
-use Prim.Native.Nat.{◌-◌, ◌≤◌}
-use lib.Dec.{T}
-use Rattle.definitions.specs.Lists.{every}
-use Rattle.definitions.specs.Bytes.{unfilled}
-use Rattle.definitions.specs.Terms.{tag_byte}
-use Rattle.definitions.specs.Text.{without_star}
-use native.Mathlib.Omega.{arith}
-use Rattle.matching.proofs.RangeLaws.{Along, along-start, along-out, along-end, along-other, along-more}
 use Prim.Native.Nat.{◌-◌}
 use native.Mathlib.Omega.{arith}
-use Rattle.matching.proofs.RangeLaws.{Along, along-start, along-out, along-end, along-other, along-more}
+use Rattle.matching.proofs.RangeLaws.{along-start, along-out, along-end, along-other, along-more}
+use Prim.Native.Nat.{◌-◌}
+use native.Mathlib.Omega.{arith}
+use Rattle.matching.proofs.RangeLaws.{along-start, along-out, along-end, along-other, along-more}
 use Rattle.matching.proofs.range.goes_on.Goals as goal
 
 pub loop-i-init : goal.loop-i-init

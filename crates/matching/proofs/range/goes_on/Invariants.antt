@@ -5,11 +5,9 @@ use Rattle.definitions.specs.Lists.{every}
 use Rattle.definitions.specs.Bytes.{unfilled}
 use Rattle.definitions.specs.Terms.{tag_byte}
 use Rattle.definitions.specs.Text.{without_star}
-use native.Mathlib.Omega.{arith}
-use Rattle.matching.proofs.RangeLaws.{Along, along-start, along-out, along-end, along-other, along-more}
+use Rattle.matching.proofs.RangeLaws.{Along}
 use Prim.Native.Nat.{◌-◌}
-use native.Mathlib.Omega.{arith}
-use Rattle.matching.proofs.RangeLaws.{Along, along-start, along-out, along-end, along-other, along-more}
+use Rattle.matching.proofs.RangeLaws.{Along}
 use Rattle.matching.proofs.range.goes_on.Given as goal
 
 abbrev pub invariant-loop-i : goal.invariant-loop-i

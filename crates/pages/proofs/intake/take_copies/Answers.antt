@@ -1,8 +1,6 @@
 -- `pages::intake::take_copies` meets its contract.
-use native.Mathlib.Omega.{arith}
 use mathlib.Core.Path.{refl, sym, ◌∙◌}
 use mathlib.Core.List.{[]}
-use borrow.Author.Rules.{rules}
 use Rattle.records.proofs.NumberingLaws.{held-width}
 use Rattle.pages.specs.Taking.{start_of}
 use Rattle.pages.proofs.DoneLaws.{none-order, copies-held}

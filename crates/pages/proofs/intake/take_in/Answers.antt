@@ -2,9 +2,7 @@
 use Prim.Native.Nat.{ℕ}
 use native.Mathlib.Omega.{arith}
 use mathlib.Core.Path.{sym, ◌∙◌}
-use borrow.Author.Tests.{not-true, not-false}
 use lib.ListN.{length-replicate}
-use borrow.Author.Rules.{rules}
 use Rattle.definitions.specs.Limits.{term_table_width, quad_table_width}
 use Rattle.pages.specs.Room.{record_limit, gathered_limit}
 use Rattle.records.proofs.NumberingLaws.{held-width}

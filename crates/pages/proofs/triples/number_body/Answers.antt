@@ -3,7 +3,6 @@ use native.Mathlib.Omega.{arith}
 use mathlib.Core.Path.{◌∙◌}
 use Rattle.records.proofs.NumberingLaws.{held-holds}
 use Rattle.pages.proofs.TermLaws.{body-short, slot-is-good, joins}
-use borrow.Author.Rules.{rules}
 use Rattle.pages.proofs.triples.number_body.Goals as goal
 
 pub slot_of-slot-requires : goal.slot_of-slot-requires

@@ -4,7 +4,6 @@ use Rattle.definitions.specs.Terms.{Term}
 use Rattle.pages.specs.Page.{subject_in, property_in}
 use Rattle.page_reader.proofs.RecordLaws.{kind-high}
 use Rattle.pages.proofs.TakeLaws.{subject-body, property-body, object-body, first-over, second-over, all-numbered}
-use borrow.Author.Rules.{rules}
 use Rattle.pages.proofs.triples.number_triple.Goals as goal
 
 pub overflow_sub-kind : goal.overflow_sub-kind

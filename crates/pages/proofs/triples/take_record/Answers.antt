@@ -1,10 +1,8 @@
 -- `pages::triples::take_record` meets its contract.
 use native.Mathlib.Omega.{arith}
 use mathlib.Core.Path.{ap, sym, ◌∙◌}
-use borrow.Author.Tests.{not-true, not-false}
 use Rattle.laws.specs.ReadAnswers.{is_some}
 use Rattle.pages.proofs.TakeLaws.{take-skipped, take-over, take-stored}
-use borrow.Author.Rules.{rules}
 use Rattle.pages.proofs.triples.take_record.Goals as goal
 
 pub well_typed-requires : goal.well_typed-requires

@@ -1,13 +1,8 @@
 -- `pages::triples::take_records` meets its contract.
-use Prim.Native.Nat.{◌≤◌, ◌*◌, ◌-◌}
+use Prim.Native.Nat.{◌-◌}
 use native.Mathlib.Omega.{arith}
-use mathlib.Core.Path.{◌≡◌}
-use lib.ListN.{length}
-use Rattle.definitions.specs.Limits.{term_table_width}
-use Rattle.pages.specs.Room.{least_record_width, record_limit}
 use Rattle.records.proofs.NumberingLaws.{held-width}
-use Rattle.pages.specs.Page.{HeldHashes}
-use Rattle.pages.proofs.TakeLaws.{record-long, Going, going-first, left_one, left-reads, here-at, end-next, left-none, left-next, left-terms}
+use Rattle.pages.proofs.TakeLaws.{record-long, going-first, left_one, left-reads, here-at, end-next, left-none, left-next, left-terms}
 use Rattle.pages.proofs.triples.take_records.Goals as goal
 
 pub loop-at-init : goal.loop-at-init
@@ -39,9 +34,12 @@ shape_of-keys-then-counts-gt-TERM_LIMIT c =
 pub returns-then-counts-gt-TERM_LIMIT : goal.returns-then-counts-gt-TERM_LIMIT
 returns-then-counts-gt-TERM_LIMIT c =
     let l = c.loop-at.invariant.6 c.requires.reads.0 c.requires.page_reads.0 c.requires.held_both.0 c.requires.held_both.1 c.requires.reads.1 c.requires.page_reads.1 c.requires.held_both.2 in
-    let x = here-at _ _ _ _ _ _ _ _ _ l c.loop-at-test.true _ c.next_record-next.ensures in record { took = (λ S rs o k e r h. let l = c.loop-at.invariant.6 S rs o k e r h in
+    let x = here-at _ _ _ _ _ _ _ _ _ l c.loop-at-test.true _ c.next_record-next.ensures in record {
+      took = (λ S rs o k e r h. let l = c.loop-at.invariant.6 S rs o k e r h in
           left-terms _ _ _ _ _ _ _ _ _ l c.loop-at-test.true _ _ _ (c.take_record-counts.ensures.took S _ o _ e (here-at _ _ _ _ _ _ _ _ _ l c.loop-at-test.true _ c.next_record-next.ensures)
-          l.holds) c.if-counts-gt-TERM_LIMIT.true); keys_le_record_limit = omega (arith, c.take_record-counts.ensures.keys_bound, c.loop-at.invariant.2, record-long _ _ _ _ x, x.fits, c.requires.page_len_bound) }
+          l.holds) c.if-counts-gt-TERM_LIMIT.true);
+      keys_le_record_limit = omega (arith, c.take_record-counts.ensures.keys_bound, c.loop-at.invariant.2, record-long _ _ _ _ x, x.fits, c.requires.page_len_bound);
+    }
 
 pub loop-at-smaller : goal.loop-at-smaller
 loop-at-smaller c =

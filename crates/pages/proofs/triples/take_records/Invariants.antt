@@ -1,12 +1,10 @@
 use Prim.Native.Nat.{◌≤◌, ◌*◌, ◌-◌}
-use native.Mathlib.Omega.{arith}
 use mathlib.Core.Path.{◌≡◌}
 use lib.ListN.{length}
 use Rattle.definitions.specs.Limits.{term_table_width}
 use Rattle.pages.specs.Room.{least_record_width, record_limit}
-use Rattle.records.proofs.NumberingLaws.{held-width}
 use Rattle.pages.specs.Page.{HeldHashes}
-use Rattle.pages.proofs.TakeLaws.{record-long, Going, going-first, left_one, left-reads, here-at, end-next, left-none, left-next, left-terms}
+use Rattle.pages.proofs.TakeLaws.{Going}
 use Rattle.pages.proofs.triples.take_records.Given as goal
 
 abbrev pub invariant-loop-at : goal.invariant-loop-at

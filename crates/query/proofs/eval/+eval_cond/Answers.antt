@@ -13,7 +13,6 @@ use Rattle.laws.proofs.Productions.{CondAt, cond-at}
 use Rattle.query.proofs.EvalLaws.{good-value, no_truth, yes-truth, not-truth, or-first, or-truth, and_first, and-truth, regex-truth, language-truth, equal-truth, less-truth}
 use Rattle.definitions.specs.Truth.{is_true}
 use Prim.Native.Nat.{ℕ, ◌-◌, ◌<◌}
-use borrow.Author.Rules.{rules}
 use Rattle.query.proofs.eval.+eval_cond.Goals as goal
 
 pub eval_cond-a-requires : goal.eval_cond-a-requires

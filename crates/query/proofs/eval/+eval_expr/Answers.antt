@@ -10,7 +10,6 @@ use Rattle.query.proofs.CodeLaws.{code-bound}
 use Rattle.laws.proofs.Walked.{leaf_walked}
 use Rattle.laws.proofs.Productions.{ExprAt, expr-at}
 use Rattle.query.proofs.EvalLaws.{good-value, holds-gives, name-value, open-value, now-value, str-value, abs-value, plus-value, minus-value}
-use Prim.Native.Nat.{ℕ, ◌<◌}
 use Rattle.query.proofs.eval.+eval_expr.Goals as goal
 
 pub name_at-n-requires : goal.name_at-n-requires

@@ -12,9 +12,6 @@ use Rattle.laws.proofs.Walked.{leaf_walked, walked_as, walked_more}
 use Rattle.laws.proofs.Productions.{QueryAt, query-at}
 use Rattle.query.proofs.EvalLaws.{pattern-holds, both_first, both-holds, union-first, union-holds, filter-holds, empty_holds}
 use Prim.Native.Nat.{ℕ, ◌-◌, ◌<◌}
-use borrow.Author.Rules.{rules}
-use mathlib.Core.Path.{ap}
-use mathlib.Core.Bool.{not}
 use Rattle.query.proofs.eval.+eval_query.Goals as goal
 
 pub names_at-names-requires : goal.names_at-names-requires

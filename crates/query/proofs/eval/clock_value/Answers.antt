@@ -1,6 +1,5 @@
 -- `query::eval::clock_value` meets its contract. Assumes nothing.
 use Rattle.query.proofs.EvalLaws.{clock-within, clock-gives}
-use borrow.Author.Rules.{rules}
 use Rattle.query.proofs.eval.clock_value.Goals as goal
 
 pub now_value-requires : goal.now_value-requires

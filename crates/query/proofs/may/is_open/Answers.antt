@@ -1,5 +1,5 @@
 -- `query::may::is_open` meets its contract: a name is known where its code is a term's. Assumes nothing.
-use mathlib.Core.Path.{◌≡◌, refl, sym, ◌∙◌, ap}
+use mathlib.Core.Path.{refl, sym, ◌∙◌, ap}
 use mathlib.Core.Bool.{true≢false}
 use lib.Dec.{ltb}
 use Rattle.laws.proofs.Productions.{expr-at}

@@ -1,5 +1,5 @@
 -- `query::may::pair_open` meets its contract: the table says where the first expression ends. Assumes nothing.
-use mathlib.Core.Path.{◌≡◌, ◌∙◌, subst⁻¹}
+use mathlib.Core.Path.{◌∙◌, subst⁻¹}
 use Rattle.definitions.specs.Reading.{read_expr}
 use Rattle.laws.specs.Walks.{Loads}
 use Rattle.laws.proofs.Ends.{expr-ends}

@@ -1,5 +1,4 @@
 -- `query::names::name_at` meets its contract: what loads is a variable or a constant. Assumes nothing.
-use borrow.Author.Rules.{rules}
 use native.Mathlib.Omega.{arith}
 use mathlib.Core.Path.{ap, ◌∙◌}
 use Rattle.definitions.specs.Tree.{var}

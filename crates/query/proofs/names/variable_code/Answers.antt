@@ -1,6 +1,5 @@
 -- `query::names::variable_code` meets its contract: one law for each way through. Assumes nothing.
 use Rattle.query.proofs.CodeLaws.{code-sought, code-known, code_free}
-use borrow.Author.Rules.{rules}
 use Rattle.query.proofs.names.variable_code.Goals as goal
 
 pub returns-then-w-v : goal.returns-then-w-v

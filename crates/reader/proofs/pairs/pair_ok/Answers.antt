@@ -4,7 +4,6 @@ use mathlib.Core.Path.{ap}
 use lib.Dec.{ltb}
 use Rattle.definitions.specs.Limits.{variable_limit}
 use Rattle.reader.specs.Pairs.{pair_ok}
-use borrow.Author.Rules.{rules}
 use Rattle.reader.proofs.pairs.pair_ok.Goals as goal
 
 pub returns-then-used : goal.returns-then-used

@@ -1,13 +1,8 @@
 -- `reader::pairs::pairs_ok` meets its contract.
 use native.Mathlib.Omega.{arith}
-use Prim.Native.Nat.{◌-◌, ◌+◌, ◌*◌, ◌≤◌}
-use borrow.Author.Rules.{rules}
-use borrow.Author.Tests.{not-true, not-false}
+use Prim.Native.Nat.{◌-◌}
 use mathlib.Core.Path.{◌≡◌, sym, ◌∙◌}
-use Rattle.definitions.specs.Limits.{pair_limit}
-use Rattle.definitions.specs.Reading.{binders_at}
-use Rattle.laws.specs.ReadAnswers.{is_some}
-use Rattle.reader.proofs.PairLaws.{pairs_from, pair-bad, pair_turn, pairs-done, pairs-many}
+use Rattle.reader.proofs.PairLaws.{pair-bad, pair_turn, pairs-done, pairs-many}
 use Rattle.reader.proofs.pairs.pairs_ok.Goals as goal
 
 pub returns-then-used-gt-PAIR_LIMIT : goal.returns-then-used-gt-PAIR_LIMIT

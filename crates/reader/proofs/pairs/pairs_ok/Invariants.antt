@@ -1,12 +1,9 @@
-use native.Mathlib.Omega.{arith}
 use Prim.Native.Nat.{◌-◌, ◌+◌, ◌*◌, ◌≤◌}
-use borrow.Author.Rules.{rules}
-use borrow.Author.Tests.{not-true, not-false}
-use mathlib.Core.Path.{◌≡◌, sym, ◌∙◌}
+use mathlib.Core.Path.{◌≡◌}
 use Rattle.definitions.specs.Limits.{pair_limit}
 use Rattle.definitions.specs.Reading.{binders_at}
 use Rattle.laws.specs.ReadAnswers.{is_some}
-use Rattle.reader.proofs.PairLaws.{pairs_from, pair-bad, pair_turn, pairs-done, pairs-many}
+use Rattle.reader.proofs.PairLaws.{pairs_from}
 use Rattle.reader.proofs.pairs.pairs_ok.Given as goal
 
 abbrev pub invariant-loop-k : goal.invariant-loop-k

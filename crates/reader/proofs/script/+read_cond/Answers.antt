@@ -1,13 +1,10 @@
 -- `reader::script::read_cond` meets its contract.
-use borrow.Author.Rules.{rules}
-use borrow.Author.Tests.{not-true, not-false}
 use native.Mathlib.Omega.{arith}
 use Rattle.laws.proofs.Reading.{cond-none, cond-is, cond-out, cond-gap, cond_above, cond_either}
 use Rattle.laws.proofs.ReadAnswers.{none-ends, leaf-ends, one-ends, two_ends, two-fails}
 use Rattle.reader.proofs.ReadLaws.{body-short, body-fails, body-ends}
 use mathlib.Core.Path.{refl}
 use Rattle.definitions.specs.Reading.{CondShape}
-use Prim.Native.Nat.{ℕ, ◌<◌}
 use Rattle.reader.proofs.script.+read_cond.Goals as goal
 
 pub returns-then-left-eq0 : goal.returns-then-left-eq0

@@ -1,5 +1,4 @@
 -- `reader::script::read_expr` meets its contract.
-use borrow.Author.Rules.{rules}
 use native.Mathlib.Omega.{arith}
 use mathlib.Core.Path.{refl}
 use mathlib.Core.Logic.{⊎_elim}
@@ -7,7 +6,6 @@ use Rattle.laws.proofs.Ranges.{either}
 use Rattle.laws.proofs.Reading.{expr-none, expr-is, expr-out, expr-gap, expr-above, expr-either}
 use Rattle.laws.proofs.ReadAnswers.{none-ends, leaf-ends, one-ends, two_ends, two-fails}
 use Rattle.definitions.specs.Reading.{ExprShape}
-use Prim.Native.Nat.{ℕ, ◌<◌}
 use Rattle.reader.proofs.script.+read_expr.Goals as goal
 
 pub returns-then-left-eq0 : goal.returns-then-left-eq0

@@ -4,7 +4,6 @@ use native.Mathlib.Omega.{arith}
 use mathlib.Core.Path.{◌∙◌}
 use Rattle.laws.proofs.Reading.{name-none, name_out, name-is, name-others, variable-is, variable-bad, variable-cut, constant-is, constant-bad, constant-cut}
 use Rattle.laws.proofs.ReadAnswers.{none-ends, leaf-ends}
-use borrow.Author.Rules.{rules}
 use Rattle.reader.proofs.script.read_name.Goals as goal
 
 pub returns-then-left-eq0 : goal.returns-then-left-eq0

@@ -1,7 +1,4 @@
-use native.Mathlib.Omega.{arith}
-use mathlib.Core.Bool.{true≢false}
 use Prim.Native.Nat.{◌-◌}
-use Rattle.seeking.proofs.PartLaws.{part-loads, part-inside, part-denies, walked_at}
 use Rattle.seeking.proofs.by_parts.agree.Given as goal
 
 abbrev pub invariant-loop-i : goal.invariant-loop-i

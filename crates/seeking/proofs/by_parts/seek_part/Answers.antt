@@ -1,7 +1,6 @@
 -- `seeking::by_parts::seek_part` meets its contract: a pattern is looked up at once. Assumes nothing.
 use native.Mathlib.Omega.{arith}
 use mathlib.Core.Path.{refl}
-use borrow.Author.Rules.{rules}
 use Rattle.laws.proofs.Productions.{query-at}
 use Rattle.laws.proofs.Walked.{walked_as}
 use Rattle.query.proofs.TermLaws.{few}

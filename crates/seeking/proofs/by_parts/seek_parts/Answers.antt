@@ -2,10 +2,6 @@
 use native.Mathlib.Omega.{arith}
 use Prim.Native.Nat.{◌+◌, ◌*◌, ◌-◌, ◌/◌, ◌<◌}
 use lib.ListN.{length}
-use Rattle.definitions.specs.Tree.{Query}
-use Rattle.query.specs.StoreLent.{rows_of}
-use Rattle.seeking.specs.Seeking.{SeekOf}
-use Rattle.seeking.specs.Parts.{PartsOf}
 use Rattle.seeking.proofs.SeekLaws.{stays, ended}
 use Rattle.seeking.proofs.PartLaws.{part-loads, part-seeks, number_weight, turn-falls, turn-within}
 use Rattle.seeking.proofs.by_parts.seek_parts.Goals as goal

@@ -1,12 +1,9 @@
-use native.Mathlib.Omega.{arith}
-use Prim.Native.Nat.{◌+◌, ◌*◌, ◌-◌, ◌/◌, ◌<◌}
-use lib.ListN.{length}
+use Prim.Native.Nat.{◌+◌, ◌*◌, ◌-◌, ◌<◌}
 use Rattle.definitions.specs.Tree.{Query}
 use Rattle.query.specs.StoreLent.{rows_of}
 use Rattle.seeking.specs.Seeking.{SeekOf}
 use Rattle.seeking.specs.Parts.{PartsOf}
-use Rattle.seeking.proofs.SeekLaws.{stays, ended}
-use Rattle.seeking.proofs.PartLaws.{part-loads, part-seeks, number_weight, turn-falls, turn-within}
+use Rattle.seeking.proofs.PartLaws.{number_weight}
 use Rattle.seeking.proofs.by_parts.seek_parts.Given as goal
 
 abbrev pub invariant-loop-agreed : goal.invariant-loop-agreed

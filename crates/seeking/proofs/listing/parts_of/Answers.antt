@@ -1,15 +1,9 @@
 -- `seeking::listing::parts_of` meets its contract. The loop's invariant: what is listed and what is pending are parts of the query. Assumes nothing.
 use native.Mathlib.Omega.{arith}
-use mathlib.Core.Path.{◌≡◌, refl}
-use mathlib.Core.Option.{some}
-use Prim.Native.Nat.{ℕ, ◌+◌, ◌*◌, ◌-◌, ◌≤◌}
+use mathlib.Core.Path.{refl}
+use Prim.Native.Nat.{◌-◌}
 use borrow.Author.Rules.{rules}
-use lib.ListN.{length}
-use Rattle.definitions.specs.Limits.{depth_limit}
-use Rattle.definitions.specs.Tree.{Query}
-use Rattle.definitions.specs.Reading.{read_query}
-use Rattle.seeking.specs.Parts.{part_limit, parts_width, Pending}
-use Rattle.seeking.proofs.PartLaws.{part-inside, part-here, starts, taken-apart, goes_on, ends-within, Listed, listed-none, listed_more, listed-all}
+use Rattle.seeking.proofs.PartLaws.{part-inside, part-here, starts, taken-apart, goes_on, ends-within, listed-none, listed_more, listed-all}
 use Rattle.seeking.proofs.listing.parts_of.Goals as goal
 
 pub loop-pending-init : goal.loop-pending-init

@@ -1,14 +1,12 @@
-use native.Mathlib.Omega.{arith}
-use mathlib.Core.Path.{◌≡◌, refl}
+use mathlib.Core.Path.{◌≡◌}
 use mathlib.Core.Option.{some}
 use Prim.Native.Nat.{ℕ, ◌+◌, ◌*◌, ◌-◌, ◌≤◌}
-use borrow.Author.Rules.{rules}
 use lib.ListN.{length}
 use Rattle.definitions.specs.Limits.{depth_limit}
 use Rattle.definitions.specs.Tree.{Query}
 use Rattle.definitions.specs.Reading.{read_query}
 use Rattle.seeking.specs.Parts.{part_limit, parts_width, Pending}
-use Rattle.seeking.proofs.PartLaws.{part-inside, part-here, starts, taken-apart, goes_on, ends-within, Listed, listed-none, listed_more, listed-all}
+use Rattle.seeking.proofs.PartLaws.{Listed}
 use Rattle.seeking.proofs.listing.parts_of.Given as goal
 
 abbrev pub invariant-loop-pending : goal.invariant-loop-pending

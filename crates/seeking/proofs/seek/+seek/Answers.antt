@@ -9,7 +9,7 @@ use Rattle.laws.proofs.ReadBounds.{Reads}
 use Rattle.laws.proofs.Walked.{leaf_walked, walked_as, walked_more}
 use Rattle.laws.proofs.Productions.{QueryAt, query-at}
 use Rattle.seeking.proofs.SeekLaws.{stays, pattern-seeks, both-seeks, first-seeks, union-seeks}
-use Prim.Native.Nat.{ℕ, ◌<◌}
+use Prim.Native.Nat.{ℕ}
 use Rattle.query.proofs.TermLaws.{few}
 use Rattle.seeking.proofs.seek.+seek.Goals as goal
 

@@ -3,7 +3,6 @@ use mathlib.Core.Path.{◌∙◌}
 use Rattle.laws.proofs.Ends.{cond-ends, stepped-over}
 use Rattle.laws.proofs.Walked.{walked_more}
 use Rattle.seeking.proofs.SeekLaws.{stays, cannot-seeks}
-use borrow.Author.Rules.{rules}
 use Rattle.seeking.proofs.seek.seek_filter.Goals as goal
 
 pub after-next-requires : goal.after-next-requires

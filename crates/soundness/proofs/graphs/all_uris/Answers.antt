@@ -1,11 +1,7 @@
 -- `soundness::graphs::all_uris` meets its contract. The loop keeps what is asked of the rest equal to what is asked of the whole.
 use Prim.Native.Nat.{◌-◌}
 use native.Mathlib.Omega.{arith}
-use borrow.Author.Rules.{rules}
-use borrow.Author.Tests.{not-true, not-false}
-use mathlib.Core.Path.{◌≡◌, refl, sym, ◌∙◌}
-use lib.ListN.{length, drop}
-use Rattle.definitions.specs.Lists.{every}
+use mathlib.Core.Path.{sym, ◌∙◌}
 use Rattle.laws.proofs.EveryFrom.{every-next, every-stop, every-none}
 use Rattle.sound_quads.specs.TermNumbers.{uri_number}
 use Rattle.soundness.proofs.graphs.all_uris.Goals as goal

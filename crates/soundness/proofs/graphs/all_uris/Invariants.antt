@@ -1,11 +1,7 @@
 use Prim.Native.Nat.{◌-◌}
-use native.Mathlib.Omega.{arith}
-use borrow.Author.Rules.{rules}
-use borrow.Author.Tests.{not-true, not-false}
-use mathlib.Core.Path.{◌≡◌, refl, sym, ◌∙◌}
+use mathlib.Core.Path.{◌≡◌}
 use lib.ListN.{length, drop}
 use Rattle.definitions.specs.Lists.{every}
-use Rattle.laws.proofs.EveryFrom.{every-next, every-stop, every-none}
 use Rattle.sound_quads.specs.TermNumbers.{uri_number}
 use Rattle.soundness.proofs.graphs.all_uris.Given as goal
 

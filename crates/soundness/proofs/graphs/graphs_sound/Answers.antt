@@ -1,7 +1,5 @@
 -- `soundness::graphs::graphs_sound` meets its contract. Each return is one law.
-use borrow.Author.Tests.{not-true, not-false}
 use mathlib.Core.Path.{sym, ◌∙◌}
-use borrow.Author.Rules.{rules}
 use Rattle.soundness.proofs.graphs.graphs_sound.Goals as goal
 
 pub returns-then-not-numbers_distinct : goal.returns-then-not-numbers_distinct

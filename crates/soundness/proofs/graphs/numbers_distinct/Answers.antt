@@ -1,11 +1,7 @@
 -- `soundness::graphs::numbers_distinct` meets its contract. The loop keeps what is asked of the rest equal to what is asked of the whole.
 use Prim.Native.Nat.{◌-◌}
 use native.Mathlib.Omega.{arith}
-use borrow.Author.Rules.{rules}
-use mathlib.Core.Path.{◌≡◌, refl}
 use lib.Dec.{eqb}
-use lib.ListN.{length, drop}
-use Rattle.definitions.specs.Lists.{distinct}
 use Rattle.soundness.proofs.LookLaws.{distinct_none, distinct-next, distinct-stop}
 use Rattle.soundness.proofs.graphs.numbers_distinct.Goals as goal
 

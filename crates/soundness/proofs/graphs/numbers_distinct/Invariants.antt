@@ -1,11 +1,8 @@
 use Prim.Native.Nat.{◌-◌}
-use native.Mathlib.Omega.{arith}
-use borrow.Author.Rules.{rules}
-use mathlib.Core.Path.{◌≡◌, refl}
+use mathlib.Core.Path.{◌≡◌}
 use lib.Dec.{eqb}
 use lib.ListN.{length, drop}
 use Rattle.definitions.specs.Lists.{distinct}
-use Rattle.soundness.proofs.LookLaws.{distinct_none, distinct-next, distinct-stop}
 use Rattle.soundness.proofs.graphs.numbers_distinct.Given as goal
 
 abbrev pub invariant-loop-i : goal.invariant-loop-i

@@ -2,11 +2,9 @@
 use native.Mathlib.Omega.{arith}
 use mathlib.Core.Bool.{false≢true}
 use mathlib.Core.Path.{sym, ◌∙◌}
-use borrow.Author.Tests.{not-false}
 use Rattle.keys.proofs.Quads.{table-order}
 use Rattle.sound_quads.proofs.QuadLaws.{held-few, rows_of}
 use Rattle.soundness.proofs.Clauses.{not-held, bad-graphs, quads-out, quads-all}
-use borrow.Author.Rules.{rules}
 use mathlib.Core.Path.{ap}
 use mathlib.Core.Bool.{not}
 use Rattle.soundness.proofs.tables.quads_and_graphs.Goals as goal

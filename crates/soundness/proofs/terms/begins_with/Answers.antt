@@ -7,7 +7,6 @@ use native.Mathlib.Omega.{arith}
 use Rattle.table.proofs.TableLaws.{holds-few}
 use Rattle.soundness.proofs.BeginLaws.{fewer, begins}
 use Rattle.fields.proofs.SameLaws.{compared}
-use borrow.Author.Rules.{rules}
 use Rattle.soundness.proofs.terms.begins_with.Goals as goal
 
 pub returns-then-count-loaded : goal.returns-then-count-loaded

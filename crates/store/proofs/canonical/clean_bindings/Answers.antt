@@ -1,10 +1,8 @@
-use Prim.Native.Nat.{◌≤◌, ◌-◌}
+use Prim.Native.Nat.{◌-◌}
 use native.Mathlib.Omega.{arith}
-use borrow.Author.Rules.{rules}
-use mathlib.Core.Path.{◌≡◌, refl}
-use Rattle.definitions.specs.Scope.{variables}
+use mathlib.Core.Path.{refl}
 use Rattle.store.specs.Canonical.{clean_bindings, number_of}
-use Rattle.store.proofs.FillLaws.{made_to, made-variable, made-variables}
+use Rattle.store.proofs.FillLaws.{made-variable, made-variables}
 use Rattle.store.proofs.canonical.clean_bindings.Goals as goal
 
 pub loop-v-init : goal.loop-v-init

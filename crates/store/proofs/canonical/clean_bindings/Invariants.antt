@@ -1,10 +1,8 @@
 use Prim.Native.Nat.{◌≤◌, ◌-◌}
-use native.Mathlib.Omega.{arith}
-use borrow.Author.Rules.{rules}
-use mathlib.Core.Path.{◌≡◌, refl}
+use mathlib.Core.Path.{◌≡◌}
 use Rattle.definitions.specs.Scope.{variables}
-use Rattle.store.specs.Canonical.{clean_bindings, number_of}
-use Rattle.store.proofs.FillLaws.{made_to, made-variable, made-variables}
+use Rattle.store.specs.Canonical.{number_of}
+use Rattle.store.proofs.FillLaws.{made_to}
 use Rattle.store.proofs.canonical.clean_bindings.Given as goal
 
 abbrev pub invariant-loop-v : goal.invariant-loop-v

@@ -1,9 +1,9 @@
-use Prim.Native.Nat.{◌≤◌, ◌-◌}
+use Prim.Native.Nat.{◌-◌}
 use native.Mathlib.Omega.{arith}
 use borrow.Author.Rules.{rules}
 use mathlib.Core.Path.{◌≡◌, refl}
 use lib.ListN.{length}
-use Rattle.store.proofs.FillLaws.{copied_to, copied_next, copied_all}
+use Rattle.store.proofs.FillLaws.{copied_next, copied_all}
 use Rattle.store.proofs.canonical.clean_fetched.Goals as goal
 
 pub loop-i-init : goal.loop-i-init

@@ -1,9 +1,6 @@
 use Prim.Native.Nat.{◌≤◌, ◌-◌}
-use native.Mathlib.Omega.{arith}
-use borrow.Author.Rules.{rules}
-use mathlib.Core.Path.{◌≡◌, refl}
-use lib.ListN.{length}
-use Rattle.store.proofs.FillLaws.{copied_to, copied_next, copied_all}
+use mathlib.Core.Path.{◌≡◌}
+use Rattle.store.proofs.FillLaws.{copied_to}
 use Rattle.store.proofs.canonical.clean_fetched.Given as goal
 
 abbrev pub invariant-loop-i : goal.invariant-loop-i

@@ -1,6 +1,4 @@
-use borrow.Author.Tests.{not-true, not-false}
 use Rattle.store.proofs.CanonicalLaws.{not-started, no_block, no-each, each-made}
-use borrow.Author.Rules.{rules}
 use Rattle.store.proofs.canonical.clean_item.Goals as goal
 
 pub returns-then-not-started : goal.returns-then-not-started

@@ -1,4 +1,4 @@
-use Prim.Native.Nat.{◌≤◌, ◌-◌}
+use Prim.Native.Nat.{◌-◌}
 use native.Mathlib.Omega.{arith}
 use borrow.Author.Rules.{rules}
 use mathlib.Core.Path.{◌≡◌, ap}
@@ -7,7 +7,7 @@ use Rattle.definitions.specs.Bytes.{filled}
 use Rattle.definitions.specs.Saved.{zero_item, no_item}
 use Rattle.definitions.specs.declared.SavedItem.{SavedItem}
 use Rattle.store.specs.Canonical.{clean_item, clean_items}
-use Rattle.store.proofs.FillLaws.{made_to, made-next, made_all}
+use Rattle.store.proofs.FillLaws.{made-next, made_all}
 use Rattle.store.proofs.canonical.clean_items.Goals as goal
 
 pub loop-i-init : goal.loop-i-init

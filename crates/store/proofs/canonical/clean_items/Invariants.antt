@@ -1,13 +1,8 @@
 use Prim.Native.Nat.{◌≤◌, ◌-◌}
-use native.Mathlib.Omega.{arith}
-use borrow.Author.Rules.{rules}
-use mathlib.Core.Path.{◌≡◌, ap}
-use lib.ListN.{length, replicate}
-use Rattle.definitions.specs.Bytes.{filled}
-use Rattle.definitions.specs.Saved.{zero_item, no_item}
-use Rattle.definitions.specs.declared.SavedItem.{SavedItem}
-use Rattle.store.specs.Canonical.{clean_item, clean_items}
-use Rattle.store.proofs.FillLaws.{made_to, made-next, made_all}
+use mathlib.Core.Path.{◌≡◌}
+use Rattle.definitions.specs.Saved.{zero_item}
+use Rattle.store.specs.Canonical.{clean_item}
+use Rattle.store.proofs.FillLaws.{made_to}
 use Rattle.store.proofs.canonical.clean_items.Given as goal
 
 abbrev pub invariant-loop-i : goal.invariant-loop-i

@@ -1,9 +1,9 @@
-use Prim.Native.Nat.{◌≤◌, ◌-◌}
+use Prim.Native.Nat.{◌-◌}
 use native.Mathlib.Omega.{arith}
 use borrow.Author.Rules.{rules}
 use mathlib.Core.Path.{◌≡◌, refl}
 use lib.ListN.{length}
-use Rattle.store.proofs.FillLaws.{copied_to, copied_next, copied_all, copied-whole}
+use Rattle.store.proofs.FillLaws.{copied_next, copied_all, copied-whole}
 use Rattle.store.proofs.canonical.first_numbers.Goals as goal
 
 pub loop-k-init : goal.loop-k-init

@@ -1,9 +1,6 @@
 use Prim.Native.Nat.{◌≤◌, ◌-◌}
-use native.Mathlib.Omega.{arith}
-use borrow.Author.Rules.{rules}
-use mathlib.Core.Path.{◌≡◌, refl}
-use lib.ListN.{length}
-use Rattle.store.proofs.FillLaws.{copied_to, copied_next, copied_all, copied-whole}
+use mathlib.Core.Path.{◌≡◌}
+use Rattle.store.proofs.FillLaws.{copied_to}
 use Rattle.store.proofs.canonical.first_numbers.Given as goal
 
 abbrev pub invariant-loop-k : goal.invariant-loop-k

@@ -3,7 +3,6 @@ use mathlib.Core.Path.{ap}
 use lib.Dec.{ltb}
 use Rattle.definitions.specs.Limits.{graph_limit}
 use Rattle.store.specs.Graphs.{graph_fits}
-use borrow.Author.Rules.{rules}
 use Rattle.store.proofs.graphs.graph_fits.Goals as goal
 
 pub returns : goal.returns

@@ -1,11 +1,10 @@
-use Prim.Native.Nat.{◌≤◌, ◌-◌}
+use Prim.Native.Nat.{◌-◌}
 use native.Mathlib.Omega.{arith}
 use borrow.Author.Rules.{rules}
 use borrow.Author.Tests.{eq-eqb, ne_eqb}
 use mathlib.Core.Path.{◌≡◌, refl, sym}
 use lib.Dec.{eqb}
-use lib.ListN.{length, take, drop}
-use Rattle.definitions.specs.Lists.{is_in}
+use lib.ListN.{length}
 use Rattle.store.proofs.FillLaws.{some_next, some-stop, some-none}
 use Rattle.store.proofs.graphs.is_fetched.Goals as goal
 

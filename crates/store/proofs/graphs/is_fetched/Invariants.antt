@@ -1,12 +1,7 @@
 use Prim.Native.Nat.{◌≤◌, ◌-◌}
-use native.Mathlib.Omega.{arith}
-use borrow.Author.Rules.{rules}
-use borrow.Author.Tests.{eq-eqb, ne_eqb}
-use mathlib.Core.Path.{◌≡◌, refl, sym}
-use lib.Dec.{eqb}
-use lib.ListN.{length, take, drop}
+use mathlib.Core.Path.{◌≡◌}
+use lib.ListN.{take, drop}
 use Rattle.definitions.specs.Lists.{is_in}
-use Rattle.store.proofs.FillLaws.{some_next, some-stop, some-none}
 use Rattle.store.proofs.graphs.is_fetched.Given as goal
 
 abbrev pub invariant-loop-i : goal.invariant-loop-i

@@ -1,7 +1,6 @@
 use mathlib.Core.Path.{sym, ◌∙◌}
 use mathlib.Core.Bool.{true, false}
 use Rattle.store.proofs.GraphLaws.{paged-is, room-left}
-use borrow.Author.Rules.{rules}
 use Rattle.store.proofs.graphs.with_page.Goals as goal
 
 pub returns-then-is_fetched : goal.returns-then-is_fetched

@@ -1,11 +1,9 @@
-use Prim.Native.Nat.{◌≤◌, ◌<◌, ◌-◌, ◌+◌, ◌*◌}
+use Prim.Native.Nat.{◌<◌, ◌-◌}
 use native.Mathlib.Omega.{arith}
-use mathlib.Core.Path.{◌≡◌, refl, ◌∙◌}
+use mathlib.Core.Path.{◌≡◌, refl}
 use borrow.Author.Rules.{rules}
-use lib.ListN.{length, take, drop}
+use lib.ListN.{length}
 use Rattle.definitions.specs.Limits.{variable_limit}
-use Rattle.laws.specs.Pairs.{pair_variables}
-use Rattle.store.specs.Stack.{bound_all}
 use Rattle.store.proofs.BindLaws.{with_bound, bind-next, bind-none, bind_all}
 use Rattle.store.proofs.stack.bind_tuple.Goals as goal
 

@@ -1,12 +1,9 @@
-use Prim.Native.Nat.{◌≤◌, ◌<◌, ◌-◌, ◌+◌, ◌*◌}
-use native.Mathlib.Omega.{arith}
-use mathlib.Core.Path.{◌≡◌, refl, ◌∙◌}
-use borrow.Author.Rules.{rules}
-use lib.ListN.{length, take, drop}
-use Rattle.definitions.specs.Limits.{variable_limit}
+use Prim.Native.Nat.{◌≤◌, ◌-◌, ◌+◌, ◌*◌}
+use mathlib.Core.Path.{◌≡◌}
+use lib.ListN.{take, drop}
 use Rattle.laws.specs.Pairs.{pair_variables}
 use Rattle.store.specs.Stack.{bound_all}
-use Rattle.store.proofs.BindLaws.{with_bound, bind-next, bind-none, bind_all}
+use Rattle.store.proofs.BindLaws.{with_bound}
 use Rattle.store.proofs.stack.bind_tuple.Given as goal
 
 abbrev pub invariant-loop-k : goal.invariant-loop-k

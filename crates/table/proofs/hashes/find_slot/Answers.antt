@@ -1,10 +1,7 @@
 -- `table::hashes::find_slot` meets its contract. The loop keeps what is asked of the rest equal to what is asked of the whole.
-use Prim.Native.Nat.{◌+◌, ◌-◌, ◌≤◌}
+use Prim.Native.Nat.{◌+◌, ◌-◌}
 use native.Mathlib.Omega.{arith}
-use mathlib.Core.Path.{◌≡◌, refl, sym, ◌∙◌}
-use borrow.Author.Rules.{rules}
-use Rattle.definitions.specs.Saved.{slot_term, terms_in}
-use Rattle.table.specs.Table.{number_from}
+use mathlib.Core.Path.{refl, sym, ◌∙◌}
 use Rattle.fields.proofs.SameLaws.{compared}
 use Rattle.table.proofs.PlaceLaws.{place-within}
 use Rattle.table.proofs.TableLaws.{holds-few, number-end, number-here, number-next}

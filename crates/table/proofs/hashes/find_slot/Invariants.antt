@@ -1,13 +1,7 @@
-use Prim.Native.Nat.{◌+◌, ◌-◌, ◌≤◌}
-use native.Mathlib.Omega.{arith}
-use mathlib.Core.Path.{◌≡◌, refl, sym, ◌∙◌}
-use borrow.Author.Rules.{rules}
+use Prim.Native.Nat.{◌-◌, ◌≤◌}
+use mathlib.Core.Path.{◌≡◌}
 use Rattle.definitions.specs.Saved.{slot_term, terms_in}
 use Rattle.table.specs.Table.{number_from}
-use Rattle.fields.proofs.SameLaws.{compared}
-use Rattle.table.proofs.PlaceLaws.{place-within}
-use Rattle.table.proofs.TableLaws.{holds-few, number-end, number-here, number-next}
-use Rattle.table.proofs.FindLaws.{number-place}
 use Rattle.table.proofs.hashes.find_slot.Given as goal
 
 abbrev pub invariant-loop-i : goal.invariant-loop-i

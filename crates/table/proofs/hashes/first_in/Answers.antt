@@ -1,10 +1,5 @@
 -- `table::hashes::first_in` meets its contract. The loop keeps the place in the list equal to that in the rest, from there on.
-use Prim.Native.Nat.{◌+◌, ◌-◌}
-use native.Mathlib.Omega.{arith}
-use mathlib.Core.Path.{◌≡◌}
-use borrow.Author.Rules.{rules}
-use lib.ListN.{length, drop}
-use Rattle.table.specs.Hashes.{place_in}
+use Prim.Native.Nat.{◌-◌}
 use Rattle.table.proofs.PlaceLaws.{place_here, place-next, place_end}
 use Rattle.table.proofs.hashes.first_in.Goals as goal
 

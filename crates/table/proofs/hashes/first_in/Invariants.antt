@@ -1,10 +1,7 @@
 use Prim.Native.Nat.{◌+◌, ◌-◌}
-use native.Mathlib.Omega.{arith}
 use mathlib.Core.Path.{◌≡◌}
-use borrow.Author.Rules.{rules}
 use lib.ListN.{length, drop}
 use Rattle.table.specs.Hashes.{place_in}
-use Rattle.table.proofs.PlaceLaws.{place_here, place-next, place_end}
 use Rattle.table.proofs.hashes.first_in.Given as goal
 
 abbrev pub invariant-loop-i : goal.invariant-loop-i

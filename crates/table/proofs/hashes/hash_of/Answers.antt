@@ -1,9 +1,8 @@
 -- `table::hashes::hash_of` meets its contract. The loop keeps the sum so far and that of what is left equal to the whole.
 use Prim.Native.Nat.{◌*◌, ◌-◌}
 use native.Mathlib.Omega.{arith}
-use borrow.Author.Rules.{rules}
 use Rattle.table.specs.Hashes.{slot_words}
-use Rattle.table.proofs.HashLaws.{Hashing, hash-start, times-low, hash-next, hash-end}
+use Rattle.table.proofs.HashLaws.{hash-start, times-low, hash-next, hash-end}
 use Rattle.table.proofs.hashes.hash_of.Goals as goal
 
 pub loop-at-init : goal.loop-at-init

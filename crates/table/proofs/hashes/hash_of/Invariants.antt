@@ -1,8 +1,6 @@
 use Prim.Native.Nat.{◌*◌, ◌-◌}
-use native.Mathlib.Omega.{arith}
-use borrow.Author.Rules.{rules}
 use Rattle.table.specs.Hashes.{slot_words}
-use Rattle.table.proofs.HashLaws.{Hashing, hash-start, times-low, hash-next, hash-end}
+use Rattle.table.proofs.HashLaws.{Hashing}
 use Rattle.table.proofs.hashes.hash_of.Given as goal
 
 abbrev pub invariant-loop-at : goal.invariant-loop-at

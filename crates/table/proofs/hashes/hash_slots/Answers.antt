@@ -1,11 +1,8 @@
 -- `table::hashes::hash_slots` meets its contract. The loop keeps the hashes made so far.
-use Prim.Native.Nat.{ℕ, ◌-◌, ◌≤◌}
+use Prim.Native.Nat.{ℕ, ◌-◌}
 use native.Mathlib.Omega.{arith}
-use mathlib.Core.Path.{◌≡◌}
-use borrow.Author.Rules.{rules}
-use lib.ListN.{length, replicate, length-replicate, length-set}
+use lib.ListN.{replicate, length-replicate, length-set}
 use Rattle.definitions.specs.Limits.{term_limit}
-use Rattle.table.specs.Hashes.{Hashed}
 use Rattle.table.proofs.HashLaws.{none-hashed, one-slot, all-hashed}
 use Rattle.table.proofs.hashes.hash_slots.Goals as goal
 

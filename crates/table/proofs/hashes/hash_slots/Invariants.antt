@@ -1,11 +1,8 @@
-use Prim.Native.Nat.{ℕ, ◌-◌, ◌≤◌}
-use native.Mathlib.Omega.{arith}
+use Prim.Native.Nat.{◌-◌, ◌≤◌}
 use mathlib.Core.Path.{◌≡◌}
-use borrow.Author.Rules.{rules}
-use lib.ListN.{length, replicate, length-replicate, length-set}
+use lib.ListN.{length}
 use Rattle.definitions.specs.Limits.{term_limit}
 use Rattle.table.specs.Hashes.{Hashed}
-use Rattle.table.proofs.HashLaws.{none-hashed, one-slot, all-hashed}
 use Rattle.table.proofs.hashes.hash_slots.Given as goal
 
 abbrev pub invariant-loop-i : goal.invariant-loop-i

@@ -1,10 +1,5 @@
 -- `table::hashes::is_in` meets its contract. The loop keeps what is asked of the rest equal to what is asked of the whole.
 use Prim.Native.Nat.{◌-◌}
-use mathlib.Core.Bool.{◌||◌}
-use mathlib.Core.Path.{◌≡◌, refl}
-use borrow.Author.Rules.{rules}
-use lib.ListN.{length, drop}
-use Rattle.definitions.specs.Lists.{is_in}
 use Rattle.table.proofs.HashLaws.{seen_next, seen_end}
 use Rattle.table.proofs.hashes.is_in.Goals as goal
 

@@ -1,10 +1,8 @@
 use Prim.Native.Nat.{◌-◌}
 use mathlib.Core.Bool.{◌||◌}
-use mathlib.Core.Path.{◌≡◌, refl}
-use borrow.Author.Rules.{rules}
+use mathlib.Core.Path.{◌≡◌}
 use lib.ListN.{length, drop}
 use Rattle.definitions.specs.Lists.{is_in}
-use Rattle.table.proofs.HashLaws.{seen_next, seen_end}
 use Rattle.table.proofs.hashes.is_in.Given as goal
 
 abbrev pub invariant-loop-i : goal.invariant-loop-i

@@ -1,10 +1,6 @@
 -- `table::hashes::place_of` meets its contract. The loop keeps the place in the list equal to that in the rest, from there on.
-use Prim.Native.Nat.{◌+◌, ◌-◌, ◌≤◌}
+use Prim.Native.Nat.{◌-◌}
 use native.Mathlib.Omega.{arith}
-use mathlib.Core.Path.{◌≡◌}
-use borrow.Author.Rules.{rules}
-use lib.ListN.{length, drop}
-use Rattle.table.specs.Hashes.{place_in}
 use Rattle.table.proofs.PlaceLaws.{place-most, place_end, block_here, block-next}
 use Rattle.table.proofs.hashes.place_of.Goals as goal
 

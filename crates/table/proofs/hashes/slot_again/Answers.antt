@@ -1,6 +1,5 @@
 -- `table::hashes::slot_again` meets its contract.
 use native.Mathlib.Omega.{arith}
-use borrow.Author.Rules.{rules}
 use Rattle.table.proofs.TableLaws.{holds-few, slot-good}
 use Rattle.table.proofs.FindLaws.{slot-hash, slot-after}
 use Rattle.table.proofs.hashes.slot_again.Goals as goal

@@ -1,7 +1,6 @@
 -- `table::slots::find_term` meets its contract.
 use native.Mathlib.Omega.{arith}
 use mathlib.Core.Path.{◌∙◌}
-use borrow.Author.Rules.{rules}
 use Rattle.table.proofs.TableLaws.{number-start}
 use Rattle.table.proofs.slots.find_term.Goals as goal
 

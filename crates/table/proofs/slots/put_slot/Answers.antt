@@ -1,5 +1,4 @@
 -- `table::slots::put_slot` meets its contract.
-use borrow.Author.Rules.{rules}
 use Rattle.table.proofs.TableLaws.{slot-stored}
 use Rattle.table.proofs.slots.put_slot.Goals as goal
 

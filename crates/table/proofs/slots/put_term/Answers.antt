@@ -1,5 +1,4 @@
 -- `table::slots::put_term` meets its contract.
-use borrow.Author.Rules.{rules}
 use Rattle.table.proofs.HashLaws.{put-hashed}
 use Rattle.table.proofs.slots.put_term.Goals as goal
 

@@ -1,5 +1,4 @@
 -- `table::slots::slot_of` meets its contract.
-use borrow.Author.Rules.{rules}
 use Rattle.table.proofs.TableLaws.{slot-made}
 use Rattle.table.proofs.slots.slot_of.Goals as goal
 

@@ -1,5 +1,4 @@
 -- `table::slots::slot_ok` meets its contract.
-use borrow.Author.Rules.{rules}
 use Rattle.table.proofs.TableLaws.{slot-bad, slot-fits, slot_is}
 use Rattle.table.proofs.slots.slot_ok.Goals as goal
 

@@ -1,10 +1,9 @@
 -- `table::slots::slots_distinct` meets its contract. The loop keeps that the terms from the last on are different, and that the places of their hashes are flagged.
 use Prim.Native.Nat.{◌-◌, ◌<◌}
 use native.Mathlib.Omega.{arith}
-use mathlib.Core.Path.{refl, sym}
-use borrow.Author.Rules.{rules}
+use mathlib.Core.Path.{sym}
 use Rattle.table.proofs.TableLaws.{holds-few, slots-again, slots_twice}
-use Rattle.table.proofs.SeenLaws.{Apart, apart-start, apart-end, apart_next, not_seen}
+use Rattle.table.proofs.SeenLaws.{apart-start, apart-end, apart_next, not_seen}
 use Rattle.table.proofs.slots.slots_distinct.Goals as goal
 use Rattle.table.proofs.slots.slots_distinct.Goals.{then-seen-place+else-slot_again-n, else-seen-place}
 
@@ -30,7 +29,7 @@ pub loop-i-preserved : goal.loop-i-preserved
 loop-i-preserved c =
     apart_next _ _ c.requires.holds_terms c.args.hashes.now _ _ c.loop-i.invariant c.loop-i-test.true _ c.number_index-place.ensures
     (elim c.if-seen-place.branch [
-      then-seen-place+else-slot_again-n w ↦ omega (arith, w.slot_again.ensures, w.if-slot_again-n.false)
+      | then-seen-place+else-slot_again-n w ↦ omega (arith, w.slot_again.ensures, w.if-slot_again-n.false)
       | else-seen-place w ↦ omega (
         arith,
         not_seen _ _ c.requires.holds_terms c.args.hashes.now _ _ c.loop-i.invariant c.loop-i-test.true _ c.number_index-place.ensures (λ k. omega (arith, c.type_inv.table k))

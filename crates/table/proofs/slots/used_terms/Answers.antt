@@ -1,12 +1,7 @@
 -- `table::slots::used_terms` meets its contract. The loop keeps what is asked of the rest equal to what is asked of the whole.
-use Prim.Native.Nat.{◌≤◌, ◌-◌, ◌*◌}
+use Prim.Native.Nat.{◌-◌}
 use native.Mathlib.Omega.{arith}
-use mathlib.Core.Path.{◌≡◌, sym, ◌∙◌}
-use borrow.Author.Rules.{rules}
-use Rattle.definitions.specs.Limits.{slot_width, term_limit}
-use Rattle.definitions.specs.Saved.{terms_from, terms_in}
-use Rattle.fields.specs.Answers.{count_of}
-use Rattle.table.proofs.CountLaws.{count_from}
+use mathlib.Core.Path.{sym, ◌∙◌}
 use Rattle.table.proofs.TableLaws.{begun-count, from_end, from-zeros, from-rubbish, from-bad, from_next}
 use mathlib.Core.Path.{ap}
 use mathlib.Core.Bool.{not}

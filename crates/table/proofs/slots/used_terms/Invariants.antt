@@ -1,14 +1,9 @@
 use Prim.Native.Nat.{◌≤◌, ◌-◌, ◌*◌}
-use native.Mathlib.Omega.{arith}
-use mathlib.Core.Path.{◌≡◌, sym, ◌∙◌}
-use borrow.Author.Rules.{rules}
+use mathlib.Core.Path.{◌≡◌}
 use Rattle.definitions.specs.Limits.{slot_width, term_limit}
 use Rattle.definitions.specs.Saved.{terms_from, terms_in}
 use Rattle.fields.specs.Answers.{count_of}
 use Rattle.table.proofs.CountLaws.{count_from}
-use Rattle.table.proofs.TableLaws.{begun-count, from_end, from-zeros, from-rubbish, from-bad, from_next}
-use mathlib.Core.Path.{ap}
-use mathlib.Core.Bool.{not}
 use Rattle.table.proofs.slots.used_terms.Given as goal
 
 abbrev pub invariant-loop-n : goal.invariant-loop-n

@@ -2,7 +2,6 @@
 use native.Mathlib.Omega.{arith}
 use mathlib.Core.Path.{refl}
 use lib.ListN.{length-take, length-drop}
-use borrow.Author.Rules.{rules}
 use Rattle.definitions.specs.Bytes.{onward}
 use Rattle.definitions.specs.Terms.{Term, term_of_body}
 use Rattle.fields.specs.Answers.{width_of, body_term}

@@ -1,6 +1,5 @@
 -- `term_bodies::bodies::body_width` meets its contract.
 use native.Mathlib.Omega.{arith}
-use borrow.Author.Rules.{rules}
 use Rattle.fields.specs.Answers.{width_of}
 use Rattle.term_bodies.proofs.BodyLaws.{kind-numbers, kind-below, kind-above}
 use Rattle.term_bodies.proofs.bodies.body_width.Goals as goal

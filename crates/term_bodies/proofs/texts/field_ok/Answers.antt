@@ -1,13 +1,6 @@
 -- `term_bodies::texts::field_ok` meets its contract. What was looked at is good, and so is the rest, where all is.
 use Prim.Native.Nat.{◌-◌}
-use mathlib.Core.Bool.{◌&&◌}
-use mathlib.Core.Path.{◌≡◌}
-use borrow.Author.Rules.{rules}
-use lib.ListN.{length, drop}
-use Rattle.definitions.specs.Terms.{field_text}
-use Rattle.laws.specs.ReadAnswers.{is_some}
-use Rattle.fields.specs.Answers.{range_or}
-use Rattle.term_bodies.proofs.FieldLaws.{filled_after, field-start, field_next, field_end}
+use Rattle.term_bodies.proofs.FieldLaws.{field-start, field_next, field_end}
 use Rattle.term_bodies.proofs.texts.field_ok.Goals as goal
 
 pub loop-i-init : goal.loop-i-init

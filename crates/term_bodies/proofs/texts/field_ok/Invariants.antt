@@ -1,12 +1,11 @@
 use Prim.Native.Nat.{◌-◌}
 use mathlib.Core.Bool.{◌&&◌}
 use mathlib.Core.Path.{◌≡◌}
-use borrow.Author.Rules.{rules}
 use lib.ListN.{length, drop}
 use Rattle.definitions.specs.Terms.{field_text}
 use Rattle.laws.specs.ReadAnswers.{is_some}
 use Rattle.fields.specs.Answers.{range_or}
-use Rattle.term_bodies.proofs.FieldLaws.{filled_after, field-start, field_next, field_end}
+use Rattle.term_bodies.proofs.FieldLaws.{filled_after}
 use Rattle.term_bodies.proofs.texts.field_ok.Given as goal
 
 abbrev pub invariant-loop-i : goal.invariant-loop-i

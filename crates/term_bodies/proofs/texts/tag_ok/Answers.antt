@@ -1,5 +1,4 @@
 -- `term_bodies::texts::tag_ok` meets its contract.
-use borrow.Author.Rules.{rules}
 use Rattle.term_bodies.proofs.FieldLaws.{field-of-width, tag-bytes}
 use Rattle.term_bodies.proofs.texts.tag_ok.Goals as goal
 

@@ -1,5 +1,4 @@
 -- `term_bodies::texts::text_ok` meets its contract.
-use borrow.Author.Rules.{rules}
 use Rattle.term_bodies.proofs.FieldLaws.{field-of-width, text-bytes}
 use Rattle.term_bodies.proofs.texts.text_ok.Goals as goal
 

@@ -1,6 +1,5 @@
 -- `term_bodies::texts::uri_ok` meets its contract.
 use mathlib.Core.Path.{sym, ◌∙◌}
-use borrow.Author.Rules.{rules}
 use Rattle.term_bodies.proofs.FieldLaws.{field-of-width, uri-bytes, uri-empty, uri-some}
 use Rattle.term_bodies.proofs.texts.uri_ok.Goals as goal
 

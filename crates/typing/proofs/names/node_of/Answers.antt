@@ -1,6 +1,5 @@
 -- `typing::names::node_of` meets its contract. Assumes nothing.
 use native.Mathlib.Omega.{arith}
-use borrow.Author.Rules.{rules}
 use Rattle.facts.proofs.TableLaws.{variable-in}
 use Rattle.facts.proofs.WalkLaws.{variable-node, known-node}
 use Rattle.typing.proofs.names.node_of.Goals as goal

@@ -1,5 +1,4 @@
 -- `typing::names::variable_place` meets its contract: open, unbound or fixed. Assumes nothing.
-use borrow.Author.Rules.{rules}
 use Rattle.facts.proofs.WalkLaws.{open-placed, unbound-placed, fixed-placed}
 use Rattle.typing.proofs.names.variable_place.Goals as goal
 

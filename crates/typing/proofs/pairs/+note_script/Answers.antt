@@ -7,7 +7,6 @@ use Rattle.definitions.specs.Scope.{binders_of}
 use Rattle.scope.proofs.BindLaws.{pairs-at}
 use Rattle.typing.specs.Pairs.{binders_noted}
 use Rattle.typing.proofs.PairLaws.{block_noted, two-noted}
-use Prim.Native.Nat.{ℕ, ◌<◌}
 use Rattle.typing.proofs.pairs.+note_script.Goals as goal
 
 pub after_name-next-requires : goal.after_name-next-requires

@@ -1,14 +1,10 @@
 -- `typing::pairs::note_pairs` meets its contract: the pairs left to note shrink by one. Assumes nothing.
-use Prim.Native.Nat.{◌+◌, ◌-◌, ◌*◌, ◌≤◌}
+use Prim.Native.Nat.{◌+◌, ◌-◌}
 use native.Mathlib.Omega.{arith}
-use borrow.Author.Rules.{rules}
-use mathlib.Core.Bool.{true}
-use mathlib.Core.Path.{◌≡◌, sym, ◌∙◌}
+use mathlib.Core.Path.{sym, ◌∙◌}
 use Rattle.definitions.specs.Limits.{count_offset, pairs_offset}
 use Rattle.definitions.specs.Bytes.{byte}
-use Rattle.reader.proofs.PairLaws.{pairs_from}
 use Rattle.scope.proofs.BindLaws.{few-pairs, pairs-read, pair-variable, pairs-rest}
-use Rattle.typing.specs.Pairs.{pairs_noted}
 use Rattle.typing.proofs.PairLaws.{note-start, note-turn, note-done}
 use Rattle.typing.proofs.pairs.note_pairs.Goals as goal
 

@@ -1,14 +1,9 @@
 use Prim.Native.Nat.{◌+◌, ◌-◌, ◌*◌, ◌≤◌}
-use native.Mathlib.Omega.{arith}
-use borrow.Author.Rules.{rules}
 use mathlib.Core.Bool.{true}
-use mathlib.Core.Path.{◌≡◌, sym, ◌∙◌}
-use Rattle.definitions.specs.Limits.{count_offset, pairs_offset}
-use Rattle.definitions.specs.Bytes.{byte}
+use mathlib.Core.Path.{◌≡◌}
+use Rattle.definitions.specs.Limits.{pairs_offset}
 use Rattle.reader.proofs.PairLaws.{pairs_from}
-use Rattle.scope.proofs.BindLaws.{few-pairs, pairs-read, pair-variable, pairs-rest}
 use Rattle.typing.specs.Pairs.{pairs_noted}
-use Rattle.typing.proofs.PairLaws.{note-start, note-turn, note-done}
 use Rattle.typing.proofs.pairs.note_pairs.Given as goal
 
 abbrev pub invariant-loop-k : goal.invariant-loop-k

@@ -1,6 +1,5 @@
 -- `typing::walk::type_cond` meets its contract: one line for each kind; the levels left fall. Assumes nothing.
 use lib.ListN.{length}
-use Prim.Native.Nat.{ℕ, ◌<◌}
 use native.Mathlib.Omega.{arith}
 use Rattle.laws.proofs.Walked.{leaf_walked}
 use Rattle.laws.proofs.Productions.{CondAt, cond-at}
@@ -29,7 +28,7 @@ pub type_test-requires : goal.type_test-requires
 type_test-requires t c = record {
   loads = c.requires.loads;
   bound = elim c.in_default.branch [
-    in_default-via-then-kind-lt80 w ↦ absurd (no_lower _ _ _ _ c.requires.loads (omega arith))
+    | in_default-via-then-kind-lt80 w ↦ absurd (no_lower _ _ _ _ c.requires.loads (omega arith))
     | in_default-via-else-kind-lt80+else-kind-lt82+else-kind-lt84 w ↦ omega arith
   ];
   written_len = c.requires.written_len;

@@ -1,6 +1,5 @@
 -- `typing::walk::type_query` meets its contract: one line for each kind; the levels left fall. Assumes nothing.
 use lib.ListN.{length}
-use Prim.Native.Nat.{ℕ, ◌<◌}
 use native.Mathlib.Omega.{arith}
 use mathlib.Core.Logic.{inl, inr}
 use Rattle.laws.proofs.Walked.{leaf_walked}

@@ -1,6 +1,5 @@
 -- `typing::walk::type_script` meets its contract: one line for each kind; the levels left fall. Assumes nothing.
 use lib.ListN.{length}
-use Prim.Native.Nat.{ℕ, ◌<◌}
 use native.Mathlib.Omega.{arith}
 use Rattle.laws.proofs.Walked.{leaf_walked}
 use Rattle.laws.proofs.Productions.{ScriptAt, script-at}

@@ -1,7 +1,6 @@
 -- `typing::walk::type_pattern` meets its contract: four names, one after the other. Assumes nothing.
 use native.Mathlib.Omega.{arith}
 use mathlib.Core.Path.{refl}
-use borrow.Author.Rules.{rules}
 use Rattle.laws.proofs.Productions.{four-at}
 use Rattle.facts.proofs.TableLaws.{merged-joined}
 use Rattle.facts.proofs.WalkLaws.{pattern-noted, placed-in}

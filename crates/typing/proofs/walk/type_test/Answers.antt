@@ -1,6 +1,5 @@
 -- `typing::walk::type_test` meets its contract: one line for each kind. Assumes nothing.
 use native.Mathlib.Omega.{arith}
-use borrow.Author.Rules.{rules}
 use mathlib.Core.Path.{refl}
 use lib.ListN.{length}
 use Rattle.laws.proofs.Productions.{CondAt, cond-at}

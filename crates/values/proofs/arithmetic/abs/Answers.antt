@@ -1,6 +1,5 @@
 -- `values::arithmetic::abs` meets its contract, by the laws of ArithmeticLaws.
 use Rattle.values.proofs.ArithmeticLaws.{abs-result}
-use borrow.Author.Rules.{rules}
 use Rattle.values.proofs.arithmetic.abs.Goals as goal
 
 pub returns : goal.returns

@@ -1,7 +1,6 @@
 -- `values::arithmetic::limited` meets its contract, by the laws of ArithmeticLaws.
 use Rattle.values.proofs.ArithmeticLaws.{limited-integer, limited-decimal}
 use Rattle.definitions.specs.Terms.{within_limits}
-use borrow.Author.Rules.{rules}
 use Rattle.values.proofs.arithmetic.limited.Goals as goal
 
 pub returns-then-kind-eq-INTEGER : goal.returns-then-kind-eq-INTEGER

@@ -1,9 +1,7 @@
 -- `values::arithmetic::plus` meets its contract, by the laws of ArithmeticLaws.
 use lib.IntN.{pos, ◌+ℤ◌}
-use borrow.Author.Tests.{not-true, not-false}
 use Rattle.definitions.specs.Values.{sum}
 use Rattle.values.proofs.ArithmeticLaws.{no_result, made}
-use borrow.Author.Rules.{rules}
 use Rattle.values.proofs.arithmetic.plus.Goals as goal
 
 pub returns-then-not-present : goal.returns-then-not-present

@@ -1,8 +1,8 @@
 -- `facts::families::Families::fresh` meets its contract. Invariant: each node before this one is its own parent. The measure is what is left of the nodes. Assumes nothing.
-use Prim.Native.Nat.{ℕ, ◌≤◌, ◌<◌, ◌-◌}
+use Prim.Native.Nat.{◌-◌}
 use native.Mathlib.Omega.{arith}
-use mathlib.Core.Path.{◌≡◌, refl}
-use lib.ListN.{length, get_or, length-set}
+use mathlib.Core.Path.{refl}
+use lib.ListN.{length-set}
 use Rattle.laws.proofs.Fill.{filled_more}
 use Rattle.facts.specs.Tables.{node_limit}
 use Rattle.facts.proofs.UnionFind.{up_is}

@@ -1,10 +1,7 @@
 use Prim.Native.Nat.{ℕ, ◌≤◌, ◌<◌, ◌-◌}
-use native.Mathlib.Omega.{arith}
-use mathlib.Core.Path.{◌≡◌, refl}
-use lib.ListN.{length, get_or, length-set}
-use Rattle.laws.proofs.Fill.{filled_more}
+use mathlib.Core.Path.{◌≡◌}
+use lib.ListN.{length, get_or}
 use Rattle.facts.specs.Tables.{node_limit}
-use Rattle.facts.proofs.UnionFind.{up_is}
 use Rattle.facts.proofs.families.Families.fresh.Given as goal
 
 abbrev pub invariant-loop-node : goal.invariant-loop-node

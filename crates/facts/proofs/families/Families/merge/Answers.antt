@@ -1,7 +1,6 @@
 -- `facts::families::Families::merge` sets the greater root's parent to the lesser root. Assumes nothing.
 use mathlib.Core.Path.{ap, ◌∙◌}
 use native.Mathlib.Omega.{arith}
-use borrow.Author.Rules.{rules}
 use lib.ListN.{set}
 use Rattle.facts.proofs.UnionFind.{root_below, merge-up, merge-down}
 use Rattle.facts.proofs.families.Families.merge.Goals as goal

@@ -1,12 +1,9 @@
 -- `facts::families::Families::root` climbs from parent to parent. Invariant: `at` has the node's root, and `up` is its parent. The measure is `at`, since parents fall.
 -- Assumes nothing.
-use mathlib.Core.Path.{◌≡◌, refl, ap, sym, ◌∙◌}
-use Prim.Native.Nat.{◌<◌}
+use mathlib.Core.Path.{refl, ap, sym, ◌∙◌}
 use native.Mathlib.Omega.{arith}
-use borrow.Author.Rules.{rules}
-use Rattle.facts.specs.UnionFind.{parent, root_in}
+use Rattle.facts.specs.UnionFind.{root_in}
 use Rattle.facts.proofs.UnionFind.{read-parent, root-stop, root-parent}
-use Rattle.facts.specs.Tables.{node_limit}
 use Rattle.facts.proofs.families.Families.root.Goals as goal
 
 pub loop-up-init : goal.loop-up-init

@@ -1,9 +1,6 @@
-use mathlib.Core.Path.{◌≡◌, refl, ap, sym, ◌∙◌}
+use mathlib.Core.Path.{◌≡◌}
 use Prim.Native.Nat.{◌<◌}
-use native.Mathlib.Omega.{arith}
-use borrow.Author.Rules.{rules}
 use Rattle.facts.specs.UnionFind.{parent, root_in}
-use Rattle.facts.proofs.UnionFind.{read-parent, root-stop, root-parent}
 use Rattle.facts.specs.Tables.{node_limit}
 use Rattle.facts.proofs.families.Families.root.Given as goal
 

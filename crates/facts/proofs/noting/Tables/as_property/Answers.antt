@@ -1,5 +1,4 @@
 -- `facts::noting::Tables::as_property` meets its contract. Assumes nothing.
-use borrow.Author.Rules.{rules}
 use Rattle.facts.proofs.TableLaws.{property-is}
 use Rattle.facts.proofs.noting.Tables.as_property.Goals as goal
 

@@ -1,6 +1,5 @@
 -- `facts::noting::Tables::at_least` meets its contract: a decimal is flagged. Assumes nothing.
 use native.Mathlib.Omega.{arith}
-use borrow.Author.Rules.{rules}
 use Rattle.facts.proofs.TableLaws.{family-small, property-joined, at-least-high, at-least-other}
 use Rattle.facts.proofs.noting.Tables.at_least.Goals as goal
 

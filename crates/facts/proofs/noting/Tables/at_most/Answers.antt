@@ -1,6 +1,5 @@
 -- `facts::noting::Tables::at_most` meets its contract: an integer is flagged. Assumes nothing.
 use native.Mathlib.Omega.{arith}
-use borrow.Author.Rules.{rules}
 use Rattle.facts.proofs.TableLaws.{family-small, at-most-low, at-most-other}
 use Rattle.facts.proofs.noting.Tables.at_most.Goals as goal
 

@@ -1,6 +1,5 @@
 -- `facts::noting::Tables::edge` meets its contract. Assumes nothing.
 use native.Mathlib.Omega.{arith}
-use borrow.Author.Rules.{rules}
 use Rattle.facts.proofs.TableLaws.{property-joined, edge-is}
 use Rattle.facts.proofs.noting.Tables.edge.Goals as goal
 

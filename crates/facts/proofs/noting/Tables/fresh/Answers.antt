@@ -1,5 +1,4 @@
 -- `facts::noting::Tables::fresh` meets its contract: each node alone, and no flag. Assumes nothing.
-use borrow.Author.Rules.{rules}
 use Rattle.facts.specs.Tables.{fresh}
 use Rattle.facts.proofs.noting.Tables.fresh.Goals as goal
 

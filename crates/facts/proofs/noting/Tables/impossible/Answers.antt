@@ -1,5 +1,4 @@
 -- `facts::noting::Tables::impossible` meets its contract. Assumes nothing.
-use borrow.Author.Rules.{rules}
 use Rattle.facts.specs.Tables.{impossible}
 use Rattle.facts.proofs.noting.Tables.impossible.Goals as goal
 

@@ -1,5 +1,4 @@
 -- `facts::noting::Tables::merged` meets its contract: only the union-find changes. Assumes nothing.
-use borrow.Author.Rules.{rules}
 use Rattle.facts.proofs.TableLaws.{merged-is}
 use Rattle.facts.proofs.noting.Tables.merged.Goals as goal
 

@@ -1,6 +1,5 @@
 -- `facts::noting::Tables::related` meets its contract, case by case of the two places. Assumes nothing.
 use mathlib.Core.Path.{refl}
-use borrow.Author.Rules.{rules}
 use Rattle.facts.proofs.TableLaws.{variable-in, relates-open, relates-object, relates-plain, relates-range, relates-fit, relates-unfit}
 use Rattle.facts.proofs.noting.Tables.related.Goals as goal
 
