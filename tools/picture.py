@@ -9,7 +9,7 @@ for line in (root / "crates.txt").read_text().splitlines():
     line = line.split("#")[0].strip()
     if line:
         name, _, rest = line.partition(":")
-        deps[name] = rest.split()
+        deps[name.split()[0]] = rest.split()
 deps = {n: [d for d in ds if d in deps] for n, ds in deps.items()}
 
 

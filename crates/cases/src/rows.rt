@@ -1,5 +1,5 @@
 // Rows of words in one text, so that the cases of a topic are one literal.
-ghost use Rattle.std.specs.Prelude.{◌≡◌, ◌+◌, ◌≤◌, min, length};
+ghost use Rattle.std.specs.Prelude.{◌≡◌, ◌≢◌, ℕ, ◌+◌, ◌≤◌, ◌<◌, min, length, slice_index};
 
 // The smaller of two numbers.
 fn at_most(n: usize, limit: usize) -> usize
@@ -9,11 +9,14 @@ fn at_most(n: usize, limit: usize) -> usize
 }
 
 // Where a byte stands first, from an offset to another; the second offset where it does not.
+// Ruled out: the second offset in any case; a place past the first.
 pub fn find(rows: &[u8], at: usize, last: usize, ending: u8) -> usize
     requires at_le_last { at ≤ last }
     requires last_in_bounds { last ≤ length rows.now }
     ensures from { at ≤ result }
     ensures to { result ≤ last }
+    ensures before { (k : ℕ) → at ≤ k → k < result → slice_index rows.now k ≢ ending }
+    ensures there { result < last → slice_index rows.now result ≡ ending }
 {
     for i in at..last {
         if rows[i] == ending {

@@ -6,6 +6,7 @@ ghost use Rattle.definitions.specs.Outcome.{ok};
 ghost use Rattle.definitions.specs.Exports.{load_export, run_export, page_export, total_export, number_export, suggest_export, schema_export, publish_export};
 
 // Load: 1, 21, 2 to 9.
+// Ruled out: a load that ignores the saved buffer's length; a refused load that writes the saved run of zeros.
 #[unsafe(no_mangle)]
 pub extern "C" fn willetcoffer_load(
     ranks: &[u8],
@@ -37,6 +38,7 @@ pub extern "C" fn willetcoffer_load(
 }
 
 // Run: 1, 21, 10, 11.
+// Ruled out: a run that writes the report on a refusal; one that runs on from bytes that no saved run has.
 #[unsafe(no_mangle)]
 pub extern "C" fn willetcoffer_run(
     ranks: &[u8],
@@ -68,6 +70,7 @@ pub extern "C" fn willetcoffer_run(
 }
 
 // Page: 1, 21, 10, 12, 13, 14.
+// Ruled out: a page that writes the saved run on a refusal; one that counts the skipped records of a refused page.
 #[unsafe(no_mangle)]
 pub extern "C" fn willetcoffer_page(
     ranks: &[u8],
@@ -105,6 +108,7 @@ pub extern "C" fn willetcoffer_page(
 }
 
 // Total: 1 for its report, then 2 to 7.
+// Ruled out: a total that takes a report of any length; one that returns 0 for a refused card.
 #[unsafe(no_mangle)]
 pub extern "C" fn willetcoffer_total(
     terms: &[u8],
@@ -119,6 +123,7 @@ pub extern "C" fn willetcoffer_total(
 }
 
 // Number: 1 for its record, then 16, 17.
+// Ruled out: a record of any length taken; a decimal's record with the kind of an integer.
 #[unsafe(no_mangle)]
 pub extern "C" fn willetcoffer_number(text: &[u8], record: &mut [u8]) -> u32
     ensures { number_export text.now «record».old ≡ record { number = result; «record» = «record».new } }
@@ -127,6 +132,7 @@ pub extern "C" fn willetcoffer_number(text: &[u8], record: &mut [u8]) -> u32
 }
 
 // Suggest: 1 for its report, then 2 to 8.
+// Ruled out: a suggestion that takes a report of any length; one that returns 0 for a refused card.
 #[unsafe(no_mangle)]
 pub extern "C" fn willetcoffer_suggest(
     terms: &[u8],
@@ -140,7 +146,18 @@ pub extern "C" fn willetcoffer_suggest(
     exports::willetcoffer_suggest(terms, schema, script, report)
 }
 
+// A schema out of a page: 1, 13, 19. `schema` is the buffer that takes its records.
+// Ruled out: a schema call that takes a report of any length; one that reports a refused page.
+#[unsafe(no_mangle)]
+pub extern "C" fn willetcoffer_schema(page: &[u8], schema: &mut [u8], report: &mut [u8]) -> u32
+    ensures { schema_export page.now schema.old report.old
+        ≡ record { number = result; schema = schema.new; report = report.new } }
+{
+    exports::willetcoffer_schema(page, schema, report)
+}
+
 // Publish: 1, 10, 22, 23.
+// Ruled out: a publish that takes a report of any length; one that reports the length of a page that it does not write.
 #[unsafe(no_mangle)]
 pub extern "C" fn willetcoffer_publish(
     terms: &[u8],

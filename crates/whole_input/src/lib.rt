@@ -6,7 +6,7 @@ ghost use Rattle.std.specs.Prelude.{◌≤◌, IfOk, length};
 use std::io::{self, Read};
 
 // As many bytes as a reader gives, or as there is room for: how many they are.
-// Ruled out: no byte read; a number past the room.
+// Ruled out: a number past the room.
 pub fn read_whole<R: Read>(from: &mut R, into: &mut [u8]) -> io::Result<usize>
     ensures bound { IfOk result (λ n. n ≤ length into.new) }
 {

@@ -21,8 +21,8 @@ overflow_cast-graph c = omega (arith, graph-small _ _ _ _ _ _ _ _ _ _ _ c.requir
 pub take_in-done-requires : goal.take_in-done-requires
 take_in-done-requires c =
     let graphs : length c.args.saved.store.fetched ≡ graph_limit = search rules in
-    let bt : AreBytes c.args.table.now = λ k. omega (arith, c.type_inv.table k) in
-    let bq : AreBytes c.args.store.now = λ k. omega (arith, c.type_inv.store k) in
+    let bt : AreBytes c.args.table.now = λ k. omega (arith, c.slice_known-1.given k) in
+    let bq : AreBytes c.args.store.now = λ k. omega (arith, c.slice_known-2-1.given k) in
     record {
       page_reads = page-read _ _ _ _ _ _ _ _ _ _ _ c.requires.1;
       page_len_bound = page-fits _ _ _ _ _ _ _ _ _ _ _ c.requires.1;
@@ -33,8 +33,8 @@ take_in-done-requires c =
 pub returns-in_default : goal.returns-in_default
 returns-in_default c =
     let graphs : length c.args.saved.store.fetched ≡ graph_limit = search rules in
-    let bt : AreBytes c.args.table.now = λ k. omega (arith, c.type_inv.table k) in
-    let bq : AreBytes c.args.store.now = λ k. omega (arith, c.type_inv.store k) in
+    let bt : AreBytes c.args.table.now = λ k. omega (arith, c.slice_known-1.given k) in
+    let bq : AreBytes c.args.store.now = λ k. omega (arith, c.slice_known-2-1.given k) in
     λ ranks p. not_taken_lem _ _ _ _ _ _ _ _ _ _ _ p bt bq graphs _ c.canonical_store-kept.ensures _ _ _
     (c.take_in-done.ensures _ _ _ (schema-is _ _ _ _ _ _ _ _ _ _ _ p) (page-is _ _ _ _ _ _ _ _ _ _ _ p)
     (held-store _ _ _ _ _ _ _ _ _ _ _ p bt bq graphs _ c.canonical_store-kept.ensures)) _ c.in_default.is c.refused.ensures
@@ -44,8 +44,8 @@ returns c =
     let marks : length c.args.saved.control.bound ≡ variable_limit = search rules in
     let graphs : length c.args.saved.store.fetched ≡ graph_limit = search rules in
     let levels : length c.args.saved.control.items ≡ depth_limit = search (length-mapped, rules) in
-    let bt : AreBytes c.args.table.now = λ k. omega (arith, c.type_inv.table k) in
-    let bq : AreBytes c.args.store.now = λ k. omega (arith, c.type_inv.store k) in
+    let bt : AreBytes c.args.table.now = λ k. omega (arith, c.slice_known-1.given k) in
+    let bq : AreBytes c.args.store.now = λ k. omega (arith, c.slice_known-2-1.given k) in
     λ ranks p. now-taken _ _ _ _ _ _ _ _ _ _ _ p bt bq graphs _ c.canonical_store-kept.ensures _ _ _
     (c.take_in-done.ensures _ _ _ (schema-is _ _ _ _ _ _ _ _ _ _ _ p) (page-is _ _ _ _ _ _ _ _ _ _ _ p)
     (held-store _ _ _ _ _ _ _ _ _ _ _ p bt bq graphs _ c.canonical_store-kept.ensures)) marks levels _ c.canonical_control-clean.ensures _ c.in-Taken.is
