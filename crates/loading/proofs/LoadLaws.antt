@@ -119,8 +119,7 @@ module _ (l : Lent) where
             let k = load_is (only-check ∙ found.1) in
             let p = check-passed l.terms l.schema l.script c found.1 in
             let types : card.types ≡ reported c = ap (λ (k : Card). k.types) (ec ∙ ap (λ (m : Result Checked). card_of m card.entries) found.1) in
-            let root = parsed-offset (length c.terms) l.script c.root p.reads.parses in
-            (
+            let root = parsed-offset (length c.terms) l.script c.root p.reads.parses in (
               f ∙ ap accepted_load types
                   ∙ ap (λ (s : SavedRun). record { answer = LoadAnswers.Accepted; saved = s }) (saved-fresh (reported c) c.terms c.root root)
                   ∙ sym (ap (λ (x : LoadResult). x.returned) k),

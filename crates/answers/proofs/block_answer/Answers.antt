@@ -3,7 +3,6 @@ use mathlib.Core.Path.{refl}
 use Rattle.acts.specs.Steps.{on_top}
 use Rattle.acts.proofs.StepLaws.{height-is, room}
 use Rattle.answers.proofs.AnswerLaws.{block_room, block-small, world-given, answers-given}
-use borrow.Author.Rules.{rules}
 use Rattle.answers.proofs.block_answer.Goals as goal
 
 pub top-item-requires : goal.top-item-requires

@@ -3,7 +3,6 @@ use mathlib.Core.Path.{sym, subst}
 use mathlib.Core.List.{List}
 use lib.ListN.{get_or}
 use Rattle.answers.proofs.AnswerLaws.{block_made}
-use borrow.Author.Rules.{rules}
 use Rattle.answers.proofs.block_of.Goals as goal
 
 pub types_of-types-requires : goal.types_of-types-requires

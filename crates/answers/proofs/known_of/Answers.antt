@@ -1,11 +1,9 @@
-use borrow.Author.Rules.{rules}
-use Prim.Native.Nat.{◌≤◌, ◌-◌}
+use Prim.Native.Nat.{◌-◌}
 use native.Mathlib.Omega.{arith}
-use mathlib.Core.Path.{◌≡◌, refl}
-use Rattle.definitions.specs.Scope.{variables}
+use mathlib.Core.Path.{refl}
 use Rattle.scan.specs.Codes.{free_code}
 use Rattle.answers.specs.Answers.{known_code, known_of}
-use Rattle.store.proofs.FillLaws.{made_to, made-variable, made-variables}
+use Rattle.store.proofs.FillLaws.{made-variable, made-variables}
 use Rattle.answers.proofs.known_of.Goals as goal
 
 pub loop-v-init : goal.loop-v-init

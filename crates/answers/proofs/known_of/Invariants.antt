@@ -1,11 +1,9 @@
-use borrow.Author.Rules.{rules}
 use Prim.Native.Nat.{◌≤◌, ◌-◌}
-use native.Mathlib.Omega.{arith}
-use mathlib.Core.Path.{◌≡◌, refl}
+use mathlib.Core.Path.{◌≡◌}
 use Rattle.definitions.specs.Scope.{variables}
 use Rattle.scan.specs.Codes.{free_code}
-use Rattle.answers.specs.Answers.{known_code, known_of}
-use Rattle.store.proofs.FillLaws.{made_to, made-variable, made-variables}
+use Rattle.answers.specs.Answers.{known_code}
+use Rattle.store.proofs.FillLaws.{made_to}
 use Rattle.answers.proofs.known_of.Given as goal
 
 abbrev pub invariant-loop-v : goal.invariant-loop-v

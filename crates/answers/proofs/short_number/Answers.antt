@@ -1,6 +1,5 @@
 use native.Mathlib.Omega.{arith}
 use Rattle.answers.proofs.AnswerLaws.{short-is, short-not}
-use borrow.Author.Rules.{rules}
 use Rattle.answers.proofs.short_number.Goals as goal
 
 pub returns-then-n-lt65536 : goal.returns-then-n-lt65536

@@ -1,4 +1,3 @@
-use borrow.Author.Rules.{rules}
 use Rattle.answers.proofs.types_of.Goals as goal
 
 pub bounds-types-a : goal.bounds-types-a

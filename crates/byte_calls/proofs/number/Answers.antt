@@ -1,6 +1,5 @@
 -- By the length of the record, and else as the text reads.
 use Rattle.lengths.proofs.BufferLaws.{width_is}
-use borrow.Author.Rules.{rules}
 use Rattle.byte_calls.proofs.ByteLaws.{number-length, number-done}
 use mathlib.Core.Path.{ap}
 use mathlib.Core.Bool.{not}

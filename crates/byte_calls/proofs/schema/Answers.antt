@@ -1,6 +1,5 @@
 -- By the length of the report, and else as the page is answered.
 use Rattle.lengths.proofs.BufferLaws.{width_is}
-use borrow.Author.Rules.{rules}
 use Rattle.byte_calls.proofs.ByteLaws.{schema-length, schema-done}
 use mathlib.Core.Path.{ap}
 use mathlib.Core.Bool.{not}

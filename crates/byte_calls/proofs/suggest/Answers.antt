@@ -1,6 +1,5 @@
 -- By the length of the report, and else as the card is answered.
 use Rattle.lengths.proofs.BufferLaws.{width_is}
-use borrow.Author.Rules.{rules}
 use Rattle.byte_calls.proofs.ByteLaws.{suggest-length, suggest-done}
 use mathlib.Core.Path.{ap}
 use mathlib.Core.Bool.{not}

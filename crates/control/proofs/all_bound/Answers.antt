@@ -1,12 +1,7 @@
 -- `control::all_bound` meets its contract.
-use Prim.Native.Nat.{◌-◌, ◌≤◌}
+use Prim.Native.Nat.{◌-◌}
 use native.Mathlib.Omega.{arith}
-use borrow.Author.Rules.{rules}
-use borrow.Author.Tests.{not-true, not-false}
-use mathlib.Core.Path.{◌≡◌, refl}
-use lib.ListN.{drop}
-use Rattle.definitions.specs.Lists.{every}
-use Rattle.definitions.specs.Scope.{variables}
+use mathlib.Core.Path.{refl}
 use Rattle.control.specs.Control.{bound_at, all_bound}
 use Rattle.control.proofs.BindingLaws.{variables-next, variables-stop, variables-done}
 use Rattle.control.proofs.all_bound.Goals as goal

@@ -1,8 +1,6 @@
 -- `control::binding_sound` meets its contract.
 use native.Mathlib.Omega.{arith}
-use borrow.Author.Tests.{not-true, not-false}
 use Rattle.control.proofs.BindingLaws.{not-bound, no-pair, no-term, term_fits}
-use borrow.Author.Rules.{rules}
 use Rattle.control.proofs.binding_sound.Goals as goal
 
 pub returns-then-not-bound : goal.returns-then-not-bound

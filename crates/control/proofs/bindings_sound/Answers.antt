@@ -1,12 +1,7 @@
 -- `control::bindings_sound` meets its contract.
-use Prim.Native.Nat.{◌-◌, ◌≤◌}
+use Prim.Native.Nat.{◌-◌}
 use native.Mathlib.Omega.{arith}
-use borrow.Author.Rules.{rules}
-use borrow.Author.Tests.{not-true, not-false}
-use mathlib.Core.Path.{◌≡◌, refl, sym, ◌∙◌}
-use lib.ListN.{drop}
-use Rattle.definitions.specs.Lists.{every}
-use Rattle.definitions.specs.Scope.{variables}
+use mathlib.Core.Path.{refl, sym, ◌∙◌}
 use Rattle.control.specs.Control.{binding_at, bindings_fit}
 use Rattle.control.proofs.BindingLaws.{variables-next, variables-stop, variables-done}
 use Rattle.control.proofs.bindings_sound.Goals as goal

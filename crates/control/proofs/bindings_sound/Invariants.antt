@@ -1,13 +1,9 @@
 use Prim.Native.Nat.{◌-◌, ◌≤◌}
-use native.Mathlib.Omega.{arith}
-use borrow.Author.Rules.{rules}
-use borrow.Author.Tests.{not-true, not-false}
-use mathlib.Core.Path.{◌≡◌, refl, sym, ◌∙◌}
+use mathlib.Core.Path.{◌≡◌}
 use lib.ListN.{drop}
 use Rattle.definitions.specs.Lists.{every}
 use Rattle.definitions.specs.Scope.{variables}
-use Rattle.control.specs.Control.{binding_at, bindings_fit}
-use Rattle.control.proofs.BindingLaws.{variables-next, variables-stop, variables-done}
+use Rattle.control.specs.Control.{binding_at}
 use Rattle.control.proofs.bindings_sound.Given as goal
 
 abbrev pub invariant-loop-v : goal.invariant-loop-v

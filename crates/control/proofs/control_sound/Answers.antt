@@ -1,8 +1,6 @@
 -- `control::control_sound` meets its contract.
 use native.Mathlib.Omega.{arith}
-use borrow.Author.Tests.{not-true, not-false}
 use Rattle.control.proofs.ControlLaws.{too-high, stack-fails, stack-holds}
-use borrow.Author.Rules.{rules}
 use Rattle.control.proofs.control_sound.Goals as goal
 
 pub returns-then-height-gt-ITEM_LIMIT : goal.returns-then-height-gt-ITEM_LIMIT

@@ -1,8 +1,6 @@
 -- `control::item_sound` meets its contract.
 use native.Mathlib.Omega.{arith}
-use borrow.Author.Tests.{not-true, not-false}
 use Rattle.control.proofs.StackLaws.{standing, stands-loads, nowhere, shallow, unbound-free, bound-free}
-use borrow.Author.Rules.{rules}
 use Rattle.control.proofs.item_sound.Goals as goal
 
 pub returns-in_default : goal.returns-in_default

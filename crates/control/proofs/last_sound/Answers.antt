@@ -1,10 +1,8 @@
 -- `control::last_sound` meets its contract.
 use native.Mathlib.Omega.{arith}
-use borrow.Author.Tests.{not-true, not-false}
 use Rattle.laws.proofs.Records.{script-inside}
 use Rattle.scope.proofs.BindLaws.{pairs-at, few-pairs}
 use Rattle.control.proofs.StackLaws.{last-idle, last-other, last-once, last-each}
-use borrow.Author.Rules.{rules}
 use Rattle.control.proofs.last_sound.Goals as goal
 
 pub returns-then-not-started : goal.returns-then-not-started

@@ -1,12 +1,6 @@
 -- `control::stack_sound` meets its contract.
-use Prim.Native.Nat.{◌≤◌}
 use native.Mathlib.Omega.{arith}
-use borrow.Author.Rules.{rules}
-use borrow.Author.Tests.{not-true, not-false}
-use mathlib.Core.Path.{◌≡◌, refl}
-use Rattle.definitions.specs.Reading.{parsed}
-use Rattle.laws.specs.ReadAnswers.{passes}
-use Rattle.control.specs.Control.{items_held}
+use mathlib.Core.Path.{refl}
 use Rattle.control.proofs.StackLaws.{stack-done, stack-stop, stack-turn}
 use Rattle.control.proofs.stack_sound.Goals as goal
 

@@ -1,12 +1,8 @@
 use Prim.Native.Nat.{◌≤◌}
-use native.Mathlib.Omega.{arith}
-use borrow.Author.Rules.{rules}
-use borrow.Author.Tests.{not-true, not-false}
-use mathlib.Core.Path.{◌≡◌, refl}
+use mathlib.Core.Path.{◌≡◌}
 use Rattle.definitions.specs.Reading.{parsed}
 use Rattle.laws.specs.ReadAnswers.{passes}
 use Rattle.control.specs.Control.{items_held}
-use Rattle.control.proofs.StackLaws.{stack-done, stack-stop, stack-turn}
 use Rattle.control.proofs.stack_sound.Given as goal
 
 abbrev pub invariant-loop-place : goal.invariant-loop-place

@@ -1,11 +1,9 @@
 -- `control::tuple_fits` meets its contract.
-use Prim.Native.Nat.{◌-◌, ◌≤◌}
+use Prim.Native.Nat.{◌-◌}
 use native.Mathlib.Omega.{arith}
 use borrow.Author.Rules.{rules}
 use mathlib.Core.Path.{◌≡◌, refl}
-use lib.Dec.{ltb}
-use lib.ListN.{length, take, drop}
-use Rattle.definitions.specs.Lists.{every}
+use lib.ListN.{length}
 use Rattle.control.proofs.BindingLaws.{tuple-next, tuple-stop, tuple-done}
 use Rattle.control.proofs.tuple_fits.Goals as goal
 

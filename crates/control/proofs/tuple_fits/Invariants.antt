@@ -1,11 +1,8 @@
 use Prim.Native.Nat.{◌-◌, ◌≤◌}
-use native.Mathlib.Omega.{arith}
-use borrow.Author.Rules.{rules}
-use mathlib.Core.Path.{◌≡◌, refl}
+use mathlib.Core.Path.{◌≡◌}
 use lib.Dec.{ltb}
-use lib.ListN.{length, take, drop}
+use lib.ListN.{take, drop}
 use Rattle.definitions.specs.Lists.{every}
-use Rattle.control.proofs.BindingLaws.{tuple-next, tuple-stop, tuple-done}
 use Rattle.control.proofs.tuple_fits.Given as goal
 
 abbrev pub invariant-loop-k : goal.invariant-loop-k

@@ -6,7 +6,6 @@ use lib.Seq.{length-take-le}
 use Rattle.definitions.specs.Limits.{slot_width}
 use Rattle.table.proofs.TableLaws.{holds-few, begun-as}
 use Rattle.fields.proofs.SameLaws.{compared}
-use borrow.Author.Rules.{rules}
 use Rattle.entry.proofs.counted.Goals as goal
 
 pub overflow_mul-end : goal.overflow_mul-end

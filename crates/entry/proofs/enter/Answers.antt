@@ -1,8 +1,6 @@
 -- `entry::enter` meets its contract: one law for each way through. Assumes nothing.
-use borrow.Author.Tests.{not-true, not-false}
 use Rattle.entry.proofs.EntryLaws.{wrong-length, no-alphabet, tests-go-on}
 use Rattle.lengths.proofs.TableLaws.{fit-ranks, fit-both}
-use borrow.Author.Rules.{rules}
 use Rattle.entry.proofs.enter.Goals as goal
 
 pub returns-then-not-tables_fit : goal.returns-then-not-tables_fit

@@ -3,7 +3,6 @@ use native.Mathlib.Omega.{arith}
 use mathlib.Core.Path.{◌≡◌, sym, ◌∙◌}
 use mathlib.Core.List.{[]}
 use lib.ListN.{length}
-use borrow.Author.Tests.{not-true, not-false}
 use Rattle.definitions.specs.Limits.{variable_limit}
 use Rattle.table.proofs.TableLaws.{holds-few}
 use Rattle.entry.proofs.EntryLaws.{not-checked, no-terms, other-types, other-terms, other-store, other-control, all_found, schema-good, schema-hashed, script-good}

@@ -2,9 +2,6 @@
 use native.Mathlib.Omega.{arith}
 use Rattle.definitions.specs.Gathering.{askings}
 use Rattle.gathering.proofs.GatherLaws.{wrong-length, long-page, bad-page, read, too_many, gathers}
-use borrow.Author.Rules.{rules}
-use mathlib.Core.Path.{ap}
-use mathlib.Core.Bool.{not}
 use Rattle.gathering.proofs.gather.Goals as goal
 
 pub returns-then-schema-ne-SCHEMA_WIDTH : goal.returns-then-schema-ne-SCHEMA_WIDTH

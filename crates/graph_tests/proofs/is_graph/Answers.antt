@@ -1,6 +1,5 @@
 -- `graph_tests::is_graph` meets its contract, by what soundness proves of the codes of URIs.
 use native.Mathlib.Omega.{arith}
-use borrow.Author.Rules.{rules}
 use Rattle.graph_tests.proofs.GraphLaws.{graph-number, graph-past}
 use Rattle.graph_tests.proofs.is_graph.Goals as goal
 

@@ -1,6 +1,5 @@
 -- `graph_tests::is_listed` meets its contract.
 use native.Mathlib.Omega.{arith}
-use borrow.Author.Rules.{rules}
 use Rattle.graph_tests.proofs.GraphLaws.{past-count, within_count}
 use Rattle.graph_tests.proofs.is_listed.Goals as goal
 

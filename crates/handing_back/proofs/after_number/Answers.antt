@@ -1,5 +1,4 @@
 -- By what its callees ensure.
-use borrow.Author.Rules.{rules}
 use Rattle.handing_back.proofs.after_number.Goals as goal
 
 pub returns : goal.returns

@@ -1,11 +1,7 @@
 -- The loop: the end is still to be found from `at` on.
-use Prim.Native.Nat.{◌+◌, ◌-◌, ◌≤◌}
+use Prim.Native.Nat.{◌-◌}
 use native.Mathlib.Omega.{arith}
-use borrow.Author.Rules.{rules}
-use lib.ListN.{length}
-use Rattle.definitions.specs.Limits.{text_width, tag_width}
-use Rattle.definitions.specs.Printer.{entry_body, end_from}
-use Rattle.joined_input.proofs.EndLaws.{Ends, ends-start, ends-here, ends-out, ends_next, entry-none, entry-some, entry_zero}
+use Rattle.joined_input.proofs.EndLaws.{ends-start, ends-here, ends-out, ends_next, entry-none, entry-some, entry_zero}
 use Rattle.joined_input.proofs.schema_end.Goals as goal
 
 pub loop-at-init : goal.loop-at-init

@@ -1,14 +1,11 @@
 -- The loop: the end is still to be found from `at` on.
-use Prim.Native.Nat.{◌+◌, ◌-◌, ◌≤◌}
+use Prim.Native.Nat.{◌-◌}
 use native.Mathlib.Omega.{arith}
 use mathlib.Core.Path.{refl, sym, ◌∙◌}
-use borrow.Author.Rules.{rules}
-use lib.ListN.{length}
-use Rattle.definitions.specs.Limits.{text_width, tag_width}
 use Rattle.definitions.specs.Terms.{of_term_kind}
 use Rattle.definitions.specs.Bytes.{byte}
-use Rattle.definitions.specs.Printer.{term_body, terms_end}
-use Rattle.joined_input.proofs.EndLaws.{Ends, ends-start, ends-here, ends-out, ends_next, width-none, width_some, width_few}
+use Rattle.definitions.specs.Printer.{terms_end}
+use Rattle.joined_input.proofs.EndLaws.{ends-start, ends-here, ends-out, ends_next, width-none, width_some, width_few}
 use Rattle.joined_input.proofs.terms_end.Goals as goal
 
 pub loop-at-init : goal.loop-at-init

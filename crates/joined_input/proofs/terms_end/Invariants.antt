@@ -1,13 +1,9 @@
 use Prim.Native.Nat.{◌+◌, ◌-◌, ◌≤◌}
-use native.Mathlib.Omega.{arith}
-use mathlib.Core.Path.{refl, sym, ◌∙◌}
-use borrow.Author.Rules.{rules}
 use lib.ListN.{length}
 use Rattle.definitions.specs.Limits.{text_width, tag_width}
 use Rattle.definitions.specs.Terms.{of_term_kind}
-use Rattle.definitions.specs.Bytes.{byte}
 use Rattle.definitions.specs.Printer.{term_body, terms_end}
-use Rattle.joined_input.proofs.EndLaws.{Ends, ends-start, ends-here, ends-out, ends_next, width-none, width_some, width_few}
+use Rattle.joined_input.proofs.EndLaws.{Ends}
 use Rattle.joined_input.proofs.terms_end.Given as goal
 
 abbrev pub invariant-loop-at : goal.invariant-loop-at

@@ -2,14 +2,12 @@
 use Prim.Native.Nat.{ℕ}
 use native.Mathlib.Omega.{arith}
 use lib.ListN.{length-replicate}
-use borrow.Author.Tests.{not-true, not-false}
 use Rattle.definitions.specs.Limits.{term_table_width, quad_table_width}
 use Rattle.definitions.specs.Calls.{Lent}
 use Rattle.lengths.specs.Lent.{lent_of}
 use Rattle.lengths.proofs.TableLaws.{fit-ranks, fit-both}
-use Rattle.loading.proofs.LoadLaws.{other-ranks, load-refused, other_length, check-refused, table-width, load-accepted}
+use Rattle.loading.proofs.LoadLaws.{other-ranks, load-refused, other_length, check-refused, load-accepted}
 use mathlib.Core.Path.{refl}
-use borrow.Author.Rules.{rules}
 use Rattle.loading.proofs.load.Goals as goal
 
 pub returns-then-not-tables_fit : goal.returns-then-not-tables_fit

@@ -1,6 +1,5 @@
 -- `loading::refused` meets its contract.
 use mathlib.Core.Path.{ap}
-use borrow.Author.Rules.{rules}
 use Rattle.definitions.specs.declared.SavedRun.{SavedRun}
 use Rattle.definitions.specs.declared.LoadAnswer.TheVariants as LoadAnswers
 use Rattle.loading.proofs.refused.Goals as goal

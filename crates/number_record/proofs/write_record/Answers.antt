@@ -2,7 +2,6 @@
 use native.Mathlib.Omega.{arith}
 use mathlib.Core.Path.{ap, ◌∙◌}
 use mathlib.Core.List.{◌∷◌}
-use borrow.Author.Rules.{rules}
 use lib.ListN.{length-set}
 use Rattle.definitions.specs.Bytes.{little_bytes}
 use Rattle.laws.proofs.Writing.{put-none, put_one, put-part, put_all}

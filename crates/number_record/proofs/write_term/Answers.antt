@@ -1,6 +1,5 @@
 -- The record of an integer or a decimal, or the record as it was.
 use native.Mathlib.Omega.{arith}
-use borrow.Author.Rules.{rules}
 use Rattle.number_record.proofs.NumberRecord.{number-refused, integer-written, decimal-written}
 use Rattle.number_record.proofs.write_term.Goals as goal
 

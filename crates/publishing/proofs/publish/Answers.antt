@@ -5,7 +5,6 @@ use mathlib.Core.Path.{◌≡◌, sym, ◌∙◌}
 use mathlib.Core.List.{List, []}
 use mathlib.Core.Bool.{true}
 use borrow.Author.Rules.{rules}
-use borrow.Author.Tests.{not-true, not-false}
 use Rattle.definitions.specs.Limits.{term_limit}
 use Rattle.definitions.specs.Lists.{is_in}
 use Rattle.definitions.specs.Calls.{Lent, lengths_of, both_tables_fit}
@@ -41,7 +40,7 @@ is_listed-requires c =
     let keys : List ℕ = c.sound-entered.new.keys in
     let leasts : List ℕ = c.sound-entered.new.leasts in
     let passed : Passed lent_at c.args.saved c.sound-entered.result keys leasts =
-      has-passed lent_at c.args.saved fits (λ k. omega (arith, c.type_inv.table k)) (c.sound-entered.ensures []) c.if-entered-ne0.false in
+    has-passed lent_at c.args.saved fits (λ k. omega (arith, c.type_inv.table k)) (c.sound-entered.ensures []) c.if-entered-ne0.false in
     record { graphs_le_graph_limit = graphs-few passed; count_le_term_limit = terms-few passed }
 
 pub returns-then-not-is_listed : goal.returns-then-not-is_listed
@@ -51,7 +50,7 @@ returns-then-not-is_listed c =
     let keys : List ℕ = c.sound-entered.new.keys in
     let leasts : List ℕ = c.sound-entered.new.leasts in
     let passed : Passed lent_at c.args.saved c.sound-entered.result keys leasts =
-      has-passed lent_at c.args.saved fits (λ k. omega (arith, c.type_inv.table k)) (c.sound-entered.ensures []) c.if-entered-ne0.false in
+    has-passed lent_at c.args.saved fits (λ k. omega (arith, c.type_inv.table k)) (c.sound-entered.ensures []) c.if-entered-ne0.false in
     let w = passed in
     λ ranks. ranks-unread ranks [] _ _ _ _ _ _ _ _
     ∙ not-fetched lent_at c.args.saved c.args.graph c.args.out.now w.fits w.found w.passes
@@ -64,10 +63,10 @@ overflow_mul-first c =
     let keys : List ℕ = c.sound-entered.new.keys in
     let leasts : List ℕ = c.sound-entered.new.leasts in
     let passed : Passed lent_at c.args.saved c.sound-entered.result keys leasts =
-      has-passed lent_at c.args.saved fits (λ k. omega (arith, c.type_inv.table k)) (c.sound-entered.ensures []) c.if-entered-ne0.false in
+    has-passed lent_at c.args.saved fits (λ k. omega (arith, c.type_inv.table k)) (c.sound-entered.ensures []) c.if-entered-ne0.false in
     let small : c.args.graph < term_limit =
-      let b : c.args.graph < c.sound-entered.result.count = below-count _ _ _ c.is_listed.ensures c.if-not-is_listed.false in
-      omega (arith, b, terms-few passed) in
+    let b : c.args.graph < c.sound-entered.result.count = below-count _ _ _ c.is_listed.ensures c.if-not-is_listed.false in
+    omega (arith, b, terms-few passed) in
     omega (arith, small)
 
 pub overflow_add-last : goal.overflow_add-last
@@ -77,10 +76,10 @@ overflow_add-last c =
     let keys : List ℕ = c.sound-entered.new.keys in
     let leasts : List ℕ = c.sound-entered.new.leasts in
     let passed : Passed lent_at c.args.saved c.sound-entered.result keys leasts =
-      has-passed lent_at c.args.saved fits (λ k. omega (arith, c.type_inv.table k)) (c.sound-entered.ensures []) c.if-entered-ne0.false in
+    has-passed lent_at c.args.saved fits (λ k. omega (arith, c.type_inv.table k)) (c.sound-entered.ensures []) c.if-entered-ne0.false in
     let small : c.args.graph < term_limit =
-      let b : c.args.graph < c.sound-entered.result.count = below-count _ _ _ c.is_listed.ensures c.if-not-is_listed.false in
-      omega (arith, b, terms-few passed) in
+    let b : c.args.graph < c.sound-entered.result.count = below-count _ _ _ c.is_listed.ensures c.if-not-is_listed.false in
+    omega (arith, b, terms-few passed) in
     omega (arith, small)
 
 pub lower-low-requires : goal.lower-low-requires
@@ -90,7 +89,7 @@ lower-low-requires c =
     let keys : List ℕ = c.sound-entered.new.keys in
     let leasts : List ℕ = c.sound-entered.new.leasts in
     let passed : Passed lent_at c.args.saved c.sound-entered.result keys leasts =
-      has-passed lent_at c.args.saved fits (λ k. omega (arith, c.type_inv.table k)) (c.sound-entered.ensures []) c.if-entered-ne0.false in
+    has-passed lent_at c.args.saved fits (λ k. omega (arith, c.type_inv.table k)) (c.sound-entered.ensures []) c.if-entered-ne0.false in
     let w = passed in record { n_in_bounds = (w.finds.lent 0).stored.room; keys_value = (w.finds.lent 0).stored.rises }
 
 pub upper-high-requires : goal.upper-high-requires
@@ -100,7 +99,7 @@ upper-high-requires c =
     let keys : List ℕ = c.sound-entered.new.keys in
     let leasts : List ℕ = c.sound-entered.new.leasts in
     let passed : Passed lent_at c.args.saved c.sound-entered.result keys leasts =
-      has-passed lent_at c.args.saved fits (λ k. omega (arith, c.type_inv.table k)) (c.sound-entered.ensures []) c.if-entered-ne0.false in
+    has-passed lent_at c.args.saved fits (λ k. omega (arith, c.type_inv.table k)) (c.sound-entered.ensures []) c.if-entered-ne0.false in
     let w = passed in record { n_in_bounds = (w.finds.lent 0).stored.room; keys_value = (w.finds.lent 0).stored.rises }
 
 pub slice_bounds-publish_keys-count : goal.slice_bounds-publish_keys-count
@@ -110,9 +109,9 @@ slice_bounds-publish_keys-count c =
     let keys : List ℕ = c.sound-entered.new.keys in
     let leasts : List ℕ = c.sound-entered.new.leasts in
     let passed : Passed lent_at c.args.saved c.sound-entered.result keys leasts =
-      has-passed lent_at c.args.saved fits (λ k. omega (arith, c.type_inv.table k)) (c.sound-entered.ensures []) c.if-entered-ne0.false in
+    has-passed lent_at c.args.saved fits (λ k. omega (arith, c.type_inv.table k)) (c.sound-entered.ensures []) c.if-entered-ne0.false in
     let own : Stretch c.args.table.now keys c.args.graph c.lower-low.result c.upper-high.result passed.found.state.store =
-      graph-stretch passed c.args.graph c.lower-low.ensures.splits c.upper-high.ensures.splits in
+    graph-stretch passed c.args.graph c.lower-low.ensures.splits c.upper-high.ensures.splits in
     omega (arith, own.ordered)
 
 pub slice_bounds-keys-start : goal.slice_bounds-keys-start
@@ -122,9 +121,9 @@ slice_bounds-keys-start c =
     let keys : List ℕ = c.sound-entered.new.keys in
     let leasts : List ℕ = c.sound-entered.new.leasts in
     let passed : Passed lent_at c.args.saved c.sound-entered.result keys leasts =
-      has-passed lent_at c.args.saved fits (λ k. omega (arith, c.type_inv.table k)) (c.sound-entered.ensures []) c.if-entered-ne0.false in
+    has-passed lent_at c.args.saved fits (λ k. omega (arith, c.type_inv.table k)) (c.sound-entered.ensures []) c.if-entered-ne0.false in
     let own : Stretch c.args.table.now keys c.args.graph c.lower-low.result c.upper-high.result passed.found.state.store =
-      graph-stretch passed c.args.graph c.lower-low.ensures.splits c.upper-high.ensures.splits in
+    graph-stretch passed c.args.graph c.lower-low.ensures.splits c.upper-high.ensures.splits in
     omega (arith, own.ordered, own.within)
 
 pub slice_bounds-keys-end : goal.slice_bounds-keys-end
@@ -134,9 +133,9 @@ slice_bounds-keys-end c =
     let keys : List ℕ = c.sound-entered.new.keys in
     let leasts : List ℕ = c.sound-entered.new.leasts in
     let passed : Passed lent_at c.args.saved c.sound-entered.result keys leasts =
-      has-passed lent_at c.args.saved fits (λ k. omega (arith, c.type_inv.table k)) (c.sound-entered.ensures []) c.if-entered-ne0.false in
+    has-passed lent_at c.args.saved fits (λ k. omega (arith, c.type_inv.table k)) (c.sound-entered.ensures []) c.if-entered-ne0.false in
     let own : Stretch c.args.table.now keys c.args.graph c.lower-low.result c.upper-high.result passed.found.state.store =
-      graph-stretch passed c.args.graph c.lower-low.ensures.splits c.upper-high.ensures.splits in
+    graph-stretch passed c.args.graph c.lower-low.ensures.splits c.upper-high.ensures.splits in
     omega (arith, own.ordered, own.within)
 
 pub publish_keys-requires : goal.publish_keys-requires
@@ -146,9 +145,9 @@ publish_keys-requires c =
     let keys : List ℕ = c.sound-entered.new.keys in
     let leasts : List ℕ = c.sound-entered.new.leasts in
     let passed : Passed lent_at c.args.saved c.sound-entered.result keys leasts =
-      has-passed lent_at c.args.saved fits (λ k. omega (arith, c.type_inv.table k)) (c.sound-entered.ensures []) c.if-entered-ne0.false in
+    has-passed lent_at c.args.saved fits (λ k. omega (arith, c.type_inv.table k)) (c.sound-entered.ensures []) c.if-entered-ne0.false in
     let own : Stretch c.args.table.now keys c.args.graph c.lower-low.result c.upper-high.result passed.found.state.store =
-      graph-stretch passed c.args.graph c.lower-low.ensures.splits c.upper-high.ensures.splits in
+    graph-stretch passed c.args.graph c.lower-low.ensures.splits c.upper-high.ensures.splits in
     let w = own in record { keys_value = w.inside; keys_len_bound = w.few }
 
 pub returns : goal.returns
@@ -158,10 +157,10 @@ returns c =
     let keys : List ℕ = c.sound-entered.new.keys in
     let leasts : List ℕ = c.sound-entered.new.leasts in
     let passed : Passed lent_at c.args.saved c.sound-entered.result keys leasts =
-      has-passed lent_at c.args.saved fits (λ k. omega (arith, c.type_inv.table k)) (c.sound-entered.ensures []) c.if-entered-ne0.false in
+    has-passed lent_at c.args.saved fits (λ k. omega (arith, c.type_inv.table k)) (c.sound-entered.ensures []) c.if-entered-ne0.false in
     let listed : is_in c.args.graph passed.found.state.store.fetched ≡ true = sym (listed-is passed c.args.graph c.is_listed.ensures) ∙ c.if-not-is_listed.false in
     let own : Stretch c.args.table.now keys c.args.graph c.lower-low.result c.upper-high.result passed.found.state.store =
-      graph-stretch passed c.args.graph c.lower-low.ensures.splits c.upper-high.ensures.splits in
+    graph-stretch passed c.args.graph c.lower-low.ensures.splits c.upper-high.ensures.splits in
     let w = passed in
     λ ranks. ranks-unread ranks [] _ _ _ _ _ _ _ _
     ∙ (of-page lent_at c.args.saved c.args.graph c.args.out.now w.fits w.found w.passes listed own.page ∙ c.publish_keys.ensures)

@@ -1,6 +1,5 @@
 -- By the number: 0, or a refusal.
 use Rattle.reports.proofs.SavedLaws.{handed, kept}
-use borrow.Author.Rules.{rules}
 use Rattle.reports.proofs.hand_back.Goals as goal
 
 pub returns-then-number-eq0 : goal.returns-then-number-eq0

@@ -1,6 +1,5 @@
 -- The skipped count, or the report as it was.
 use mathlib.Core.Path.{ap, ◌∙◌}
-use borrow.Author.Rules.{rules}
 use Rattle.definitions.specs.Bytes.{little_bytes}
 use Rattle.reports.proofs.ReportLaws.{page-refused, taken}
 use Rattle.reports.proofs.write_page_report.Goals as goal

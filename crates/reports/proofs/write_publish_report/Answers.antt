@@ -1,6 +1,5 @@
 -- The length, or the report as it was.
 use mathlib.Core.Path.{ap, ◌∙◌}
-use borrow.Author.Rules.{rules}
 use Rattle.definitions.specs.Bytes.{little_bytes}
 use Rattle.reports.proofs.ReportLaws.{publish-refused, publish-told}
 use Rattle.reports.proofs.write_publish_report.Goals as goal

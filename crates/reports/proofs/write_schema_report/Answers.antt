@@ -1,7 +1,6 @@
 -- Both numbers are put one after the other, or the report is as it was.
 use native.Mathlib.Omega.{arith}
 use mathlib.Core.Path.{ap, ◌∙◌}
-use borrow.Author.Rules.{rules}
 use Rattle.definitions.specs.Bytes.{little_bytes}
 use Rattle.laws.proofs.Writing.{put-none, put-part, put_all}
 use Rattle.reports.proofs.ReportLaws.{schema-refused, schema-told}

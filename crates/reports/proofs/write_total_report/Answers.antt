@@ -1,6 +1,5 @@
 -- The total, or the report as it was.
 use mathlib.Core.Path.{ap, ◌∙◌}
-use borrow.Author.Rules.{rules}
 use Rattle.definitions.specs.Bytes.{little_bytes}
 use Rattle.reports.proofs.ReportLaws.{total-refused, total-told}
 use Rattle.reports.proofs.write_total_report.Goals as goal

@@ -1,7 +1,6 @@
 -- Steps, state, zero and graph are put one after the other.
 use native.Mathlib.Omega.{arith}
 use mathlib.Core.Path.{ap, ◌∙◌}
-use borrow.Author.Rules.{rules}
 use lib.ListN.{length-set}
 use Rattle.definitions.specs.Bytes.{little_bytes}
 use Rattle.laws.proofs.Writing.{put-none, put_one, put-part, put_all, two-between}

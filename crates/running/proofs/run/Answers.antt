@@ -4,7 +4,6 @@ use mathlib.Core.Path.{◌≡◌, refl, sym, ap, ◌∙◌}
 use lib.IntN.{ℤ}
 use mir.Facts.{to_z-of_z}
 use lib.ListN.{length}
-use borrow.Author.Tests.{not-true, not-false}
 use Rattle.definitions.specs.Limits.{variable_limit, graph_limit, depth_limit}
 use Rattle.definitions.specs.Bytes.{signed}
 use Rattle.definitions.specs.Calls.{Lent, run_call}

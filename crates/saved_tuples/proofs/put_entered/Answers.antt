@@ -2,7 +2,6 @@
 use native.Mathlib.Omega.{arith}
 use mathlib.Core.Path.{◌≡◌, refl, sym, ◌∙◌}
 use lib.ListN.{length}
-use borrow.Author.Tests.{not-true, not-false}
 use Rattle.definitions.specs.Limits.{variable_limit, graph_limit, depth_limit}
 use Rattle.definitions.specs.Calls.{Lent, lengths_of, lengths_fit}
 use Rattle.laws.proofs.Tests.{is_true}
@@ -14,8 +13,6 @@ use Rattle.entry.proofs.PassedLaws.{length-mapped, stack-low, script-short}
 use Rattle.output.proofs.WritingLaws.{written_as}
 use Rattle.saved_tuples.proofs.EnteringLaws.{no-saved, not_in, bad-now, lends-now, lines_now}
 use borrow.Author.Rules.{rules}
-use mathlib.Core.Path.{ap}
-use mathlib.Core.Bool.{not}
 use Rattle.saved_tuples.proofs.put_entered.Goals as goal
 
 pub read_saved-read-requires : goal.read_saved-read-requires

@@ -3,7 +3,6 @@ use native.Mathlib.Omega.{arith}
 use Rattle.definitions.specs.Ascii.{ascii}
 use Rattle.output.proofs.WritingLaws.{written_as, written_then}
 use Rattle.tuple_lines.proofs.LineLaws.{refused-line}
-use borrow.Author.Rules.{rules}
 use Rattle.tuple_lines.proofs.put_refused.Goals as goal
 
 pub returns : goal.returns

@@ -4,9 +4,6 @@ use Rattle.definitions.specs.Printer.{line}
 use Rattle.definitions.specs.Ascii.{ascii}
 use Rattle.output.proofs.WritingLaws.{written_as, written_then}
 use Rattle.tuple_lines.proofs.LineLaws.{bad-line, good-line}
-use borrow.Author.Rules.{rules}
-use mathlib.Core.Path.{ap}
-use mathlib.Core.Bool.{not}
 use Rattle.tuple_lines.proofs.put_tried.Goals as goal
 
 pub returns-then-not-tried : goal.returns-then-not-tried

@@ -3,7 +3,6 @@ use native.Mathlib.Omega.{arith}
 use Rattle.definitions.specs.Ascii.{ascii}
 use Rattle.output.proofs.WritingLaws.{written_as}
 use Rattle.tuple_lines.proofs.LineLaws.{truth-text}
-use borrow.Author.Rules.{rules}
 use Rattle.tuple_lines.proofs.put_truth.Goals as goal
 
 pub returns-then-holds : goal.returns-then-holds

@@ -7,7 +7,6 @@ use Rattle.definitions.specs.declared.SavedItem.{SavedItem}
 use Rattle.acts.proofs.TopLaws.{first-item, height-low, item-inside}
 use Rattle.output.proofs.WritingLaws.{written_as}
 use Rattle.tuples.proofs.TupleLaws.{none_here, other-here, block_here}
-use borrow.Author.Rules.{rules}
 use Rattle.tuples.proofs.put_lines.Goals as goal
 
 pub returns-then-run-eq0 : goal.returns-then-run-eq0

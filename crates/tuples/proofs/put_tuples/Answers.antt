@@ -1,13 +1,7 @@
 -- The loop: the lines of the tuples before `k` are written.
-use Prim.Native.Nat.{◌+◌, ◌-◌, ◌*◌, ◌/◌, ◌≤◌, ◌<◌}
+use Prim.Native.Nat.{◌+◌, ◌-◌, ◌<◌}
 use native.Mathlib.Omega.{arith}
-use mathlib.Core.Path.{◌≡◌, refl}
-use lib.ListN.{length}
-use Rattle.acts.specs.Steps.{Top}
-use Rattle.answers.specs.Lends.{Lends}
-use Rattle.evaluator_input.specs.Input.{tuple_width}
-use Rattle.tuple_lines.specs.TriedLine.{line_room}
-use Rattle.tuples.specs.Lines.{TuplesWritten}
+use mathlib.Core.Path.{refl}
 use Rattle.tuples.proofs.TupleLaws.{tuples-none, tuples-next, tuples-all}
 use borrow.Author.Rules.{rules}
 use Rattle.tuples.proofs.put_tuples.Goals as goal

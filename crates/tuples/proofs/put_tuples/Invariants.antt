@@ -1,14 +1,11 @@
-use Prim.Native.Nat.{◌+◌, ◌-◌, ◌*◌, ◌/◌, ◌≤◌, ◌<◌}
-use native.Mathlib.Omega.{arith}
-use mathlib.Core.Path.{◌≡◌, refl}
+use Prim.Native.Nat.{◌-◌, ◌*◌, ◌/◌, ◌≤◌}
+use mathlib.Core.Path.{◌≡◌}
 use lib.ListN.{length}
 use Rattle.acts.specs.Steps.{Top}
 use Rattle.answers.specs.Lends.{Lends}
 use Rattle.evaluator_input.specs.Input.{tuple_width}
 use Rattle.tuple_lines.specs.TriedLine.{line_room}
 use Rattle.tuples.specs.Lines.{TuplesWritten}
-use Rattle.tuples.proofs.TupleLaws.{tuples-none, tuples-next, tuples-all}
-use borrow.Author.Rules.{rules}
 use Rattle.tuples.proofs.put_tuples.Given as goal
 
 abbrev pub invariant-loop-k : goal.invariant-loop-k

@@ -1,10 +1,7 @@
 use Prim.Native.Nat.{◌+◌, ◌-◌, ◌≤◌}
-use native.Mathlib.Omega.{arith}
 use mathlib.Core.Path.{◌≡◌}
-use borrow.Author.Rules.{rules}
 use lib.ListN.{length, drop}
 use Rattle.type_lines.specs.Lines.{bound_ones}
-use Rattle.type_lines.proofs.Texts.{ones-next, ones_none}
 use Rattle.type_lines.proofs.bound_ones.Given as goal
 
 abbrev pub invariant-loop-i : goal.invariant-loop-i

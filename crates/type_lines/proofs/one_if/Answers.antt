@@ -1,7 +1,6 @@
 -- By the code: 0, or another.
 use native.Mathlib.Omega.{arith}
 use Rattle.type_lines.proofs.Texts.{counts-one}
-use borrow.Author.Rules.{rules}
 use Rattle.type_lines.proofs.one_if.Goals as goal
 
 pub returns-else-code-eq0 : goal.returns-else-code-eq0

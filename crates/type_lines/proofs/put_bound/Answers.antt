@@ -2,7 +2,6 @@
 use native.Mathlib.Omega.{arith}
 use Rattle.output.proofs.WritingLaws.{written_none, written_as}
 use Rattle.type_lines.proofs.Texts.{no_line, a-line}
-use borrow.Author.Rules.{rules}
 use Rattle.type_lines.proofs.put_bound.Goals as goal
 
 pub returns-then-code-eq0 : goal.returns-then-code-eq0

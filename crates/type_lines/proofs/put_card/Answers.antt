@@ -3,7 +3,6 @@ use native.Mathlib.Omega.{arith}
 use Rattle.definitions.specs.Ascii.{ascii}
 use Rattle.output.proofs.WritingLaws.{written_as, written_then}
 use Rattle.type_lines.proofs.Texts.{refused-text, accepted-text}
-use borrow.Author.Rules.{rules}
 use Rattle.type_lines.proofs.put_card.Goals as goal
 
 pub returns-then-refusal-ne0 : goal.returns-then-refusal-ne0

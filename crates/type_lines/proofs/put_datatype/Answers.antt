@@ -5,7 +5,6 @@ use Rattle.definitions.specs.Ascii.{ascii}
 use Rattle.type_lines.specs.Lines.{datatype_text}
 use Rattle.output.proofs.WritingLaws.{written_none, written_as}
 use Rattle.type_lines.proofs.Texts.{no-datatype}
-use borrow.Author.Rules.{rules}
 use Rattle.type_lines.proofs.put_datatype.Goals as goal
 
 pub returns-in-1 : goal.returns-in-1

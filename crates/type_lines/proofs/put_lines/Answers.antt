@@ -1,11 +1,8 @@
 -- The loop: the lines of the variables before `i` are written.
-use Prim.Native.Nat.{◌+◌, ◌-◌, ◌*◌, ◌≤◌}
+use Prim.Native.Nat.{◌-◌}
 use native.Mathlib.Omega.{arith}
-use mathlib.Core.Path.{◌≡◌, refl}
+use mathlib.Core.Path.{refl}
 use borrow.Author.Rules.{rules}
-use lib.ListN.{length, take}
-use Rattle.output.specs.Written.{Written}
-use Rattle.type_lines.specs.Lines.{line_room, bound_lines}
 use Rattle.output.proofs.WritingLaws.{written_none, written_as, written_then}
 use Rattle.type_lines.proofs.Texts.{lines_none, lines_next, lines-all}
 use Rattle.type_lines.proofs.put_lines.Goals as goal

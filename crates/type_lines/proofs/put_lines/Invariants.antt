@@ -1,12 +1,8 @@
 use Prim.Native.Nat.{◌+◌, ◌-◌, ◌*◌, ◌≤◌}
-use native.Mathlib.Omega.{arith}
-use mathlib.Core.Path.{◌≡◌, refl}
-use borrow.Author.Rules.{rules}
+use mathlib.Core.Path.{◌≡◌}
 use lib.ListN.{length, take}
 use Rattle.output.specs.Written.{Written}
 use Rattle.type_lines.specs.Lines.{line_room, bound_lines}
-use Rattle.output.proofs.WritingLaws.{written_none, written_as, written_then}
-use Rattle.type_lines.proofs.Texts.{lines_none, lines_next, lines-all}
 use Rattle.type_lines.proofs.put_lines.Given as goal
 
 abbrev pub invariant-loop-i : goal.invariant-loop-i

@@ -2,7 +2,6 @@
 use native.Mathlib.Omega.{arith}
 use Rattle.output.proofs.WritingLaws.{written_as, written_then}
 use Rattle.type_lines.proofs.Texts.{one-digit, two_digits, three-digits}
-use borrow.Author.Rules.{rules}
 use Rattle.type_lines.proofs.put_number.Goals as goal
 
 pub returns-then-n-lt10 : goal.returns-then-n-lt10

@@ -3,7 +3,6 @@ use native.Mathlib.Omega.{arith}
 use Rattle.definitions.specs.Ascii.{ascii}
 use Rattle.output.proofs.WritingLaws.{written_as, written_then}
 use Rattle.type_lines.proofs.Texts.{line-text}
-use borrow.Author.Rules.{rules}
 use Rattle.type_lines.proofs.put_variable.Goals as goal
 
 pub returns : goal.returns

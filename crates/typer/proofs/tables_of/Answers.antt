@@ -1,7 +1,6 @@
 -- `typer::tables_of` meets its contract: what the walk noted. Assumes nothing.
 use Rattle.walks.proofs.RootLaws.{whole-loads}
 use Rattle.typer.proofs.TyperLaws.{fresh-joined, tables-noted}
-use borrow.Author.Rules.{rules}
 use Rattle.typer.proofs.tables_of.Goals as goal
 
 pub type_script-walked-requires : goal.type_script-walked-requires

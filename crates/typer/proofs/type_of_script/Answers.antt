@@ -1,6 +1,5 @@
 -- `typer::type_of_script` meets its contract: its tables, read off. Assumes nothing.
 use Rattle.typer.proofs.TyperLaws.{typed}
-use borrow.Author.Rules.{rules}
 use Rattle.typer.proofs.type_of_script.Goals as goal
 
 pub returns : goal.returns

@@ -1,6 +1,5 @@
 -- `typer::work_out` meets its contract: the script's own written types. Assumes nothing.
 use Rattle.typer.proofs.TyperLaws.{typed-as-written}
-use borrow.Author.Rules.{rules}
 use Rattle.typer.proofs.work_out.Goals as goal
 
 pub returns : goal.returns

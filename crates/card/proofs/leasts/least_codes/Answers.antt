@@ -1,14 +1,9 @@
 -- `card::leasts::least_codes` meets its contract. The loop keeps the codes of the terms passed in front, and what was there after them.
-use Prim.Native.Nat.{◌≤◌, ◌-◌}
+use Prim.Native.Nat.{◌-◌}
 use native.Mathlib.Omega.{arith}
-use mathlib.Core.List.{◌++◌}
-use mathlib.Core.Path.{◌≡◌, refl}
-use borrow.Author.Rules.{rules}
-use lib.ListN.{length, take, drop, length-set}
-use Rattle.definitions.specs.Terms.{read_schema}
-use Rattle.definitions.specs.Saved.{terms_in}
+use mathlib.Core.Path.{refl}
+use lib.ListN.{length-set}
 use Rattle.table.proofs.TableLaws.{holds-few, slot-good}
-use Rattle.card.specs.Leasts.{least_codes}
 use Rattle.card.proofs.LeastLaws.{least_first, least-next, least-done}
 use Rattle.card.proofs.leasts.least_codes.Goals as goal
 

@@ -1,7 +1,6 @@
 -- `card::refusals::check_card` meets its contract.
 use Rattle.card.proofs.CodedLaws.{codes-fit, sorts-length, script-reads}
 use Rattle.card.proofs.CheckLaws.{refused-value, no_tables, read-refused, types-refused, types-found}
-use borrow.Author.Rules.{rules}
 use Rattle.card.proofs.refusals.check_card.Goals as goal
 
 pub returns-then-ready-ne0 : goal.returns-then-ready-ne0

@@ -43,4 +43,4 @@ returns c =
     let same = listed_same (terms-good _ _ c.args.script.now e c.if-records-ne0.false) c.if-n-gt-TERM_LIMIT.false
     (c.list_terms-listed.ensures.lists (listed-none _ _ c.args.script.now e c.if-records-ne0.false (ap (λ (l : Listed). l.refusal) c.list_terms-listed.ensures.value)) c.if-n-gt-TERM_LIMIT.false) in
     let whole = ready _ _ c.args.script.now e c.if-records-ne0.false (c.add_properties.ensures.0 ∙ listed-so _ added_of same) (c.add_properties.ensures.1 ∙ listed-so _ table_of same) c.in-Count.is
-        c.script_refusal.ensures _ (c.records_refusal-records.ensures.hashed_entries c.if-records-ne0.false) in record { refusal_value = whole.0; ready_of = whole.1 }
+    c.script_refusal.ensures _ (c.records_refusal-records.ensures.hashed_entries c.if-records-ne0.false) in record { refusal_value = whole.0; ready_of = whole.1 }

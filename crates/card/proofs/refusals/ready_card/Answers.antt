@@ -2,7 +2,6 @@
 use native.Mathlib.Omega.{arith}
 use mathlib.Core.Path.{refl}
 use Rattle.card.proofs.CodedLaws.{not-coded, holds, schema-reads, schema-hashed, leasts-room, coded}
-use borrow.Author.Rules.{rules}
 use Rattle.card.proofs.refusals.ready_card.Goals as goal
 
 pub returns-then-ready-ne0 : goal.returns-then-ready-ne0

@@ -1,10 +1,8 @@
 -- `card::refusals::records_refusal` meets its contract.
 use native.Mathlib.Omega.{arith}
 use mathlib.Core.Path.{sym, ◌∙◌}
-use borrow.Author.Tests.{not-true, not-false}
 use Rattle.table.proofs.CountLaws.{counted-some}
 use Rattle.card.proofs.CardLaws.{two-three, four, five, all_pass}
-use borrow.Author.Rules.{rules}
 use Rattle.card.proofs.refusals.records_refusal.Goals as goal
 
 pub returns-then-first-ne0 : goal.returns-then-first-ne0

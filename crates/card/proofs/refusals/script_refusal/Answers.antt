@@ -1,8 +1,6 @@
 -- `card::refusals::script_refusal` meets its contract.
 use mathlib.Core.Path.{sym, ◌∙◌}
-use borrow.Author.Tests.{not-false}
 use Rattle.card.proofs.ScriptLaws.{many-entries, long-script, malformed, out-of-scope, script-passes}
-use borrow.Author.Rules.{rules}
 use mathlib.Core.Path.{ap}
 use mathlib.Core.Bool.{not}
 use Rattle.card.proofs.refusals.script_refusal.Goals as goal

@@ -1,7 +1,6 @@
 -- `card_calls::suggest::suggest` meets its contract.
 use Rattle.card.proofs.CodedLaws.{codes-fit, sorts-length, script-reads}
 use Rattle.card_calls.proofs.SuggestLaws.{suggest-refused, suggest-told}
-use borrow.Author.Rules.{rules}
 use Rattle.card_calls.proofs.suggest.suggest.Goals as goal
 
 pub returns-then-ready-ne0 : goal.returns-then-ready-ne0

@@ -1,7 +1,6 @@
 -- `card_calls::total::total` meets its contract.
 use native.Mathlib.Omega.{arith}
 use Rattle.card_calls.proofs.TotalLaws.{total-refused, reads, total-small, total-told}
-use borrow.Author.Rules.{rules}
 use Rattle.card_calls.proofs.total.total.Goals as goal
 
 pub returns-then-ready-ne0 : goal.returns-then-ready-ne0

@@ -1,7 +1,6 @@
 -- `cases::made::date_time` meets its contract, by the laws of MadeLaws.
 use Rattle.definitions.specs.Terms.{within_limits}
 use Rattle.cases.proofs.MadeLaws.{time-good, time-made, time-other}
-use borrow.Author.Rules.{rules}
 use Rattle.cases.proofs.made.date_time.Goals as goal
 
 pub now_value-requires : goal.now_value-requires

@@ -1,6 +1,5 @@
 -- `cases::made::decimal` meets its contract, by the laws of MadeLaws.
 use Rattle.cases.proofs.MadeLaws.{decimal-made}
-use borrow.Author.Rules.{rules}
 use Rattle.cases.proofs.made.decimal.Goals as goal
 
 pub returns : goal.returns

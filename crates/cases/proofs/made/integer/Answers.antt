@@ -1,6 +1,5 @@
 -- `cases::made::integer` meets its contract, by the laws of MadeLaws.
 use Rattle.cases.proofs.MadeLaws.{integer-made}
-use borrow.Author.Rules.{rules}
 use Rattle.cases.proofs.made.integer.Goals as goal
 
 pub returns : goal.returns

@@ -1,5 +1,4 @@
 -- `cases::made::string` meets its contract, by the contracts of the fields.
-use borrow.Author.Rules.{rules}
 use Rattle.cases.proofs.made.string.Goals as goal
 
 pub returns : goal.returns

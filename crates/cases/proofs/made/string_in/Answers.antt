@@ -1,7 +1,6 @@
 -- `cases::made::string_in` meets its contract, by the laws of MadeLaws.
 use native.Mathlib.Omega.{arith}
 use Rattle.cases.proofs.MadeLaws.{bad-tag, bad-text, string-made}
-use borrow.Author.Rules.{rules}
 use mathlib.Core.Path.{ap}
 use mathlib.Core.Bool.{not}
 use Rattle.cases.proofs.made.string_in.Goals as goal

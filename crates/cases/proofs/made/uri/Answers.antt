@@ -1,5 +1,4 @@
 -- `cases::made::uri` meets its contract, by the contract of the field.
-use borrow.Author.Rules.{rules}
 use Rattle.cases.proofs.made.uri.Goals as goal
 
 pub returns : goal.returns

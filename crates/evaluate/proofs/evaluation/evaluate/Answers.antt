@@ -4,7 +4,6 @@ use Rattle.definitions.specs.Ascii.{ascii}
 use Rattle.definitions.specs.Printer.{line}
 use Rattle.output.proofs.WritingLaws.{written_as}
 use Rattle.evaluate.proofs.EvaluationLaws.{too_long, cut_off, whole-short, whole-uncut}
-use borrow.Author.Rules.{rules}
 use Rattle.evaluate.proofs.evaluation.evaluate.Goals as goal
 
 pub put_whole-requires : goal.put_whole-requires

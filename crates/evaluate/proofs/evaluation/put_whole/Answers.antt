@@ -6,7 +6,6 @@ use Rattle.definitions.specs.Limits.{number_width, term_table_width, quad_table_
 use Rattle.output.proofs.WritingLaws.{written_as}
 use Rattle.evaluator_input.specs.Input.{head_width}
 use Rattle.evaluate.proofs.EvaluationLaws.{begun, lent_fits, saved-long, lines_fit, parts_are}
-use borrow.Author.Rules.{rules}
 use Rattle.evaluate.proofs.evaluation.put_whole.Goals as goal
 
 pub starts_in-parts-requires : goal.starts_in-parts-requires

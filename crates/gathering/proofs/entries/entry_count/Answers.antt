@@ -1,8 +1,7 @@
 -- `gathering::entries::entry_count` meets its contract. Those before the place are counted.
-use Prim.Native.Nat.{◌-◌, ◌≤◌}
+use Prim.Native.Nat.{◌-◌}
 use native.Mathlib.Omega.{arith}
-use Rattle.gathering.proofs.EntryLaws.{Counting, counting-first, counting-next, counting-end}
-use borrow.Author.Rules.{rules}
+use Rattle.gathering.proofs.EntryLaws.{counting-first, counting-next, counting-end}
 use Rattle.gathering.proofs.entries.entry_count.Goals as goal
 
 pub loop-i-init : goal.loop-i-init

@@ -1,7 +1,5 @@
 use Prim.Native.Nat.{◌-◌, ◌≤◌}
-use native.Mathlib.Omega.{arith}
-use Rattle.gathering.proofs.EntryLaws.{Counting, counting-first, counting-next, counting-end}
-use borrow.Author.Rules.{rules}
+use Rattle.gathering.proofs.EntryLaws.{Counting}
 use Rattle.gathering.proofs.entries.entry_count.Given as goal
 
 abbrev pub invariant-loop-i : goal.invariant-loop-i

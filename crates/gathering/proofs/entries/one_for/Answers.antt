@@ -1,7 +1,6 @@
 -- `gathering::entries::one_for` meets its contract.
 use native.Mathlib.Omega.{arith}
 use Rattle.gathering.proofs.EntryLaws.{one_none, one-some}
-use borrow.Author.Rules.{rules}
 use Rattle.gathering.proofs.entries.one_for.Goals as goal
 
 pub returns-then-datatype-eq0 : goal.returns-then-datatype-eq0

@@ -1,14 +1,7 @@
 -- `gathering::entries::put_entries` meets its contract. The entries of those before the place are written.
-use Prim.Native.Nat.{ℕ, ◌-◌, ◌≤◌}
+use Prim.Native.Nat.{◌-◌}
 use native.Mathlib.Omega.{arith}
-use mathlib.Core.List.{List}
-use mathlib.Core.Path.{◌≡◌}
-use lib.ListN.{length}
-use Rattle.definitions.specs.Limits.{schema_width}
-use Rattle.definitions.specs.Gathering.{Asking}
-use Rattle.subjects.specs.Noted.{Noted}
-use Rattle.gathering.proofs.EntryLaws.{Putting, putting-first, putting-room, putting-next, putting-end}
-use borrow.Author.Rules.{rules}
+use Rattle.gathering.proofs.EntryLaws.{putting-first, putting-room, putting-next, putting-end}
 use Rattle.gathering.proofs.entries.put_entries.Goals as goal
 
 pub loop-i-init : goal.loop-i-init

@@ -1,13 +1,11 @@
-use Prim.Native.Nat.{ℕ, ◌-◌, ◌≤◌}
-use native.Mathlib.Omega.{arith}
+use Prim.Native.Nat.{◌-◌, ◌≤◌}
 use mathlib.Core.List.{List}
 use mathlib.Core.Path.{◌≡◌}
 use lib.ListN.{length}
 use Rattle.definitions.specs.Limits.{schema_width}
 use Rattle.definitions.specs.Gathering.{Asking}
 use Rattle.subjects.specs.Noted.{Noted}
-use Rattle.gathering.proofs.EntryLaws.{Putting, putting-first, putting-room, putting-next, putting-end}
-use borrow.Author.Rules.{rules}
+use Rattle.gathering.proofs.EntryLaws.{Putting}
 use Rattle.gathering.proofs.entries.put_entries.Given as goal
 
 abbrev pub invariant-loop-i : goal.invariant-loop-i

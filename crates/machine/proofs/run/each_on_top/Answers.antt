@@ -5,7 +5,6 @@ use Rattle.acts.specs.Steps.{on_top}
 use Rattle.acts.proofs.StepLaws.{blocked}
 use Rattle.acts.proofs.TopLaws.{first-item, height-low, item-inside}
 use Rattle.machine.proofs.RunLaws.{none_each, not-each, each-mode}
-use borrow.Author.Rules.{rules}
 use Rattle.machine.proofs.run.each_on_top.Goals as goal
 
 pub returns-then-run-eq0 : goal.returns-then-run-eq0

@@ -3,7 +3,6 @@ use borrow.Author.Tests.{eq-eqb, ne_eqb}
 use Rattle.acts.specs.Steps.{on_top}
 use Rattle.acts.proofs.StepLaws.{blocked}
 use Rattle.machine.proofs.RunLaws.{each-acts, once-acts}
-use borrow.Author.Rules.{rules}
 use Rattle.machine.proofs.run.enter_block.Goals as goal
 
 pub block_body-body-requires : goal.block_body-body-requires

@@ -1,6 +1,5 @@
 use mathlib.Core.Path.{sym, ◌∙◌}
 use Rattle.machine.proofs.RunLaws.{look-each, look-steps}
-use borrow.Author.Rules.{rules}
 use Rattle.machine.proofs.run.look.Goals as goal
 
 pub returns-then-each_on_top : goal.returns-then-each_on_top

@@ -1,6 +1,5 @@
 -- `machine::run::run_steps` meets its contract.
 use native.Mathlib.Omega.{arith}
-use borrow.Author.Rules.{rules}
 use Rattle.machine.proofs.run.run_steps.Goals as goal
 
 pub fill_ends-requires : goal.fill_ends-requires

@@ -6,7 +6,6 @@ use Rattle.store.specs.Stack.{top_of}
 use Rattle.acts.specs.Steps.{Standing, Top, OnTop, on_top}
 use Rattle.acts.proofs.TopLaws.{first-item, height-low, item-inside, is_block}
 use Rattle.machine.proofs.RunLaws.{step-acts, step-ends, graphs-low}
-use borrow.Author.Rules.{rules}
 use Rattle.machine.proofs.run.step.Goals as goal
 
 pub returns-then-run-eq0 : goal.returns-then-run-eq0

@@ -1,10 +1,8 @@
-use borrow.Author.Rules.{rules}
 use Prim.Native.Nat.{◌-◌}
 use native.Mathlib.Omega.{arith}
 use mathlib.Core.Path.{refl}
 use borrow.Author.Tests.{not-true, not-false}
-use Rattle.answers.specs.Lends.{LendsStore}
-use Rattle.machine.proofs.RunLaws.{Going, sets-out, stored-now, steps_on, stops-here, spent-here}
+use Rattle.machine.proofs.RunLaws.{sets-out, stored-now, steps_on, stops-here, spent-here}
 use Rattle.machine.proofs.run.take_steps.Goals as goal
 
 pub loop-steps-init : goal.loop-steps-init

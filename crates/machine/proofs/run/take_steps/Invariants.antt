@@ -1,10 +1,6 @@
-use borrow.Author.Rules.{rules}
 use Prim.Native.Nat.{◌-◌}
-use native.Mathlib.Omega.{arith}
-use mathlib.Core.Path.{refl}
-use borrow.Author.Tests.{not-true, not-false}
 use Rattle.answers.specs.Lends.{LendsStore}
-use Rattle.machine.proofs.RunLaws.{Going, sets-out, stored-now, steps_on, stops-here, spent-here}
+use Rattle.machine.proofs.RunLaws.{Going}
 use Rattle.machine.proofs.run.take_steps.Given as goal
 
 abbrev pub invariant-loop-steps : goal.invariant-loop-steps

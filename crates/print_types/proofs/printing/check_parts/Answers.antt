@@ -4,7 +4,6 @@ use Rattle.definitions.specs.Result.{Result}
 use Rattle.definitions.specs.Calls.{Checked}
 use Rattle.card.specs.Check.{card_of}
 use Rattle.print_types.proofs.Printed.{parts-checked}
-use borrow.Author.Rules.{rules}
 use Rattle.print_types.proofs.printing.check_parts.Goals as goal
 
 pub returns : goal.returns

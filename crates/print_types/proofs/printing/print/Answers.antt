@@ -2,7 +2,6 @@
 use native.Mathlib.Omega.{arith}
 use Rattle.output.proofs.WritingLaws.{written_as}
 use Rattle.print_types.proofs.Printed.{too_long, card-printed}
-use borrow.Author.Rules.{rules}
 use Rattle.print_types.proofs.printing.print.Goals as goal
 
 pub returns-then-input-gt-PRINTER_LIMIT : goal.returns-then-input-gt-PRINTER_LIMIT

@@ -1,7 +1,5 @@
 use Prim.Native.Nat.{◌≤◌, ◌-◌}
-use native.Mathlib.Omega.{arith}
 use lib.ListN.{length}
-use borrow.Author.Rules.{rules}
 use Rattle.roster.proofs.comparisons.neighbours.Given as goal
 
 abbrev pub invariant-loop-i : goal.invariant-loop-i

@@ -2,7 +2,6 @@
 use mathlib.Core.Path.{◌∙◌, ap}
 use Rattle.definitions.specs.Truth.{is_true}
 use Rattle.roster.specs.Signs.{sign_of}
-use borrow.Author.Rules.{rules}
 use Rattle.roster.proofs.comparisons.relation.Goals as goal
 
 pub returns : goal.returns

@@ -1,8 +1,6 @@
 -- `roster::comparisons::string_rows` meets its contract, by arithmetic: a word ends within the rows, and the next begins after it.
-use Prim.Native.Nat.{◌-◌, ◌≤◌}
+use Prim.Native.Nat.{◌-◌}
 use native.Mathlib.Omega.{arith}
-use lib.ListN.{length}
-use borrow.Author.Rules.{rules}
 use Rattle.roster.proofs.comparisons.string_rows.Goals as goal
 
 pub loop-at-smaller : goal.loop-at-smaller

@@ -1,7 +1,5 @@
 use Prim.Native.Nat.{◌-◌, ◌≤◌}
-use native.Mathlib.Omega.{arith}
 use lib.ListN.{length}
-use borrow.Author.Rules.{rules}
 use Rattle.roster.proofs.comparisons.string_rows.Given as goal
 
 abbrev pub invariant-loop-at : goal.invariant-loop-at

@@ -1,6 +1,5 @@
 -- `roster::order::less` meets its contract.
 use Rattle.definitions.specs.Alphabet.{built_in}
-use borrow.Author.Rules.{rules}
 use Rattle.roster.proofs.order.less.Goals as goal
 
 pub returns : goal.returns

@@ -1,11 +1,7 @@
 -- `search::answer::cleared` meets its contract. The loop's invariant: the variables from j on are still to clear. Assumes nothing.
-use mathlib.Core.Path.{◌≡◌}
 use Prim.Native.Nat.{◌-◌}
 use native.Mathlib.Omega.{arith}
 use borrow.Author.Rules.{rules}
-use lib.ListN.{length}
-use Rattle.query.specs.Codes.{bindings_of}
-use Rattle.search.specs.Finding.{clear, numbers_from}
 use Rattle.search.proofs.AnswerLaws.{clear-start, clear-turn, clear-ends}
 use Rattle.search.proofs.answer.cleared.Goals as goal
 

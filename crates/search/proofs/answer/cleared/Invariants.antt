@@ -1,11 +1,8 @@
 use mathlib.Core.Path.{◌≡◌}
 use Prim.Native.Nat.{◌-◌}
-use native.Mathlib.Omega.{arith}
-use borrow.Author.Rules.{rules}
 use lib.ListN.{length}
 use Rattle.query.specs.Codes.{bindings_of}
 use Rattle.search.specs.Finding.{clear, numbers_from}
-use Rattle.search.proofs.AnswerLaws.{clear-start, clear-turn, clear-ends}
 use Rattle.search.proofs.answer.cleared.Given as goal
 
 abbrev pub invariant-loop-j : goal.invariant-loop-j

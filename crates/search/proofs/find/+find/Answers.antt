@@ -3,10 +3,9 @@
 use borrow.Author.Rules.{rules}
 use native.Mathlib.Omega.{arith}
 use mathlib.Core.Path.{◌≡◌, refl, ◌∙◌}
-use Prim.Native.Nat.{ℕ, ◌-◌, ◌≤◌, ◌<◌}
+use Prim.Native.Nat.{◌-◌}
 use lib.ListN.{length, length-set}
-use Rattle.search.specs.Finding.{World}
-use Rattle.search.proofs.FindLaws.{loads-here, lent-here, few-terms, LevelFrom, level-starts, find-test, find_past, find_none, find-skip, find-on, find-hit}
+use Rattle.search.proofs.FindLaws.{loads-here, lent-here, few-terms, level-starts, find-test, find_past, find_none, find-skip, find-on, find-hit}
 use Rattle.search.proofs.find.+find.Goals.{then-worth+else-r, else-worth}
 use Rattle.search.proofs.find.+find.Goals as goal
 
@@ -80,7 +79,7 @@ loop-from-preserved t c =
     let sixteen : length c.args.known ≡ 16 = search rules in (
       omega (arith, c.loop-from.invariant.0, (c.next-i.ensures c.requires.world).0, c.loop-from-test.true),
       elim c.if-worth.branch [
-        then-worth+else-r b ↦ λ w below. find-on w _ _ below _ _ (c.loop-from.invariant.1 w below) _ (c.next-i.ensures w) c.if-count-i.false
+        | then-worth+else-r b ↦ λ w below. find-on w _ _ below _ _ (c.loop-from.invariant.1 w below) _ (c.next-i.ensures w) c.if-count-i.false
             (omega (arith, c.requires.world.small c.args.k, sixteen)) _ (b.find-r.ensures.find_of w) b.if-r.false
         | else-worth b ↦ λ w below. find-skip w _ _ below _ _ (c.loop-from.invariant.1 w below) _ (c.next-i.ensures w) c.if-count-i.false
             (omega (arith, c.requires.world.small c.args.k, sixteen)) (c.worth.ensures w) b.if-worth.false

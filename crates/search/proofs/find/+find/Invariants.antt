@@ -1,11 +1,6 @@
-use borrow.Author.Rules.{rules}
-use native.Mathlib.Omega.{arith}
-use mathlib.Core.Path.{◌≡◌, refl, ◌∙◌}
-use mathlib.Core.Logic.{⊎_elim}
-use Prim.Native.Nat.{ℕ, ◌-◌, ◌≤◌, ◌<◌}
-use lib.ListN.{length, length-set}
+use Prim.Native.Nat.{◌-◌, ◌≤◌, ◌<◌}
 use Rattle.search.specs.Finding.{World}
-use Rattle.search.proofs.FindLaws.{loads-here, lent-here, few-terms, LevelFrom, level-starts, find-test, find_past, find_none, find-skip, find-on, find-hit}
+use Rattle.search.proofs.FindLaws.{LevelFrom}
 use Rattle.search.proofs.find.+find.Given as goal
 
 abbrev pub decreases-find : goal.decreases-find

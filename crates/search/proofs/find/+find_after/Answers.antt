@@ -2,7 +2,7 @@
 use borrow.Author.Rules.{rules}
 use native.Mathlib.Omega.{arith}
 use mathlib.Core.Path.{◌≡◌, ◌∙◌}
-use Prim.Native.Nat.{ℕ, ◌-◌, ◌<◌}
+use Prim.Native.Nat.{◌-◌}
 use lib.ListN.{length, get_or, length-set}
 use Rattle.search.proofs.FindLaws.{few-terms, after-ends, after-past, after-find, own-untyped, own-none, own-hit}
 use Rattle.search.proofs.find.+find_after.Goals.{then-has_type+else-r, else-has_type}
@@ -79,7 +79,7 @@ returns t c =
     let sixteen : length c.args.known ≡ 16 = search rules in record {
       after_of = λ w. after-find w _ _ c.if-size-k.false
           (elim c.if-has_type.branch [
-            then-has_type+else-r b ↦ own-none w _ _ c.if-size-k.false c.if-count-l.false (omega (arith, c.requires.world.small c.args.k, sixteen)) c.has_type.ensures b.if-has_type.true _
+            | then-has_type+else-r b ↦ own-none w _ _ c.if-size-k.false c.if-count-l.false (omega (arith, c.requires.world.small c.args.k, sixteen)) c.has_type.ensures b.if-has_type.true _
                 (b.find_after-r.ensures.after_of w) b.if-r.false
             | else-has_type b ↦ own-untyped w _ _ c.if-size-k.false c.if-count-l.false c.has_type.ensures b.if-has_type.false
           ])

@@ -1,10 +1,4 @@
-use borrow.Author.Rules.{rules}
-use native.Mathlib.Omega.{arith}
-use mathlib.Core.Path.{◌≡◌, ◌∙◌}
-use mathlib.Core.Logic.{⊎_elim}
-use Prim.Native.Nat.{ℕ, ◌-◌, ◌<◌}
-use lib.ListN.{length, get_or, length-set}
-use Rattle.search.proofs.FindLaws.{few-terms, after-ends, after-past, after-find, own-untyped, own-none, own-hit}
+use Prim.Native.Nat.{◌-◌}
 use Rattle.search.proofs.find.+find_after.Given as goal
 
 abbrev pub decreases-find_after : goal.decreases-find_after

@@ -6,7 +6,6 @@ use native.Mathlib.Omega.{arith}
 use borrow.Author.Rules.{rules}
 use lib.ListN.{length, get_or, length-set}
 use Rattle.definitions.specs.Limits.{variable_limit}
-use Rattle.search.specs.Finding.{World, PassedTo}
 use Rattle.search.proofs.FindLaws.{lent-here, parts-here, few-terms, hope-past, hope-none, hope-on}
 use Rattle.search.proofs.find.hope.Goals as goal
 

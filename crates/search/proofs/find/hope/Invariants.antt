@@ -1,12 +1,5 @@
-use mathlib.Core.Path.{◌≡◌, ◌∙◌}
-use mathlib.Core.Bool.{true≢false}
 use Prim.Native.Nat.{◌-◌}
-use native.Mathlib.Omega.{arith}
-use borrow.Author.Rules.{rules}
-use lib.ListN.{length, get_or, length-set}
-use Rattle.definitions.specs.Limits.{variable_limit}
 use Rattle.search.specs.Finding.{World, PassedTo}
-use Rattle.search.proofs.FindLaws.{lent-here, parts-here, few-terms, hope-past, hope-none, hope-on}
 use Rattle.search.proofs.find.hope.Given as goal
 
 abbrev pub invariant-loop-lo : goal.invariant-loop-lo

@@ -1,7 +1,6 @@
 -- `search::find::hopeful` meets its contract. Assumes nothing.
-use Prim.Native.Nat.{◌-◌, ◌≤◌}
+use Prim.Native.Nat.{◌-◌}
 use native.Mathlib.Omega.{arith}
-use borrow.Author.Tests.{not-true}
 use Rattle.search.proofs.FindLaws.{hopeful-lost, hopeful-all}
 use Rattle.search.proofs.find.hopeful.Goals as goal
 

@@ -1,7 +1,4 @@
 use Prim.Native.Nat.{◌-◌, ◌≤◌}
-use native.Mathlib.Omega.{arith}
-use borrow.Author.Tests.{not-true}
-use Rattle.search.proofs.FindLaws.{hopeful-lost, hopeful-all}
 use Rattle.search.proofs.find.hopeful.Given as goal
 
 abbrev pub invariant-loop-j : goal.invariant-loop-j

@@ -1,8 +1,7 @@
 -- `search::find::next` meets its contract. The loop's invariant: the numbers before are passed over. Assumes nothing.
 use native.Mathlib.Omega.{arith}
-use Prim.Native.Nat.{◌-◌, ◌<◌}
-use Rattle.search.specs.Finding.{World}
-use Rattle.search.proofs.FindLaws.{lent-here, parts-here, SoFar, next-starts, next_past, next_here, next-higher, next-on}
+use Prim.Native.Nat.{◌-◌}
+use Rattle.search.proofs.FindLaws.{lent-here, parts-here, next-starts, next_past, next_here, next-higher, next-on}
 use Rattle.search.proofs.find.next.Goals as goal
 
 pub offset_bounds-vars-k : goal.offset_bounds-vars-k

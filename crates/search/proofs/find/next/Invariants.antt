@@ -1,7 +1,6 @@
-use native.Mathlib.Omega.{arith}
 use Prim.Native.Nat.{◌-◌, ◌<◌}
 use Rattle.search.specs.Finding.{World}
-use Rattle.search.proofs.FindLaws.{lent-here, parts-here, SoFar, next-starts, next_past, next_here, next-higher, next-on}
+use Rattle.search.proofs.FindLaws.{SoFar}
 use Rattle.search.proofs.find.next.Given as goal
 
 abbrev pub invariant-loop-from : goal.invariant-loop-from

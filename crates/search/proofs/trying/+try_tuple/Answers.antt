@@ -3,11 +3,10 @@ use native.Mathlib.Omega.{arith}
 use mathlib.Core.Path.{◌≡◌, subst⁻¹}
 use lib.ListN.{length}
 use borrow.Author.Rules.{rules}
-use borrow.Author.Tests.{not-true, not-false}
 use Rattle.search.specs.Trying.{TriedOf}
 use Rattle.search.proofs.FindLaws.{loads-here, lent-here}
 use Rattle.search.proofs.TriedLaws.{tried-all, no-term, wrong_type, one_more}
-use Prim.Native.Nat.{ℕ, ◌-◌, ◌<◌}
+use Prim.Native.Nat.{◌-◌}
 use Rattle.search.proofs.trying.+try_tuple.Goals as goal
 
 pub eval_query-t-requires : goal.eval_query-t-requires

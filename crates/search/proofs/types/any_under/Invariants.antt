@@ -1,8 +1,6 @@
-use native.Mathlib.Omega.{arith}
 use mathlib.Core.Path.{◌≡◌}
 use Prim.Native.Nat.{◌-◌, ◌≤◌}
 use Rattle.search.specs.Finding.{types_block, any_under}
-use Rattle.search.proofs.TypeLaws.{any_none, any-more, any-all}
 use Rattle.search.proofs.types.any_under.Given as goal
 
 abbrev pub invariant-loop-i : goal.invariant-loop-i

@@ -1,8 +1,5 @@
 -- `search::types::first_under` meets its contract. The loop's invariant: from i on gives what the whole gives. Assumes nothing.
-use mathlib.Core.Path.{◌≡◌, refl}
 use Prim.Native.Nat.{◌-◌}
-use native.Mathlib.Omega.{arith}
-use Rattle.search.specs.Finding.{skip_under}
 use Rattle.search.proofs.TypeLaws.{skip-ends, skip-here, skip-on}
 use Rattle.search.proofs.types.first_under.Goals as goal
 

@@ -1,8 +1,6 @@
-use mathlib.Core.Path.{◌≡◌, refl}
+use mathlib.Core.Path.{◌≡◌}
 use Prim.Native.Nat.{◌-◌}
-use native.Mathlib.Omega.{arith}
 use Rattle.search.specs.Finding.{skip_under}
-use Rattle.search.proofs.TypeLaws.{skip-ends, skip-here, skip-on}
 use Rattle.search.proofs.types.first_under.Given as goal
 
 abbrev pub invariant-loop-i : goal.invariant-loop-i

@@ -1,8 +1,6 @@
-use native.Mathlib.Omega.{arith}
-use mathlib.Core.Path.{◌≡◌, refl}
+use mathlib.Core.Path.{◌≡◌}
 use Prim.Native.Nat.{◌-◌, ◌≤◌}
 use Rattle.search.specs.Finding.{skip_under}
-use Rattle.search.proofs.TypeLaws.{skip_block}
 use Rattle.search.proofs.types.past_blocks.Given as goal
 
 abbrev pub invariant-loop-i : goal.invariant-loop-i
