@@ -21,12 +21,12 @@ unread_number-requires c =
 
 pub returns-then-not-read : goal.returns-then-not-read
 returns-then-not-read c =
-    page-unread _ _ _ _ _ c.page_fits.ensures (ap not c.if-not-page_fits.false) (read_none _ _ c.read_saved-read.ensures (ap not c.if-not-read.true)) c.unread_number.ensures
+    page-unread _ _ _ _ _ c.page_fits.ensures (ap not c.if-not-page_fits.false) (read_none _ _ c.read_saved-read.ensures c.if-not-read.true) c.unread_number.ensures
 
 pub after_page-requires : goal.after_page-requires
 after_page-requires c = record { saved_len = saved-fits _ _ _ _ c.page_fits.ensures (ap not c.if-not-page_fits.false); report_len = report-fits _ _ _ _ c.page_fits.ensures (ap not c.if-not-page_fits.false) }
 
 pub returns : goal.returns
 returns c =
-    page-done _ _ _ _ _ c.page_fits.ensures (ap not c.if-not-page_fits.false) (read_some _ _ c.read_saved-read.ensures (ap not c.if-not-read.false)) c.page-paged.ensures
+    page-done _ _ _ _ _ c.page_fits.ensures (ap not c.if-not-page_fits.false) (read_some _ _ c.read_saved-read.ensures c.if-not-read.false) c.page-paged.ensures
     c.after_page.ensures.value c.after_page.ensures.saved_after c.after_page.ensures.report_after

@@ -17,7 +17,7 @@ read_saved-read-requires c =
 
 pub returns-then-not-read : goal.returns-then-not-read
 returns-then-not-read c =
-    λ ranks. publish-unread _ _ _ _ _ c.publish_fits.ensures (ap not c.if-not-publish_fits.false) (read_none _ _ c.read_saved-read.ensures (ap not c.if-not-read.true))
+    λ ranks. publish-unread _ _ _ _ _ c.publish_fits.ensures (ap not c.if-not-publish_fits.false) (read_none _ _ c.read_saved-read.ensures c.if-not-read.true)
 
 pub after_publish-requires : goal.after_publish-requires
 after_publish-requires c =
@@ -25,5 +25,5 @@ after_publish-requires c =
 
 pub returns : goal.returns
 returns c =
-    λ ranks. publish-done _ _ _ _ _ c.publish_fits.ensures (ap not c.if-not-publish_fits.false) (read_some _ _ c.read_saved-read.ensures (ap not c.if-not-read.false)) (c.publish-answer.ensures ranks)
+    λ ranks. publish-done _ _ _ _ _ c.publish_fits.ensures (ap not c.if-not-publish_fits.false) (read_some _ _ c.read_saved-read.ensures c.if-not-read.false) (c.publish-answer.ensures ranks)
     c.after_publish.ensures.report_after c.after_publish.ensures.value

@@ -22,12 +22,12 @@ unread_number-requires c =
 
 pub returns-then-not-read : goal.returns-then-not-read
 returns-then-not-read c =
-    run-unread _ _ _ _ _ c.run_fits.ensures (ap not c.if-not-run_fits.false) (read_none _ _ c.read_saved-read.ensures (ap not c.if-not-read.true)) c.unread_number.ensures
+    run-unread _ _ _ _ _ c.run_fits.ensures (ap not c.if-not-run_fits.false) (read_none _ _ c.read_saved-read.ensures c.if-not-read.true) c.unread_number.ensures
 
 pub after_run-requires : goal.after_run-requires
 after_run-requires c = record { saved_len = saved-fits _ _ _ _ c.run_fits.ensures (ap not c.if-not-run_fits.false); report_len = report-fits _ _ _ _ c.run_fits.ensures (ap not c.if-not-run_fits.false) }
 
 pub returns : goal.returns
 returns c =
-    run-done _ _ _ _ _ c.run_fits.ensures (ap not c.if-not-run_fits.false) (read_some _ _ c.read_saved-read.ensures (ap not c.if-not-read.false)) (to_z-of_z c.ranges.clock) c.run-ran.ensures
+    run-done _ _ _ _ _ c.run_fits.ensures (ap not c.if-not-run_fits.false) (read_some _ _ c.read_saved-read.ensures c.if-not-read.false) (to_z-of_z c.ranges.clock) c.run-ran.ensures
     c.after_run.ensures.value c.after_run.ensures.saved_after c.after_run.ensures.report_after
