@@ -2,13 +2,12 @@
 use Prim.Native.Nat.{ℕ, zero, suc, ◌+◌, ◌-◌, ◌/◌, ◌%◌, ◌≤◌, ◌<◌}
 use native.Mathlib.Omega.{arith}
 use native.Mathlib.Numerals.{add-one, sub-one}
-use mathlib.Core.Path.{◌≡◌, refl, sym, ap, ◌∙◌}
+use mathlib.Core.Path.{◌≡◌, refl, sym, ap, ◌∙◌, subst}
 use mathlib.Core.List.{List, [], ◌∷◌, ◌++◌, append_assoc}
-use lib.ListN.{length, set, take, drop, length-append, length-drop, take-append-drop}
-use lib.Seq.{take_at, drop_at, drop-drop, set_split, length-take-le}
+use lib.ListN.{length, set, get_or, take, drop, length-append, length-drop, take-append-drop}
+use lib.Seq.{take-suc, take_all, take_at, drop_at, drop-drop, set_split, length-take-le}
 use borrow.Author.Tests.{lt-ltb, le-ltb}
 use Rattle.definitions.specs.Values.{short_digits}
-use Rattle.laws.proofs.Writing.{copied}
 use Rattle.output.specs.Written.{Written}
 
 pub written_none : (old : List ℕ) (at : ℕ) → Written [] old old at at
@@ -17,17 +16,6 @@ written_none old at = record { end = omega arith; list = sym (take-append-drop a
 pub written_byte : (old : List ℕ) (b at : ℕ) → at < length old → Written (b ∷ []) old (set old at b) at (at + 1)
 written_byte old b at h =
     record { end = refl; list = set_split old at b h ∙ ap (λ (n : ℕ). take at old ++ (b ∷ drop n old)) (sym (add-one at)) }
-
--- a text copied into its part of the bytes
-pub written-text : (old text part : List ℕ) (at : ℕ) → at + length text ≤ length old
-    → part ≡ text
-    → Written text old (take at old ++ (part ++ drop (at + length text - at) (drop at old))) at (at + length text)
-written-text old text part at h e =
-    let n = at + length text - at in
-    let m : n ≡ length text = omega arith in
-    let k : at + n ≡ at + length text = omega arith in
-    let rest : drop n (drop at old) ≡ drop (at + length text) old = drop-drop n at old ∙ ap (λ (j : ℕ). drop j old) k in
-    record { end = refl; list = λ i. take at old ++ (e i ++ rest i) }
 
 -- one text after another
 pub written_then : {a b old mid new : List ℕ} {at m r : ℕ} → Written a old mid at m → Written b mid new m r → at ≤ length old
@@ -68,3 +56,22 @@ pub more-digits : (k n : ℕ) → 0 < k → 10 ≤ n → short_digits (k - 1) (n
 unfolding short_digits
 more-digits zero n h l = absurd (omega arith)
 more-digits (suc k) n h l = sym (rw (le-ltb n 10 l, short_digits, sub-one (suc k)))
+
+-- ── a text written byte by byte ─────────────────────────────────────────────────────────────
+
+pub written_start : (text old : List ℕ) (at : ℕ) → Written (take 0 text) old old at (at + 0)
+written_start text old at = let z : at + 0 ≡ at = omega arith in rw z (written_none old at)
+
+pub written_turn : (text old new : List ℕ) (at i : ℕ) → i < length text → at ≤ length old → at + i < length new → Written (take i text) old new at (at + i)
+    → Written (take (i + 1) text) old (set new (at + i) (get_or text i 0)) at (at + (i + 1))
+written_turn text old new at i h k l w =
+    let e : at + i + 1 ≡ at + (i + 1) = omega arith in
+    let s : take i text ++ (get_or text i 0 ∷ []) ≡ take (i + 1) text = sym (take-suc text i 0 h) ∙ ap (λ (n : ℕ). take n text) (sym (add-one i)) in
+    let all : Written (take (i + 1) text) old (set new (at + i) (get_or text i 0)) at (at + i + 1) =
+    written_as (written_then w (written_byte new (get_or text i 0) (at + i) l) k) s in
+    subst (λ (r : ℕ). Written (take (i + 1) text) old (set new (at + i) (get_or text i 0)) at r) e all
+
+pub written_whole : (text old new : List ℕ) (at i : ℕ) → length text ≤ i → Written (take i text) old new at (at + i) → Written text old new at (at + length text)
+written_whole text old new at i h w =
+    let x : Written text old new at (at + i) = written_as w (take_all i text h) in
+    subst (λ (r : ℕ). Written text old new at r) x.end x

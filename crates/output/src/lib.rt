@@ -13,9 +13,12 @@ pub fn put_text(text: &[u8], out: &mut [u8], at: usize) -> usize
     requires { at + length text.now ≤ length out.old }
     ensures { Written text.now out.old out.new at result }
 {
-    let end = at + text.len();
-    out[at..end].copy_from_slice(text);
-    end
+    let mut i = 0;
+    while i < text.len() {
+        out[at + i] = text[i];
+        i += 1;
+    }
+    at + text.len()
 }
 
 // A byte at an offset. Ruled out: a zero in its place; the offset given back as it was.
