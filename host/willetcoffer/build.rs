@@ -5,7 +5,8 @@ use std::env;
 use std::path::{Path, PathBuf};
 use std::process::ExitCode;
 
-const WHAT_TO_RUN: &str = "run `tools/build.sh archive` at the root of the repository (`make test` and `make demo` do), \
+const WHAT_TO_RUN: &str =
+    "run `tools/build.sh archive` at the root of the repository (`make test` and `make demo` do), \
     or name another archive by WILLETCOFFER_ARCHIVE";
 
 /// The calls that `src/raw.rs` declares.
