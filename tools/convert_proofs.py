@@ -168,8 +168,9 @@ class Fn:
         return got[0] if got else None
 
     def fields(self, names, rest):
-        """Turns .0 .1.0 .1.1 into a name of fields."""
+        """Turns .0 .1.0 .1.1 into a name of fields; a list of names where several are meant."""
         n = len(names)
+        self.whole = names
         if n <= 1:
             return "", rest
         k = 0
@@ -179,8 +180,19 @@ class Fn:
         if k < n - 1:
             if rest and rest[0] == "0":
                 return "." + names[k], rest[1:]
-            return None
+            if rest:
+                return None
+            return names[k:], []
         return "." + names[k], rest
+
+    def spelled(self, head, got):
+        if isinstance(got[0], list):
+            parts = [head + "." + it for it in got[0]]
+            out = parts[-1]
+            for it in reversed(parts[:-1]):
+                out = f"({it}, {out})"
+            return "⟦" + head + "|" + out + "⟧"
+        return head + got[0] + "".join("." + r for r in got[1])
 
     def chain(self, at):
         out = []
@@ -227,7 +239,7 @@ class Fn:
                 got = self.fields(fs, rest)
                 if got is None:
                     return None
-                return ("path", "c.requires" + got[0] + "".join("." + r for r in got[1]))
+                return ("path", self.spelled("c.requires", got))
             if f in ("args", "ranges") and rest:
                 rest = [self.args.get(rest[0], rest[0]).replace("-", "_")] + rest[1:]
             return ("path", "c." + f + "".join("." + r for r in rest))
@@ -244,8 +256,8 @@ class Fn:
                 got = self.fields(fs or [], rest[1:])
                 if got is None:
                     return None
-                return ("path", out + ".ensures" + got[0] + "".join("." + r for r in got[1]))
-            if rest and rest[0] == "new" and callee:
+                return ("path", self.spelled(out + ".ensures", got))
+            if rest and rest[0] in ("new", "auto") and callee:
                 ps = self.of["params"].get(callee)
                 r = rest[1:]
                 k = 0
@@ -253,7 +265,7 @@ class Fn:
                     k += 1
                     r = r[1:]
                 if r and r[0] == "0" and ps and k < len(ps):
-                    return ("path", out + ".new." + ps[k] + "".join("." + x for x in r[1:]))
+                    return ("path", out + "." + rest[0] + "." + ps[k] + "".join("." + x for x in r[1:]))
                 self.said.append(f"new of {callee}: {'.'.join(path)}")
                 return None
         arm = self.of["arms"][at]
@@ -262,15 +274,19 @@ class Fn:
             for nf, oldstep, oldpath in arm[2]:
                 if norm(oldstep) == norm(f) and [norm(x) for x in oldpath] == [norm(x) for x in rest[: len(oldpath)]]:
                     return ("path", out + "." + nf + "".join("." + r for r in rest[len(oldpath):]))
+            if rest and rest[0] == "rest":
+                return ("path", "(omega arith)")
             self.said.append(f"arm {arm}: {'.'.join(path)}")
             return None
+        if norm(f).startswith("match") and rest and rest[0] == "rest":
+            return ("path", "(omega arith)")
         if norm(f).startswith("loop") and rest and rest[0] not in ("invariant", "auto", "true", "false"):
             rest = [rest[0].replace("-", "_")] + rest[1:]
         return ("path", out + "".join("." + r for r in rest))
 
     def turn(self, body, var, at):
         """A body with its paths turned; 'var' stands at a place."""
-        env = {var: 0}
+        env = {var: (0, [])}
         self.here = at
         PATHS = re.compile(r"(?<![\w.'′-])([A-Za-z_][\w₀-₉'′-]*)((?:\.[\w₀-₉'′·+-]+)*)")
         out, pos = [], 0
@@ -283,15 +299,17 @@ class Fn:
                 break
             p = m[2].split(".")
             if p[0] in env:
-                got = self.step(env[p[0]], p[1:])
-                if got and got[0] == "place":
-                    out.append(body[pos:m.start()])
-                    env[m[1]] = got[1]
-                    # the rest of the space
-                    pos = m.end()
-                    while pos < len(body) and body[pos] in " \n":
-                        pos += 1
-                    continue
+                depth, prefix = env[p[0]]
+                path = prefix + p[1:]
+                while path and path[0] == "before":
+                    depth, path = depth + 1, path[1:]
+                out.append(body[pos:m.start()])
+                env[m[1]] = (depth, path)
+                # the rest of the space
+                pos = m.end()
+                while pos < len(body) and body[pos] in " \n":
+                    pos += 1
+                continue
             out.append(body[pos:m.end()])
             pos = m.end()
         body = "".join(out)
@@ -301,19 +319,40 @@ class Fn:
             v, p = m[1], m[2]
             if v not in env:
                 return m[0]
-            path = [x for x in p.split(".") if x]
-            got = self.step(env[v], path)
+            path = env[v][1] + [x for x in p.split(".") if x]
+            got = self.step(env[v][0], path)
             if got is None:
                 ok = False
                 return "⟪" + m[0] + "⟫"
             if got[0] == "place":
-                if path or v != "c":
-                    ok = False
-                    return "⟪" + m[0] + "⟫"
                 return "c"
             return got[1]
 
         return PATHS.sub(one, body), ok
+
+
+def untwisted(body):
+    """Tests of `!x` say it plainly now; the whole of a contract's clauses is a record, but where a pair is asked."""
+    for a, b in (("true", "true"), ("false", "false")):
+        body = re.sub(r"\(not-" + a + r"\s+(?:_|\S+)\s+(c\.if-not-[^\s(){},;]+\." + b + r")\)", "\x02\\1", body)
+        body = re.sub(r"not-" + a + r"\s+(?:_|\S+)\s+(c\.if-not-[^\s(){},;]+\." + b + r")(?![\w.])", "\x02\\1", body)
+    body = re.sub(r"(?<![\w.])(?<!\x02)c\.if-not-[^\s(){},;]+\.(?:true|false)(?![\w.])", lambda m: m[0] if m[0].startswith("\x02") else "(ap not " + m[0] + ")", body).replace("\x02", "")
+    out, pos = [], 0
+    while True:
+        m = re.compile(r"\b(omega|grind|cc|search) \(").search(body, pos)
+        if not m:
+            break
+        end = matching(body, m.end() - 1)
+        if end < 0:
+            break
+        inside = body[m.end() : end]
+        parts = split_top(inside, ",")
+        parts = [re.sub(r"^(\s*)⟦([^|]*)\|[^⟧]*⟧(\s*)$", r"\1\2\3", q) for q in parts]
+        out.append(body[pos : m.end()] + ",".join(parts))
+        pos = end
+    out.append(body[pos:])
+    body = "".join(out)
+    return re.sub(r"⟦[^|]*\|([^⟧]*)⟧", r"\1", body)
 
 
 PLACE = r"(?:tie|lts|[\w-]+-lts)\.(?!Need-|invariant-|decreases-)[\w-]+(?: \([^()]*\)| (?!→)[\w.-]+)*"
@@ -329,7 +368,7 @@ def helpers_of(decls):
             if re.fullmatch(PLACE + r" → " + PLACE, typ):
                 moves.add(nm)
                 continue
-            m = re.match(r"(?:\((\w+) : " + PLACE + r"\)|" + PLACE + r") → (.*)$", typ, re.S)
+            m = re.match(r"(?:\((\w+) : " + PLACE + r"\)(?: →)?|" + PLACE + r" →) (.*)$", typ, re.S)
             joined = "\n".join(body)
             mm = re.match(r"((?:unfolding [^\n]*\n)?)" + re.escape(nm) + r"((?:\s+[^\s=]+)*)\s*=(.*)", joined, re.S)
             if m and mm and mm[2].split():
@@ -349,11 +388,109 @@ def helpers_of(decls):
     return moves, typed, rest
 
 
+def arguments(s):
+    """The arguments that a call's text has, until a closing parenthesis of its own."""
+    out, i = [], 0
+    while i < len(s):
+        if s[i].isspace():
+            i += 1
+        elif s[i] == "(":
+            k = matching(s, i)
+            out.append(s[i : k + 1])
+            i = k + 1
+        elif s[i] == ")":
+            break
+        else:
+            m = re.match(r"[^\s()]+", s[i:])
+            out.append(m[0])
+            i += len(m[0])
+    return out
+
+
+def inline_answers(text, decls, fn, said):
+    """Blocks for the answers that stand in the call of spec itself, by their place among the goals."""
+    text = re.sub(r"--[^\n]*", "", text)
+    m = re.search(r"(?:tie|lts|[\w-]+-lts)\.spec\b", text)
+    if not m:
+        return []
+    args = arguments(text[m.end():])
+    names = {}
+    for b in decls:
+        s = sig(b)
+        if s:
+            names[s[2]] = s[3]
+    order = [old for old, new in fn.of["needs"]]
+    items = []
+    for a in args:
+        typ = names.get(a, "")
+        q = re.match(r"(?:\(t : ℕ\) → )?(?:tie|lts|[\w-]+-lts)\.Need-(\S+)", typ)
+        if q:
+            got = None
+            for cand in (q[1], a):
+                if norm(cand) in fn.needs:
+                    got = order.index(fn.needs[norm(cand)][0])
+                    break
+            items.append(("at", got, a))
+        elif re.match(r"\(λ c( κs| _)?\.", a):
+            items.append(("λ", None, a))
+        elif re.match(r"\(?[\w-]+ t\)?$|\(calls t\)|\(.*-at t\)|.*\.Post$", a) or "invariant" in typ or "decreases" in typ or "Claims" in typ or "Measures" in typ:
+            items.append(("skip", None, a))
+        elif a in names:
+            items.append(("skip", None, a))
+        else:
+            items.append(("name", None, a))
+    out = []
+    i = 0
+    last = -1
+    run = []
+
+    def settle(run, low, high):
+        todo = [r for r in run if r[0] in ("λ", "name")]
+        room = list(range(low + 1, high))
+        if not todo:
+            return
+        trivial = [r for r in todo if r[0] == "λ" and re.match(r"\(λ c( κs| _)?\.\s*(search rules|tt|refl)\s*\)$", r[2])]
+        if len(todo) > len(room):
+            extra = len(todo) - len(room)
+            kept = list(todo)
+            for r in trivial:
+                if extra and r in kept:
+                    kept.remove(r)
+                    extra -= 1
+            todo = kept
+        if len(todo) != len(room):
+            if any(r not in trivial for r in todo):
+                said.append(f"inline answers {[r[2][:60] for r in todo]} for goals {[order[k] for k in room]}")
+            if len(todo) > len(room):
+                return
+        for r, k in zip(todo, room):
+            if r in trivial:
+                continue
+            old = order[k]
+            body = re.match(r"\(λ c(?: κs| _)?\.(.*)\)$", r[2], re.S)[1] if r[0] == "λ" else f" {r[2]} c"
+            if re.match(r"\s*omega arith\s*$", body):
+                continue
+            out.append([f"inline-{k} : tie.Need-{old}"] + f"inline-{k} c ={body}".split("\n"))
+
+    for it in items:
+        if it[0] == "at" and it[1] is not None:
+            settle(run, last, it[1])
+            last, run = it[1], []
+        elif it[0] in ("λ", "name"):
+            run.append(it)
+    settle(run, last, len(order))
+    return out
+
+
 def convert(crate, folder, name, names, path):
     """folder: proofs/.../F; names: the json of the crate."""
     said = []
     with open(os.path.join(folder, "Proof.antt"), encoding="utf-8") as f:
         text = f.read()
+    for m in list(re.finditer(r"(?m)^( *)abbrev (\w+) : Type[^\n]*\n\1\2 = ([^\n]*)\n", text)):
+        if re.fullmatch(PLACE, m[3].strip()):
+            text = text.replace(m[0], "")
+            text = re.sub(r"(?<![\w.'′-])" + m[2] + r"(?![\w'′-])", m[3].strip().replace("\\", ""), text)
     dotted = os.path.relpath(folder, os.path.join(crate, "proofs")).replace("/", ".")
     key = None
     members = {}
@@ -393,9 +530,9 @@ def convert(crate, folder, name, names, path):
 
         def bare(s):
             for h in used:
-                s = re.sub(r"\(" + re.escape(h) + r" (?:" + AT + r"|\(" + AT + r"\))\)", h, s)
-                s = re.sub(r"(?<![\w.'′-])" + re.escape(h) + r" (?:" + AT + r"|\(" + AT + r"\))", h, s)
-            return s
+                s = re.sub(r"\(" + re.escape(h) + r" (?:" + AT + r"|\(" + AT + r"\))\)", "\x01" + h, s)
+                s = re.sub(r"(?<![\w.'′\x01-])" + re.escape(h) + r" (?:" + AT + r"|\(" + AT + r"\))", "\x01" + h, s)
+            return s.replace("\x01", "")
 
         lets, good = "", True
         for h in typed:
@@ -406,9 +543,10 @@ def convert(crate, folder, name, names, path):
                 good = good and ok1 and ok2
                 lets += f"\n    let {h} : {T.strip()} = {B.strip()} in"
         body, ok = fn.turn(bare(body), var, at)
-        return lets + body, ok and good
+        return untwisted(lets) + untwisted(body), ok and good
 
     inv, ans = [], []
+    decls += inline_answers(text, decls, only, said)
     keep_uses = [u for u in uses if not DROP_USE.search(u)]
     recursive = "+" in dotted
     for b in decls:
@@ -435,7 +573,7 @@ def convert(crate, folder, name, names, path):
                 said.append("cannot read " + nm)
                 continue
             binders = mm[1].split()
-            order = [(v, "l." + v) for v, c in zip(vs, ch) if not c] + [(v, "l.initial." + v) for v, c in zip(vs, ch) if c] + [(v, "l." + v) for v, c in zip(vs, ch) if c]
+            order = [(v, "l.initial." + v if c else "l." + v) for v, c in zip(vs, ch)] + [(v, "l." + v) for v, c in zip(vs, ch) if c]
             body = mm[2]
             if len(binders) != len(order):
                 said.append(f"{nm}: {len(binders)} binders {binders}, {len(order)} expected {[o[1] for o in order]}")
@@ -475,6 +613,13 @@ def convert(crate, folder, name, names, path):
                 parts = tuple_parts(tail, len(fs))
                 if parts:
                     body = lets + " record { " + "; ".join(f"{f} = {p}" for f, p in zip(fs, parts)) + " }"
+                elif re.match(r"\s*rw ", tail) and tail.rstrip().endswith(")"):
+                    k = max((i for i in range(len(tail)) if tail[i] == "(" and matching(tail, i) == len(tail.rstrip()) - 1), default=-1)
+                    parts = tuple_parts(tail[k:].strip(), len(fs)) if k > 0 else None
+                    if parts:
+                        body = lets + " record { " + "; ".join(f"{f} = {tail[:k].strip()} ({q})" for f, q in zip(fs, parts)) + " }"
+                    else:
+                        said.append(f"{new}: a rw of {fs}")
                 elif not re.match(r"\s*search rules\s*$", tail):
                     proj = lambda k: ".1" * k + (".0" if k < len(fs) - 1 else "")
                     body = lets + " let whole = " + tail.strip() + " in record { " + "; ".join(f"{f} = whole{proj(k)}" for k, f in enumerate(fs)) + " }"
@@ -487,7 +632,25 @@ def convert(crate, folder, name, names, path):
             continue
         if "statement" in typ and "M : Type 1" in typ or nm in ("closed",) or re.search(r"Claims|Measures| In \d|^ℕ → In", typ):
             if re.search(r"Measures", typ):
-                ans.append("-- ?? measure: " + "\n-- ?? ".join(b))
+                joined = "\n".join(rest)
+                mm = re.match(re.escape(nm) + r"\s+(\S+)\s+(\S+)\s*=(.*)", joined, re.S)
+                fname = dotted.rsplit("+", 1)[-1]
+                ps = next((v for k, v in only.of["params"].items() if k.rsplit("::", 1)[-1] == fname), None)
+                if mm and ps and len(members) == 1:
+                    def par(m):
+                        k = 0
+                        r = [x for x in m[1].split(".") if x]
+                        while r and r[0] == "1":
+                            k += 1
+                            r = r[1:]
+                        if r and r[0] == "0":
+                            return "l." + ps[k] + "".join("." + x for x in r[1:])
+                        return "l." + ps[k]
+                    body = re.sub(r"(?<![\w.])" + re.escape(mm[2]) + r"((?:\.[\w]+)+)", par, mm[3])
+                    inv.append(f"abbrev pub decreases-{fname} : goal.decreases-{fname}\ndecreases-{fname} l ={body}")
+                else:
+                    said.append("a measure by hand: " + joined)
+                    ans.append("-- ?? measure: " + "\n-- ?? ".join(b))
             continue
         if re.search(r"\b(tie|[\w-]*lts)\.", typ):
             said.append(f"a helper over places: {nm} : {typ[:100]}")
@@ -496,6 +659,14 @@ def convert(crate, folder, name, names, path):
         ans.append("\n".join(b))
     pre = "\n".join(heads)
     mod = f"Rattle.{name}.proofs.{dotted}"
+    whole_text = "\n".join(ans)
+    if "(ap not " in whole_text:
+        if not any(re.search(r"[{ ]ap[,}]", u) for u in keep_uses):
+            keep_uses.append("use mathlib.Core.Path.{ap}")
+        if not any(re.search(r"[{ ]not[,}]", u) for u in keep_uses):
+            keep_uses.append("use mathlib.Core.Bool.{not}")
+    if "(omega arith)" in whole_text and not any(re.search(r"[{ ]arith[,}]", u) for u in keep_uses):
+        keep_uses.append("use native.Mathlib.Omega.{arith}")
     it = "\n".join(keep_uses)
     invt = anst = None
     if inv:
