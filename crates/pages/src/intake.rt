@@ -117,7 +117,8 @@ pub fn take_in(
     let mut keys = [0u64; GATHERED_LIMIT];
     let old = store.quads as usize;
     let count = put_in_order(stored, old, graph, &mut fresh, end.keys, &mut keys);
-    if QUAD_LIMIT < count {
+    let too_many = QUAD_LIMIT < count;
+    if too_many {
         return refused(store);
     }
     let mut quads = [0u8; QUAD_TABLE_WIDTH];

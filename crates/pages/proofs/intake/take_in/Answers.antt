@@ -26,14 +26,14 @@ returns-then-end-gt-TERM_LIMIT c =
 pub put_in_order-count-requires : goal.put_in_order-count-requires
 put_in_order-count-requires c = record { held_some = (c.requires.held_tables.0.quads, c.requires.held_tables.1.quads); m_le_record_limit = (c.take_copies-end.ensures.keys_le_record_limit, omega (arith, c.take_copies-end.auto.keys, length-replicate {A = ℕ} record_limit 0), length-replicate {A = ℕ} gathered_limit 0) }
 
-pub returns-then-count-gt-QUAD_LIMIT : goal.returns-then-count-gt-QUAD_LIMIT
-returns-then-count-gt-QUAD_LIMIT c =
-    λ S rs σ e r h. not_done S c.args.graph rs σ c.args.store c.args.lent.now c.args.stored.now _ c.refused-then-count-gt-QUAD_LIMIT.ensures (quads-passed S c.args.graph rs σ c.args.store c.args.lent.now
+pub returns-then-too_many : goal.returns-then-too_many
+returns-then-too_many c =
+    λ S rs σ e r h. not_done S c.args.graph rs σ c.args.store c.args.lent.now c.args.stored.now _ c.refused-then-too_many.ensures (quads-passed S c.args.graph rs σ c.args.store c.args.lent.now
     c.args.stored.now _ _ _ (took_of S c.args.graph rs σ c.args.lent.now c.args.stored.now c.args.n c.args.store h _ _ _ (λ ts o. c.take_copies-end.ensures.took S rs ts o e r)) c.if-end-gt-TERM_LIMIT.false _ _
-    (λ after k. c.put_in_order-count.ensures.value σ.quads after h.quads k) c.if-count-gt-QUAD_LIMIT.true)
+    (λ after k. c.put_in_order-count.ensures.value σ.quads after h.quads k) c.if-too_many.true)
 
 pub write_keys-requires : goal.write_keys-requires
-write_keys-requires c = record { count_in_bounds = omega (arith, c.put_in_order-count.ensures.upper_bound, c.put_in_order-count.auto.keys, length-replicate {A = ℕ} gathered_limit 0); count_le_quad_limit = c.if-count-gt-QUAD_LIMIT.false; table_value = empty-table }
+write_keys-requires c = record { count_in_bounds = omega (arith, c.put_in_order-count.ensures.upper_bound, c.put_in_order-count.auto.keys, length-replicate {A = ℕ} gathered_limit 0); count_le_quad_limit = c.if-too_many.false; table_value = empty-table }
 
 pub copy_from_slice-requires : goal.copy_from_slice-requires
 copy_from_slice-requires c =
@@ -50,5 +50,5 @@ pub returns : goal.returns
 returns c =
     λ S rs σ e r h. done S c.args.graph rs σ c.args.store c.args.lent.now c.args.stored.now _ _ c.take_copies-end.result (took_of S c.args.graph rs σ c.args.lent.now c.args.stored.now c.args.n
     c.args.store h _ _ _ (λ ts o. c.take_copies-end.ensures.took S rs ts o e r)) c.if-end-gt-TERM_LIMIT.false _ _ (λ after k. c.put_in_order-count.ensures.value σ.quads after h.quads k)
-    (held-width _ _ _ h.terms) (quads-width _ _ _ h.quads) c.if-count-gt-QUAD_LIMIT.false (has_room c.args.lent.now c.args.stored.now c.args.n c.args.store σ h c.args.graph
+    (held-width _ _ _ h.terms) (quads-width _ _ _ h.quads) c.if-too_many.false (has_room c.args.lent.now c.args.stored.now c.args.n c.args.store σ h c.args.graph
     (sym c.graph_fits.ensures ∙ c.if-not-graph_fits.false)) _ _ _ c.write_keys.ensures c.copy_from_slice.ensures.after c.copy_from_slice-2.ensures.after _ c.with_page-after.ensures
