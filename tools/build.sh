@@ -3,7 +3,6 @@
 # target/bin/NAME). What is not proved yet on this machine is proved first.
 set -euo pipefail
 cd "$(dirname "$0")/.."
-top=$PWD
 mkdir -p target/staticlib target/bin
 for name in "$@"; do
   if [ "$name" = archive ]; then
@@ -11,6 +10,6 @@ for name in "$@"; do
     cp crates/exports_c/out/libexports_c.a target/staticlib/libexports.a
   else
     (cd "crates/$name" && rt run <stdin | cmp - stdout)
-    cp "crates/$name/out/$name" "$top/target/bin/$name"
+    cp "crates/$name/out/$name" "target/bin/$name"
   fi
 done

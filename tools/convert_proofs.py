@@ -1,9 +1,10 @@
 #!/usr/bin/env python3
 """Turns the walks over Tie (proofs/F/Proof.antt) of a crate into Invariants.antt and Answers.antt.
 
-usage: convert.py NAMES CRATE [PATH..]
+usage: convert_proofs.py NAMES CRATE [PATH..]
 
-NAMES is the names.json that `rt names` writes for the crate, CRATE its folder. Prints what it could not turn.
+NAMES is the names.json that `rt names` writes for the crate, CRATE its folder. Prints what it could not turn, and moves each old file to /tmp/oldproofs.
+It ran once, for docs/PORT.md. In a recursion it names the clauses of `requires` one too far on, since the measure's fact stood first among them: `c.decreases` has it.
 """
 import json
 import os

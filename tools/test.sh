@@ -41,7 +41,10 @@ check() {
 }
 
 host() { (cd host && "$@"); }
-check 'the archive and the programs' bash tools/build.sh archive print_types evaluate
+# the programs as `rt ci` has just built and run them
+programs() { mkdir -p target/bin && cp crates/print_types/out/print_types crates/evaluate/out/evaluate target/bin/; }
+check 'the archive' bash tools/build.sh archive
+check 'the programs' programs
 check 'cargo fmt' host cargo fmt --check
 check 'cargo clippy' host cargo clippy --offline --quiet --all-targets -- -D warnings
 part 'cargo test, with the doc examples' host cargo test --offline --quiet
