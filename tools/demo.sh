@@ -15,7 +15,7 @@ made() {
     return
   fi
   echo "$what: proving, about $minutes minutes on two cores; a line for each crate that is proved"
-  "$@" 2>&1 | grep --line-buffered -E '^rt:|^fn|error'
+  "$@" 2>&1 | grep --line-buffered -E '^rt:|error'
   echo "$what: proved and built in $((SECONDS - began)) s"
 }
 
