@@ -1,4 +1,6 @@
 -- Laws of one step: the item on top, its record in the script, and what the saved control becomes.
+use Rattle.std.specs.Prelude.{Some, None}
+use Rattle.std.specs.declared.option.Option as Answer
 use Prim.Native.Nat.{ℕ, zero, suc, ◌+◌, ◌-◌, ◌*◌, ◌≤◌, ◌<◌}
 use native.Mathlib.Omega.{arith}
 use mathlib.Core.Path.{◌≡◌, refl, ap, ap₂, sym, subst, ◌∙◌}
@@ -20,7 +22,7 @@ use Rattle.definitions.specs.Search.{bind}
 use Rattle.definitions.specs.Tree.{Script, success, from_named, block, sequence, Name, var, const, Binder, Query}
 use Rattle.definitions.specs.Reading.{read_name, read_script, binders_at, name_rows, NameShape, name_of}
 use Rattle.definitions.specs.Typing.{type_at}
-use Rattle.definitions.specs.Outcome.{Outcome, ok, ◌>>=◌, ◌>>◌, demand, from_named_no_uri}
+use Rattle.definitions.specs.Outcome.{Outcome, ok, ◌>>◌, demand, from_named_no_uri}
 use Rattle.definitions.specs.Machine.{State, Item, Next, step, stand, fresh, with_stack, with_answer, act, enter_named, enter_once, enter_each}
 use Rattle.definitions.specs.Calls.{setting_of}
 use Rattle.definitions.specs.Saved.{offset_of, saved_item, saved_control, saved_store, number_or_zero}
@@ -46,13 +48,11 @@ use Rattle.laws.proofs.ScriptReads.{script-reads, parsed-reads, ReadAt}
 use Rattle.laws.specs.Sound.{BindersBounded}
 use Rattle.laws.proofs.SoundMeans.{ItemFacts, StackFacts, facts}
 use Rattle.laws.specs.ReadAnswers.{next_of}
-use Rattle.definitions.specs.declared.Read.{Read}
-use Rattle.definitions.specs.declared.Read.TheVariants as Reads
-use Rattle.acts.specs.declared.Stepped.{Stepped}
+use Rattle.std.specs.Prelude.{Option as Maybe, Some, None, Ok, Err}
 use Rattle.store.specs.Stack.{pushed, popped, replaced, fresh_item, bound_all}
 use Rattle.store.specs.Graphs.{fetched_in}
 use Rattle.laws.specs.Pairs.{pair_variables}
-use Rattle.acts.specs.Steps.{moved_to, stands_at, stepped_of, OnTop, Acts, NameReads, NumberOf, BlockReads, BodyAt, answer_of, EntersOnce, EntersEach}
+use Rattle.acts.specs.Steps.{Stepped, stepped_of, OnTop, Acts, NameReads, NumberOf, BlockReads, BodyAt, answer_of, EntersOnce, EntersEach}
 use Rattle.store.proofs.ControlStates.{saved-push, saved-pop, saved-replace, fresh-is}
 use Rattle.laws.proofs.Pairs.{pair-variables}
 use Rattle.store.proofs.BindLaws.{saved-bind-all}
@@ -73,14 +73,14 @@ left-pos s terms zero at c n e = absurd (some-not-none e (script-none s terms at
 left-pos s terms (suc left) at c n e = omega arith
 
 -- the end of what was read, as a reader answers it
-module _ {A : Type 0} (o : Got A) (a : A) (n : ℕ) (e : o ≡ some (a, n)) (r : Read) (f : r ≡ next_of o) where
-  pub end_is : (m : ℕ) → r ≡ Reads.Next m → m ≡ n
+module _ {A : Type 0} (o : Got A) (a : A) (n : ℕ) (e : o ≡ some (a, n)) (r : Answer.Option ℕ) (f : r ≡ next_of o) where
+  pub end_is : (m : ℕ) → r ≡ Some m → m ≡ n
   unfolding next_of
-  end_is m g = let h : Reads.Next m ≡ Reads.Next n = sym g ∙ (f ∙ ap next_of e) in cc
+  end_is m g = let h : Some m ≡ Some n = sym g ∙ (f ∙ ap next_of e) in cc
 
-  pub not-lost : r ≡ Reads.Malformed → ⊥
+  pub not-lost : r ≡ None → ⊥
   unfolding next_of
-  not-lost g = let h : Reads.Malformed ≡ Reads.Next n = sym g ∙ (f ∙ ap next_of e) in let z : ◌≡◌ {A = ℕ} 0 1 = cc in omega arith
+  not-lost g = let h : None ≡ Some n = sym g ∙ (f ∙ ap next_of e) in let z : ◌≡◌ {A = ℕ} 0 1 = cc in omega arith
 
 -- ── pairs ───────────────────────────────────────────────────────────────────────────────────
 
@@ -176,6 +176,9 @@ constant_number run s at k c e σ saved n g h = go n.name (name-says s n.loaded 
         there : (o : Option Term) → with_term d o ≡ ok g → d ≡ g.number
         there none j = absurd (let z : ◌≡◌ {A = ℕ} 0 1 = cc in omega arith)
         there (some t) j = let q : record { number = d; term = t } ≡ g = ok-is j in ap (λ (y : Named). y.number) q
+
+abbrev moved_to : SavedControl → Stepped
+moved_to control = Ok control
 
 -- ── the item on top ─────────────────────────────────────────────────────────────────────────
 
@@ -282,17 +285,17 @@ module _ {script : List ℕ} {loaded : ℕ} {run : SavedControl} {at : ℕ} (x :
 
   -- ── success ───────────────────────────────────────────────────────────────────────────────
 
-  pub success-acts : byte script at ≡ 0x71 → (r : Stepped) (saved : SavedControl) → r ≡ moved_to saved → saved ≡ popped run → Acts x r
+  pub success-acts : byte script at ≡ 0x71 → (saved : SavedControl) → saved ≡ popped run → Acts x (Ok saved)
   unfolding act stepped_of
-  success-acts k r saved e f ranks clock n =
-      if-success (λ c. outcome ranks clock c ≡ ok n → r ≡ stepped_of run n) k (λ o h.
+  success-acts k saved f ranks clock n =
+      if-success (λ c. outcome ranks clock c ≡ ok n → Ok saved ≡ stepped_of run n) k (λ o h.
       let is : step (with_stack s x.rest) ≡ n = cc in
-      e ∙ (ap moved_to (f ∙ (ap popped run_is ∙ saved-pop types β x.item x.rest room)) ∙ ap (stepped_of run) is))
+      (ap moved_to (f ∙ (ap popped run_is ∙ saved-pop types β x.item x.rest room)) ∙ ap (stepped_of run) is))
 
   -- ── a sequence ────────────────────────────────────────────────────────────────────────────
 
   -- what the reader finds of its two scripts
-  pub record Two (r : Read) : Type 0 where
+  pub record Two (r : Answer.Option ℕ) : Type 0 where
     pub first : Script
     pub second : Script
     pub next : ℕ
@@ -301,10 +304,10 @@ module _ {script : List ℕ} {loaded : ℕ} {run : SavedControl} {at : ℕ} (x :
     pub second_at : offset_of second ≡ next
     pub low : next < length script
     pub room2 : suc (length x.rest) < 24
-    pub found : (m : ℕ) → r ≡ Reads.Next m → m ≡ next
-    pub there : r ≡ Reads.Malformed → ⊥
+    pub found : (m : ℕ) → r ≡ Some m → m ≡ next
+    pub there : r ≡ None → ⊥
 
-  pub two : byte script at ≡ 0x74 → (r : Read) → r ≡ next_of (read_script script loaded 24 (at + 1)) → Two r
+  pub two : byte script at ≡ 0x74 → (r : Answer.Option ℕ) → r ≡ next_of (read_script script loaded 24 (at + 1)) → Two r
   two k r f = if-sequence (λ c. x.item.script ≡ c → Two r) k make refl
     where
       make : (o : ℕ) (c d : Script) → SequenceAt script loaded top.left at o c d top.ends → x.item.script ≡ sequence o c d → Two r
@@ -326,10 +329,10 @@ module _ {script : List ℕ} {loaded : ℕ} {run : SavedControl} {at : ℕ} (x :
             there = λ g. not-lost (read_script script loaded 24 (at + 1)) c q.next up r f g;
           }
 
-  pub sequence-acts : (r : Read) (t : Two r) (m : ℕ) → r ≡ Reads.Next m → (below above : SavedItem) → below ≡ fresh_item m → above ≡ fresh_item (at + 1)
-      → (saved : SavedControl) → saved ≡ pushed (replaced run below) above → (y : Stepped) → y ≡ moved_to saved → Acts x y
+  pub sequence-acts : (r : Answer.Option ℕ) (t : Two r) (m : ℕ) → r ≡ Some m → (below above : SavedItem) → below ≡ fresh_item m → above ≡ fresh_item (at + 1)
+      → (saved : SavedControl) → saved ≡ pushed (replaced run below) above → Acts x (Ok saved)
   unfolding act stepped_of
-  sequence-acts r t m g below above b a saved f y h ranks clock n k =
+  sequence-acts r t m g below above b a saved f ranks clock n k =
       let item_of : (c : Script) (i : SavedItem) (o : ℕ) → i ≡ fresh_item o → offset_of c ≡ o → i ≡ saved_item (fresh c) =
       λ c i o p q. p ∙ (ap fresh_item (sym q) ∙ sym (fresh-is c)) in
       let lower : replaced run below ≡ saved_with β (fresh t.second ∷ x.rest) =
@@ -340,22 +343,22 @@ module _ {script : List ℕ} {loaded : ℕ} {run : SavedControl} {at : ℕ} (x :
       ∙ saved-push types β (fresh t.first) (fresh t.second ∷ x.rest) t.room2) in
       let is : step (with_stack s (fresh t.first ∷ fresh t.second ∷ x.rest)) ≡ n =
       (let j : outcome ranks clock (sequence at t.first t.second) ≡ ok n = ap (outcome ranks clock) (sym t.is) ∙ k in cc) in
-      h ∙ (ap moved_to upper ∙ ap (stepped_of run) is)
+      ap moved_to upper ∙ ap (stepped_of run) is
 
   -- ── from named ────────────────────────────────────────────────────────────────────────────
 
   -- what the reader finds of its name and its script
-  pub record From (r : Read) : Type 0 where
+  pub record From (r : Answer.Option ℕ) : Type 0 where
     pub name : NameReads script (at + 1)
     pub body : Script
     pub next : ℕ
     pub is : x.item.script ≡ from_named at name.name body
     pub body_at : offset_of body ≡ next
     pub low : next < length script
-    pub found : (m : ℕ) → r ≡ Reads.Next m → m ≡ next
-    pub there : r ≡ Reads.Malformed → ⊥
+    pub found : (m : ℕ) → r ≡ Some m → m ≡ next
+    pub there : r ≡ None → ⊥
 
-  pub from : byte script at ≡ 0x72 → (r : Read) → r ≡ next_of (read_name script loaded 24 (at + 1)) → From r
+  pub from : byte script at ≡ 0x72 → (r : Answer.Option ℕ) → r ≡ next_of (read_name script loaded 24 (at + 1)) → From r
   from k r f = if-named (λ c. x.item.script ≡ c → From r) k make refl
     where
       make : (o : ℕ) (y : Name) (c : Script) → NamedAt script loaded top.left at o y c top.ends → x.item.script ≡ from_named o y c → From r
@@ -380,7 +383,7 @@ module _ {script : List ℕ} {loaded : ℕ} {run : SavedControl} {at : ℕ} (x :
   fetched-is store stored =
       ap fetched_in stored ∙ take_at s.store.fetched (replicate (64 - length s.store.fetched) 0) (length s.store.fetched) refl
 
-  module _ (r : Read) (t : From r) (graph : ℕ) (number : NumberOf run script (at + 1) graph) where
+  module _ (r : Answer.Option ℕ) (t : From r) (graph : ℕ) (number : NumberOf run script (at + 1) graph) where
     -- the machine's own way: the graph's number, and what it does
     named-acts : (b : Bool) → is_in graph s.store.fetched ≡ b → (ranks : List ℕ) (clock : ℤ) (n : Next) → outcome ranks clock x.item.script ≡ ok n
         → n ≡ cond b (step (with_stack s (fresh t.body ∷ x.rest))) (stand (Wanted graph))
@@ -395,21 +398,21 @@ module _ {script : List ℕ} {loaded : ℕ} {run : SavedControl} {at : ℕ} (x :
         ∙ ap (λ (b : Bool). cond b (step (with_stack s (fresh c ∷ x.rest))) (stand (Wanted graph))) e)
 
     module _ (store : SavedStore) (stored : store ≡ saved_store s.store) where
-      pub fetched-acts : (b : Bool) → b ≡ is_in graph (fetched_in store) → b ≡ true → (m : ℕ) → r ≡ Reads.Next m → (item : SavedItem) → item ≡ fresh_item m
-          → (saved : SavedControl) → saved ≡ replaced run item → (y : Stepped) → y ≡ moved_to saved → Acts x y
+      pub fetched-acts : (b : Bool) → b ≡ is_in graph (fetched_in store) → b ≡ true → (m : ℕ) → r ≡ Some m → (item : SavedItem) → item ≡ fresh_item m
+          → (saved : SavedControl) → saved ≡ replaced run item → Acts x (Ok saved)
       unfolding stepped_of
-      fetched-acts b e h m g item i saved f y z ranks clock n k =
+      fetched-acts b e h m g item i saved f ranks clock n k =
           let c = t.body in
           let is : is_in graph s.store.fetched ≡ true = ap (is_in graph) (sym (fetched-is store stored)) ∙ (sym e ∙ h) in
           let new : item ≡ saved_item (fresh c) = i ∙ (ap fresh_item (t.found m g ∙ sym t.body_at) ∙ sym (fresh-is c)) in
-          z ∙ (ap moved_to (f ∙ (ap₂ replaced run_is new ∙ saved-replace types β x.item x.rest room (fresh c)))
-          ∙ ap (stepped_of run) (sym (named-acts true is ranks clock n k)))
+          ap moved_to (f ∙ (ap₂ replaced run_is new ∙ saved-replace types β x.item x.rest room (fresh c)))
+          ∙ ap (stepped_of run) (sym (named-acts true is ranks clock n k))
 
-      pub wanted-acts : (b : Bool) → b ≡ is_in graph (fetched_in store) → b ≡ false → (y : Stepped) → y ≡ stands_at run (Wanted graph) → Acts x y
+      pub wanted-acts : (b : Bool) → b ≡ is_in graph (fetched_in store) → b ≡ false → Acts x (Err (Wanted graph))
       unfolding stepped_of
-      wanted-acts b e h y z ranks clock n k =
+      wanted-acts b e h ranks clock n k =
           let is : is_in graph s.store.fetched ≡ false = ap (is_in graph) (sym (fetched-is store stored)) ∙ (sym e ∙ h) in
-          z ∙ ap (stepped_of run) (sym (named-acts false is ranks clock n k))
+          ap (stepped_of run) (sym (named-acts false is ranks clock n k))
 
   -- ── a block ───────────────────────────────────────────────────────────────────────────────
 
@@ -480,48 +483,46 @@ module _ {script : List ℕ} {loaded : ℕ} {run : SavedControl} {at : ℕ} (x :
     parts-of each bs' q c e = let p : block at b.reads.each bs b.reads.query b.reads.body ≡ block at each bs' q c = sym b.is ∙ e in (cc, cc)
 
     pub once-enters : (body : ℕ) → BodyAt script loaded at body → (bound : SavedControl) → bound ≡ bound_all run (pair_variables (byte script (at + 2)) script (at + 3)) t
-        → (item : SavedItem) → item ≡ fresh_item body → (saved : SavedControl) → saved ≡ replaced bound item → (y : Stepped) → y ≡ moved_to saved
-        → (found : Bool) → found ≡ true → EntersOnce x (answer_of found (byte script (at + 2)) tuple) y
+        → (item : SavedItem) → item ≡ fresh_item body → (saved : SavedControl) → saved ≡ replaced bound item
+        → (answer : Maybe (List ℕ)) → answer ≡ Some tuple → EntersOnce x (answer_of answer (byte script (at + 2))) (Ok saved)
     unfolding enter_once stepped_of
-    once-enters body f bound e item i saved g y z found h bs' q c k =
+    once-enters body f bound e item i saved g answer h bs' q c k =
         let p = parts-of false bs' q c k in
         let new : saved ≡ saved_with after (fresh b.reads.body ∷ x.rest) =
         g ∙ (ap₂ replaced (bound-is bound e) (fresh-body body f item i) ∙ saved-replace types after x.item x.rest room (fresh b.reads.body)) in
-        z ∙ (ap moved_to new
+        ap moved_to new
         ∙ ((λ j. moved_to (saved_control types (with_answer s (variables_of (p.0 j)) t (fresh (p.1 j) ∷ x.rest)).control))
-        ∙ ap (λ (found : Bool). stepped_of run (enter_once s (variables_of bs') (fresh c ∷ x.rest) (answer_of found (byte script (at + 2)) tuple))) (sym h)))
+        ∙ ap (λ (a : Maybe (List ℕ)). stepped_of run (enter_once s (variables_of bs') (fresh c ∷ x.rest) (answer_of a (byte script (at + 2))))) (sym h))
 
     pub each-enters : (body : ℕ) → BodyAt script loaded at body → (bound : SavedControl) → bound ≡ bound_all run (pair_variables (byte script (at + 2)) script (at + 3)) t
         → (last : List ℕ) → last ≡ filled 4 t → (item : SavedItem) → item ≡ fresh_item body
-        → (saved : SavedControl) → saved ≡ pushed (replaced bound (record { «at» = at; started = true; last = last })) item → (y : Stepped) → y ≡ moved_to saved
-        → (found : Bool) → found ≡ true → EntersEach x (answer_of found (byte script (at + 2)) tuple) y
+        → (saved : SavedControl) → saved ≡ pushed (replaced bound (record { «at» = at; started = true; last = last })) item
+        → (answer : Maybe (List ℕ)) → answer ≡ Some tuple → EntersEach x (answer_of answer (byte script (at + 2))) (Ok saved)
     unfolding enter_each stepped_of saved_item
-    each-enters body f bound e last l item i saved g y z found h bs' q c k =
+    each-enters body f bound e last l item i saved g answer h bs' q c k =
         let p = parts-of true bs' q c k in
         let used : Item = record { script = block at true bs' q c; last = some t } in
         let lower : replaced bound (record { «at» = at; started = true; last = last }) ≡ saved_with after (used ∷ x.rest) =
         (λ j. replaced (bound-is bound e j) (record { «at» = at; started = true; last = l j })) ∙ saved-replace types after x.item x.rest room used in
         let new : saved ≡ saved_with after (fresh b.reads.body ∷ used ∷ x.rest) =
         g ∙ (ap₂ pushed lower (fresh-body body f item i) ∙ saved-push types after (fresh b.reads.body) (used ∷ x.rest) b.room2) in
-        z ∙ (ap moved_to new
+        ap moved_to new
         ∙ ((λ j. moved_to (saved_control types (with_answer s (variables_of (p.0 j)) t (fresh (p.1 j) ∷ used ∷ x.rest)).control))
-        ∙ ap (λ (found : Bool). stepped_of run
-        (enter_each s (variables_of bs') x.rest (λ t. fresh c ∷ record { script = block at true bs' q c; last = some t } ∷ x.rest)
-        (answer_of found (byte script (at + 2)) tuple))) (sym h)))
+        ∙ ap (λ (a : Maybe (List ℕ)). stepped_of run
+        (enter_each s (variables_of bs') x.rest (λ t. fresh c ∷ record { script = block at true bs' q c; last = some t } ∷ x.rest) (answer_of a (byte script (at + 2))))) (sym h))
 
-  pub once-waits : (tuple : List ℕ) (y : Stepped) → y ≡ stands_at run Waiting → (found : Bool) → found ≡ false → EntersOnce x (answer_of found (byte script (at + 2)) tuple) y
+  pub once-waits : (answer : Maybe (List ℕ)) → answer ≡ None → EntersOnce x (answer_of answer (byte script (at + 2))) (Err Waiting)
   unfolding enter_once stepped_of
-  once-waits tuple y z found h bs q c k =
-      z ∙ ap (λ (found : Bool). stepped_of run (enter_once s (variables_of bs) (fresh c ∷ x.rest) (answer_of found (byte script (at + 2)) tuple))) (sym h)
+  once-waits answer h bs' q c k =
+      ap (λ (a : Maybe (List ℕ)). stepped_of run (enter_once s (variables_of bs') (fresh c ∷ x.rest) (answer_of a (byte script (at + 2))))) (sym h)
 
-  pub each-drops : (tuple : List ℕ) (saved : SavedControl) → saved ≡ popped run → (y : Stepped) → y ≡ moved_to saved → (found : Bool) → found ≡ false
-      → EntersEach x (answer_of found (byte script (at + 2)) tuple) y
+  pub each-drops : (saved : SavedControl) → saved ≡ popped run → (answer : Maybe (List ℕ)) → answer ≡ None
+      → EntersEach x (answer_of answer (byte script (at + 2))) (Ok saved)
   unfolding enter_each stepped_of
-  each-drops tuple saved e y z found h bs q c k =
-      z ∙ (ap moved_to (e ∙ (ap popped run_is ∙ saved-pop types β x.item x.rest room))
-      ∙ ap (λ (found : Bool). stepped_of run
-      (enter_each s (variables_of bs) x.rest (λ t. fresh c ∷ record { script = block at true bs q c; last = some t } ∷ x.rest) (answer_of found (byte script (at + 2)) tuple)))
-      (sym h))
+  each-drops saved e answer h bs' q c k =
+      ap moved_to (e ∙ (ap popped run_is ∙ saved-pop types β x.item x.rest room))
+      ∙ ap (λ (a : Maybe (List ℕ)). stepped_of run
+      (enter_each s (variables_of bs') x.rest (λ t. fresh c ∷ record { script = block at true bs' q c; last = some t } ∷ x.rest) (answer_of a (byte script (at + 2))))) (sym h)
 
 -- where a block's script begins
 pub body-after : (script ends : List ℕ) (loaded at r : ℕ) → Ended script ends → r ≡ after_in ends (length script) (at + 11) → BodyAt script loaded at r

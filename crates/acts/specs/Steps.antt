@@ -1,5 +1,5 @@
 -- The saved control of a state of the machine, and what a step makes of it.
-use Rattle.std.specs.Prelude.{ℕ, ◌≤◌, Bool, true, false, cond, List, ◌∷◌, ◌≡◌, ℤ, length, take}
+use Rattle.std.specs.Prelude.{ℕ, ◌≤◌, Bool, true, false, List, ◌∷◌, ◌≡◌, ℤ, length, take, Option as Maybe, None, Some, Result, Ok, Err}
 use Rattle.std.proofs.Math.Option.{Option, none, some}
 use Rattle.definitions.specs.Limits.{script_limit, depth_limit}
 use Rattle.definitions.specs.Tree.{Script, block, Binder, Query, Name}
@@ -14,23 +14,19 @@ use Rattle.definitions.specs.Saved.{offset_of, saved_control}
 use Rattle.definitions.specs.Calls.{Checked, setting_of}
 use Rattle.definitions.specs.declared.SavedControl.{SavedControl}
 use Rattle.definitions.specs.declared.RunState.{RunState}
-use Rattle.definitions.specs.declared.RunState.TheVariants.{Spent}
 use Rattle.laws.specs.Sound.{Accepted, Sound}
 use Rattle.laws.specs.ScriptReads.{BlockAt}
-use Rattle.acts.specs.declared.Stepped.{Stepped}
 
 -- ── what a step says ────────────────────────────────────────────────────────────────────────
 
-abbrev pub moved_to : SavedControl → Stepped
-moved_to control = record { moved = true; ending = Spent; control = control }
-
-abbrev pub stands_at : SavedControl → RunState → Stepped
-stands_at control ending = record { moved = false; ending = ending; control = control }
+-- the saved control after a step, or why there is none
+abbrev pub Stepped : Type 0
+Stepped = Result SavedControl RunState
 
 -- a step to the next state's saved control, or none and why
 unfoldable pub stepped_of : SavedControl → Next → Stepped
-stepped_of run (step s) = moved_to (saved_control run.types s.control)
-stepped_of run (stand r) = stands_at run r
+stepped_of run (step s) = Ok (saved_control run.types s.control)
+stepped_of run (stand r) = Err r
 
 -- ── the state that a saved control is of ────────────────────────────────────────────────────
 
@@ -88,8 +84,9 @@ NumberOf run script at number =
 -- ── a block that has its answer ─────────────────────────────────────────────────────────────
 
 -- the first numbers of a tuple, where one was found
-abbrev pub answer_of : (found : Bool) → (count : ℕ) → (tuple : List ℕ) → Option Tuple
-answer_of found count tuple = cond found (some (take count tuple)) none
+abbrev pub answer_of : Maybe (List ℕ) → (count : ℕ) → Option Tuple
+answer_of None count = none
+answer_of (Some tuple) count = some (take count tuple)
 
 -- a block stands at an offset; its script begins where its query ends
 pub record BlockReads (script : List ℕ) (loaded at : ℕ) : Type 0 where

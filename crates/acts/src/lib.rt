@@ -1,4 +1,4 @@
-// What the item on top of the stack does: success, a sequence, from named, and a block with its answer.
+// What the item on top of the stack does: success, a sequence, from named, and a block with its answer. A step gives the saved control after it, or why there is none.
 #![tactic(auto)]
 
 ghost use Rattle.std.specs.Prelude.{◌≡◌, ◌+◌, ◌≤◌};
@@ -6,10 +6,10 @@ ghost use Rattle.definitions.specs.Limits.{graph_limit};
 ghost use Rattle.definitions.specs.Bytes.{byte};
 ghost use Rattle.definitions.specs.Saved.{saved_store};
 ghost use Rattle.laws.specs.Ends.{EndsLent};
-ghost use Rattle.acts.specs.Steps.{moved_to, stands_at, OnTop, Acts, NameReads, NumberOf, BlockReads, BodyAt, answer_of, EntersOnce, EntersEach};
+ghost use Rattle.acts.specs.Steps.{OnTop, Acts, NameReads, NumberOf, BlockReads, BodyAt, answer_of, EntersOnce, EntersEach};
 
 use definitions::{
-    DEPTH_LIMIT, PAIR_LIMIT, QUERY_OFFSET, Read, RunState, SavedControl, SavedItem, SavedStore,
+    DEPTH_LIMIT, PAIR_LIMIT, QUERY_OFFSET, RunState, SavedControl, SavedItem, SavedStore,
 };
 use ends::after;
 use fields::numbers::{index, number_at};
@@ -18,60 +18,40 @@ use store::canonical::first_numbers;
 use store::graphs::is_fetched;
 use store::stack::{bind_tuple, fresh_item, pop, replace, replace_and_push};
 
-// A step's result: whether it moved, why it stands where it did not, and the saved control after it.
-#[derive(Clone, Copy)]
-pub struct Stepped {
-    pub moved: bool,
-    pub ending: RunState,
-    pub control: SavedControl,
-}
-
-fn moved(control: SavedControl) -> Stepped
-    ensures { result ≡ moved_to control }
-{
-    Stepped {
-        moved: true,
-        ending: RunState::Spent,
-        control,
-    }
-}
-
-// No step: the saved control as it was, and why it stands.
-// Ruled out: a stand that says it moved; one that changes the saved control.
-pub fn stands(control: SavedControl, ending: RunState) -> Stepped
-    ensures { result ≡ stands_at control ending }
-{
-    Stepped {
-        moved: false,
-        ending,
-        control,
-    }
-}
-
 // Success is dropped.
 // Ruled out: success that stays on top; two items dropped.
-pub fn drop_success(run: SavedControl, script: &[u8], loaded: usize, at: usize) -> Stepped
+pub fn drop_success(
+    run: SavedControl,
+    script: &[u8],
+    loaded: usize,
+    at: usize,
+) -> Result<SavedControl, RunState>
     requires on_top { OnTop script.now loaded run at }
     requires at_value { byte script.now at ≡ 0x71 }
     ensures { (x : OnTop script.now loaded run at) → Acts x result }
 {
-    moved(pop(run))
+    Ok(pop(run))
 }
 
 // A sequence becomes its first script on top of its second.
 // Ruled out: the second script on top; the sequence left below its scripts.
-pub fn enter_sequence(run: SavedControl, script: &[u8], loaded: usize, at: usize) -> Stepped
+pub fn enter_sequence(
+    run: SavedControl,
+    script: &[u8],
+    loaded: usize,
+    at: usize,
+) -> Result<SavedControl, RunState>
     requires on_top { OnTop script.now loaded run at }
     requires at_value { byte script.now at ≡ 0x74 }
     ensures { (x : OnTop script.now loaded run at) → Acts x result }
 {
     let first = at + 1;
-    let Read::Next(second) = read_script(script, loaded, first, DEPTH_LIMIT) else {
-        return stands(run, RunState::Ended);
+    let Some(second) = read_script(script, loaded, first, DEPTH_LIMIT) else {
+        return Err(RunState::Ended);
     };
     let below = fresh_item(second as u16);
     let above = fresh_item(first as u16);
-    moved(replace_and_push(run, below, above))
+    Ok(replace_and_push(run, below, above))
 }
 
 // The term number that a name stands for: a variable's, or a constant's own.
@@ -96,22 +76,22 @@ pub fn enter_named(
     script: &[u8],
     loaded: usize,
     at: usize,
-) -> Stepped
+) -> Result<SavedControl, RunState>
     requires on_top { OnTop script.now loaded run at }
     requires at_value { byte script.now at ≡ 0x72 }
     requires graphs_le_graph_limit { store.graphs ≤ graph_limit }
     ensures { (x : OnTop script.now loaded run at) → store ≡ saved_store x.here.state.store → Acts x result }
 {
     let name = at + 1;
-    let Read::Next(body) = read_name(script, loaded, name, DEPTH_LIMIT) else {
-        return stands(run, RunState::Ended);
+    let Some(body) = read_name(script, loaded, name, DEPTH_LIMIT) else {
+        return Err(RunState::Ended);
     };
     let graph = number_of(run, script, name);
     if is_fetched(store, graph) {
         let item = fresh_item(body as u16);
-        return moved(replace(run, item));
+        return Ok(replace(run, item));
     }
-    stands(run, RunState::Wanted(graph))
+    Err(RunState::Wanted(graph))
 }
 
 // The offset of a block's script, after its query.
@@ -133,23 +113,22 @@ pub fn enter_once(
     loaded: usize,
     at: usize,
     body: usize,
-    found: bool,
-    tuple: [u16; PAIR_LIMIT],
-) -> Stepped
+    answer: Option<[u16; PAIR_LIMIT]>,
+) -> Result<SavedControl, RunState>
     requires on_top { OnTop script.now loaded run at }
     requires at_value { byte script.now at ≡ 0x73 }
     requires body_at { BodyAt script.now loaded at body }
-    ensures { (x : OnTop script.now loaded run at) → EntersOnce x (answer_of found (byte script.now (at + 2)) tuple) result }
+    ensures { (x : OnTop script.now loaded run at) → EntersOnce x (answer_of answer (byte script.now (at + 2))) result }
 {
-    if !found {
-        return stands(run, RunState::Waiting);
-    }
+    let Some(tuple) = answer else {
+        return Err(RunState::Waiting);
+    };
     let second = at + 2;
     let pairs = at + 3;
     let count = index(script[second]);
     let bound = bind_tuple(run, script, pairs, count, tuple);
     let item = fresh_item(body as u16);
-    moved(replace(bound, item))
+    Ok(replace(bound, item))
 }
 
 // An each block binds its answer and puts its script on top of itself; with none it is dropped.
@@ -160,17 +139,16 @@ pub fn enter_each(
     loaded: usize,
     at: usize,
     body: usize,
-    found: bool,
-    tuple: [u16; PAIR_LIMIT],
-) -> Stepped
+    answer: Option<[u16; PAIR_LIMIT]>,
+) -> Result<SavedControl, RunState>
     requires on_top { OnTop script.now loaded run at }
     requires at_value { byte script.now at ≡ 0x73 }
     requires body_at { BodyAt script.now loaded at body }
-    ensures { (x : OnTop script.now loaded run at) → EntersEach x (answer_of found (byte script.now (at + 2)) tuple) result }
+    ensures { (x : OnTop script.now loaded run at) → EntersEach x (answer_of answer (byte script.now (at + 2))) result }
 {
-    if !found {
-        return moved(pop(run));
-    }
+    let Some(tuple) = answer else {
+        return Ok(pop(run));
+    };
     let second = at + 2;
     let pairs = at + 3;
     let variables = script[second];
@@ -184,5 +162,5 @@ pub fn enter_each(
         last,
     };
     let item = fresh_item(body as u16);
-    moved(replace_and_push(bound, used, item))
+    Ok(replace_and_push(bound, used, item))
 }

@@ -4,9 +4,9 @@
 ghost use Rattle.std.specs.Prelude.{◌≡◌, length};
 ghost use Rattle.definitions.specs.Limits.{ranks_width};
 ghost use Rattle.definitions.specs.Alphabet.{is_alphabet};
-ghost use Rattle.alphabet.specs.Unread.{unread_number};
+ghost use Rattle.alphabet.specs.Unread.{unread_refusal};
 
-use definitions::{BAD_RANKS, RANKS_WIDTH, UNSOUND};
+use definitions::{RANKS_WIDTH, Refusal};
 
 // Whether each rank stands once: one pass, which stops at a number that is no rank and at a rank that was met before.
 // Ruled out: a list with a rank twice; a list with rank 95.
@@ -15,9 +15,8 @@ pub fn is_alphabet(ranks: &[u8]) -> bool
     ensures { result ≡ is_alphabet ranks.now }
 {
     let mut met = [false; RANKS_WIDTH];
-    let mut i = 0;
-    while i < RANKS_WIDTH {
-        let rank = ranks[i] as usize;
+    for &number in ranks {
+        let rank = number as usize;
         if RANKS_WIDTH <= rank {
             return false;
         }
@@ -25,18 +24,17 @@ pub fn is_alphabet(ranks: &[u8]) -> bool
             return false;
         }
         met[rank] = true;
-        i += 1;
     }
     true
 }
 
 // The refusal where no saved run has the bytes. Ruled out: 10 whatever the ranks are; 21 whatever they are.
-pub fn unread_number(ranks: &[u8]) -> u8
+pub fn unread_refusal(ranks: &[u8]) -> Refusal
     requires { length ranks.now ≡ ranks_width }
-    ensures { result ≡ unread_number ranks.now }
+    ensures { result ≡ unread_refusal ranks.now }
 {
     if is_alphabet(ranks) {
-        return UNSOUND;
+        return Refusal::Unsound;
     }
-    BAD_RANKS
+    Refusal::BadRanks
 }

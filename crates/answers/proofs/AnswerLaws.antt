@@ -52,7 +52,8 @@ use Rattle.search.specs.Finding.{numbers_from, tuple_of, last_of, World, AnswerO
 use Rattle.search.specs.Trying.{tuple_fits, TriedOf}
 use Rattle.search.specs.declared.Tried.{Tried}
 use Rattle.search.specs.declared.Block.{Block}
-use Rattle.search.specs.declared.Found.{Found}
+use Rattle.std.specs.Prelude.{Option as Maybe, None, Some, option_map, is_some, IfSome as WhereSome, Result, Ok, Err, OkIff}
+use Rattle.std.specs.Result.{result_unwrap_or}
 use Rattle.laws.specs.Pairs.{pair_variables}
 use Rattle.store.specs.Stack.{top_of}
 use Rattle.acts.specs.Steps.{Top, on_top, answer_of}
@@ -213,6 +214,11 @@ four_is (a ∷ b ∷ c ∷ []) e = absurd (omega arith)
 four_is (a ∷ b ∷ c ∷ d ∷ []) e = refl
 four_is (a ∷ b ∷ c ∷ d ∷ x ∷ l) e = absurd (omega arith)
 
+-- a function at each of four numbers
+pub at-four : (f : ℕ → ℕ) (l m : List ℕ) → length m ≡ 4 → ((i : ℕ) → i < 4 → get_or m i 0 ≡ f (get_or l i 0))
+    → m ≡ f (get_or l 0 0) ∷ f (get_or l 1 0) ∷ f (get_or l 2 0) ∷ f (get_or l 3 0) ∷ []
+at-four f l m h e = sym (four_is m h) ∙ (λ z. e 0 (omega arith) z ∷ e 1 (omega arith) z ∷ e 2 (omega arith) z ∷ e 3 (omega arith) z ∷ [])
+
 -- of four numbers those past the variables do not matter
 bind-front : (l vs : List ℕ) → length vs ≤ 4 → (β : Bindings) → bind vs (numbers_from (length vs) (four_of l) 0) β ≡ bind vs (four_of l) β
 unfolding bind numbers_from
@@ -242,13 +248,18 @@ fits_low S Γ terms l (v ∷ vs) [] h = absurd h
 fits_low S Γ terms l (v ∷ vs) (i ∷ t) h =
     (omega (arith, is_below terms i h.0.term h.0.there), fits_low S Γ terms l vs t h.1)
 
-pub short-is : (n : ℕ) → n < sought_code → n ≡ short_number n
+short-is : (n : ℕ) → n < sought_code → n ≡ short_number n
 unfolding short_number
 short-is n l = sym (ap (λ (b : Bool). cond b n 0) (lt-ltb n sought_code l))
 
-pub short-not : (n : ℕ) → sought_code ≤ n → 0 ≡ short_number n
+short-not : (n : ℕ) → sought_code ≤ n → 0 ≡ short_number n
 unfolding short_number
 short-not n l = sym (ap (λ (b : Bool). cond b n 0) (le-ltb n sought_code l))
+
+-- a conversion that may fail, with zero where it does
+pub short-of : {E : Type 0} (r : Result ℕ E) (n : ℕ) → OkIff r (n < 65536) n → result_unwrap_or r 0 ≡ short_number n
+short-of (Ok m) n h = h.1 ∙ short-is n h.0
+short-of (Err e) n h = short-not n (omega (arith, h))
 
 shorts-are : (n : ℕ) → n ≤ 4 → (l : List ℕ) → All (λ i. i < sought_code) (numbers_from n l 0) → numbers_from n l 0 ≡ take n (short_numbers l)
 unfolding numbers_from
@@ -262,14 +273,10 @@ shorts-are (suc (suc (suc (suc zero)))) h l a =
 shorts-are (suc (suc (suc (suc (suc n))))) h l a = absurd (omega arith)
 
 -- what is found fits the variables, and so is what the saved run can hold
-found-is : (S : Schema) (Γ : Typing) (terms : List Term) → length terms ≤ term_limit → (vs : List ℕ) (n : ℕ) → n ≤ 4 → (r : Found)
-    → IfSome (Fits S Γ terms vs) (tuple_of r 0 n) → tuple_of r 0 n ≡ answer_of r.found n (short_numbers r.tuple)
-found-is S Γ terms few vs n l r = go r.found
-  where
-    go : (b : Bool) → IfSome (Fits S Γ terms vs) (cond b (some (numbers_from n r.tuple 0)) none)
-        → cond b (some (numbers_from n r.tuple 0)) none ≡ cond b (some (take n (short_numbers r.tuple))) none
-    go false h = refl
-    go true h = ap some (shorts-are n l r.tuple (fits_low S Γ terms few vs (numbers_from n r.tuple 0) h))
+found-is : (S : Schema) (Γ : Typing) (terms : List Term) → length terms ≤ term_limit → (vs : List ℕ) (n : ℕ) → n ≤ 4 → (r : Maybe (List ℕ))
+    → IfSome (Fits S Γ terms vs) (tuple_of r 0 n) → tuple_of r 0 n ≡ answer_of (option_map short_numbers r) n
+found-is S Γ terms few vs n l None h = refl
+found-is S Γ terms few vs n l (Some t) h = ap some (shorts-are n l t (fits_low S Γ terms few vs (numbers_from n t 0) h))
 
 -- ── the block ───────────────────────────────────────────────────────────────────────────────
 
@@ -371,17 +378,17 @@ module _ {script ranks table quads leasts : List ℕ} {x : Context} {run : Saved
       world-here =
           world c w.here.accepted s w.here.sound w.scope t.stack is script ranks w.ranked w.told w.lent seen b.reads.reads.next read_here b.four block-small typed-here
 
-      answered : (started : Bool) (r : Found) → AnswerOf world-here free started r
+      answered : (started : Bool) (r : Maybe (List ℕ)) → AnswerOf world-here free started r
           → answer_now (setting w) (typing w) s (variables_of bs) q (last_of started (four_of used) 0 n) ≡ ok (tuple_of r 0 n)
       answered started r =
           answer-now c w.here.accepted s w.here.sound w.scope t.stack is script ranks w.ranked w.told w.lent seen
           b.reads.reads.next read_here b.four block-small typed-here free started r vars-are known-now
 
       -- what trying promises, in the machine's terms
-      tried : (r : Tried) → length used ≡ 4 → TriedOf world-here free (four_of used) 0 r
+      tried : (r : Maybe Tried) → length used ≡ 4 → TriedOf world-here free (four_of used) 0 r
           → let β = bind (variables_of bs) used s.control.bindings in
-          (r.fits ≡ tuple_fits c.schema (type_at c.types) s.store.terms (variables_of bs) used)
-          × (r.fits ≡ true → (query (setting w) s.store.terms s.store.quads β q ≡ ok r.holds) × (r.records ≡ query_records (setting w) s.store.terms s.store.quads β q))
+          (is_some r ≡ tuple_fits c.schema (type_at c.types) s.store.terms (variables_of bs) used)
+          × WhereSome r (λ y. (query (setting w) s.store.terms s.store.quads β q ≡ ok y.holds) × (y.records ≡ query_records (setting w) s.store.terms s.store.quads β q))
       unfolding setting_in
       tried r four h =
           let vs = variables_of bs in
@@ -397,22 +404,22 @@ module _ {script ranks table quads leasts : List ℕ} {x : Context} {run : Saved
           let g₁ : Given vs (bindings_of free) (numbers_from (n - 0) (four_of used) 0) = subst (λ (y : List ℕ). Given y (bindings_of free) (numbers_from (n - 0) (four_of used) 0)) vars h in
           let g₂ : Given vs β (numbers_from (n - 0) (four_of used) 0) = subst (λ (δ : Bindings). Given vs δ (numbers_from (n - 0) (four_of used) 0)) known-now g₁ in
           let g = subst (Given vs β) numbers g₂ (block_apart w.scope item-here.in_root) ready in
-          (g.0 ∙ fit, λ e. subst Comes bound (g.1 e))
+          (g.0 ∙ fit, subst Comes bound g.1)
         where
           Comes : Bindings → Type 0
           Comes δ =
-              (query (setting w) s.store.terms s.store.quads δ q ≡ ok r.holds) × (r.records ≡ query_records (setting w) s.store.terms s.store.quads δ q)
+              WhereSome r (λ y. (query (setting w) s.store.terms s.store.quads δ q ≡ ok y.holds) × (y.records ≡ query_records (setting w) s.store.terms s.store.quads δ q))
 
           Given : List ℕ → Bindings → Tuple → Type 0
           Given vs δ t =
               T (distinct eqb vs) → Ready c.schema (type_at c.types) s.store.terms δ vs q
-              → (r.fits ≡ tuple_fits c.schema (type_at c.types) s.store.terms vs t) × (r.fits ≡ true → Comes (bind vs t δ))
+              → (is_some r ≡ tuple_fits c.schema (type_at c.types) s.store.terms vs t) × Comes (bind vs t δ)
 
     pub answers-now : (started : Bool) (item : SavedItem) → item ≡ top_of run → started ≡ item.started → used ≡ item.last
-        → (r : Found) → ((y : World script ranks table quads leasts x seen) → AnswerOf y free started r)
-        → (tuple : List ℕ) → tuple ≡ short_numbers r.tuple → AnswersNow w t r.found tuple
+        → (r : Maybe (List ℕ)) → ((y : World script ranks table quads leasts x seen) → AnswerOf y free started r)
+        → (answer : Maybe (List ℕ)) → answer ≡ option_map short_numbers r → AnswersNow w t answer
     unfolding saved_item
-    answers-now started item i e f r h tuple g each bs q d is =
+    answers-now started item i e f r h answer g each bs q d is =
         let on : item ≡ saved_item t.item = i ∙ top-item in
         let last : last_of started (four_of used) 0 n ≡ t.item.last =
         ap (λ (l : List ℕ). cond started (some l) none) (four-numbers n b.four used)
@@ -423,7 +430,7 @@ module _ {script ranks table quads leasts : List ℕ} {x : Context} {run : Saved
         let fit = fine-at (tuple_of r 0 n) p (ready-fits (setting w) (typing w) s.store.terms s.store.quads s.control.bindings
         (variables_of bs) q (ready each bs q d is) t.item.last) in
         p ∙ ap ok (found-is c.schema (type_at c.types) s.store.terms (terms-few c w.here.accepted s w.here.sound) (variables_of bs) n b.four r fit
-        ∙ ap (answer_of r.found n) (sym g))
+        ∙ ap (λ (o : Maybe (List ℕ)). answer_of o n) (sym g))
 
     -- as the code made them
     module _ (block : Block) (made : block ≡ seen) where
@@ -432,15 +439,15 @@ module _ {script ranks table quads leasts : List ℕ} {x : Context} {run : Saved
           subst (World script ranks table quads leasts x) (sym made) (world-here b.reads.each b.reads.binders b.reads.query b.reads.body b.is)
 
       pub answers-given : (known : List ℕ) → known ≡ free → (started : Bool) (item : SavedItem) → item ≡ top_of run → started ≡ item.started → used ≡ item.last
-          → (r : Found) → ((y : World script ranks table quads leasts x block) → AnswerOf y known started r)
-          → (tuple : List ℕ) → tuple ≡ short_numbers r.tuple → AnswersNow w t r.found tuple
+          → (r : Maybe (List ℕ)) → ((y : World script ranks table quads leasts x block) → AnswerOf y known started r)
+          → (answer : Maybe (List ℕ)) → answer ≡ option_map short_numbers r → AnswersNow w t answer
       answers-given known e started item i f g r h =
           answers-now started item i f g r
           (subst (λ (k : List ℕ). (y : World script ranks table quads leasts x seen) → AnswerOf y k started r) e
           (subst (λ (z : Block). (y : World script ranks table quads leasts x z) → AnswerOf y known started r) made h))
 
       pub tries-given : length used ≡ 4 → (known : List ℕ) → known ≡ free → (numbers : List ℕ) → numbers ≡ four_of used
-          → (r : Tried) → ((y : World script ranks table quads leasts x block) → TriedOf y known numbers 0 r) → TriesNow w t used r
+          → (r : Maybe Tried) → ((y : World script ranks table quads leasts x block) → TriedOf y known numbers 0 r) → TriesNow w t used r
       tries-given four known e numbers f r h each bs q d is =
           tried each bs q d is r four
           (subst (λ (k : List ℕ). (y : World script ranks table quads leasts x seen) → TriedOf y k (four_of used) 0 r) e

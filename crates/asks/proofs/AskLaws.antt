@@ -1,5 +1,5 @@
 -- Laws of what a record asks, for each way through the code.
-use Prim.Native.Nat.{ℕ, ◌+◌, ◌-◌, ◌≤◌}
+use Prim.Native.Nat.{ℕ, ◌+◌, ◌-◌, ◌≤◌, ◌<◌}
 use native.Mathlib.Omega.{arith}
 use mathlib.Core.Path.{◌≡◌, refl, sym, ap, ap₂, subst, ◌∙◌}
 use mathlib.Core.List.{List, [], ◌∷◌, ◌++◌}
@@ -24,7 +24,9 @@ use Rattle.laws.proofs.Reading.{row-keys}
 use Rattle.laws.proofs.TestEquations.{eqb_swap}
 use Rattle.laws.proofs.Valid.{string-inv, number-inv}
 use Rattle.laws.proofs.Slots.{uri-of}
-use Rattle.fields.specs.Answers.{code_of}
+use Rattle.std.specs.Prelude.{Some, None}
+use Rattle.fields.specs.Answers.{code_of, code_if}
+use Rattle.fields.proofs.NumberLaws.{code-some, code-none}
 use Rattle.fields.proofs.PartLaws.{rest_part, some-part}
 use Rattle.fields.proofs.SameLaws.{same-uris, compared}
 
@@ -118,6 +120,20 @@ literal-asks p Datatype.decimal b t n e = rw (number-inv is_decimal Term.decimal
 literal-asks p Datatype.date_time b t n e = rw (number-inv is_date_time Term.date_time b t e).0
 literal-asks p Datatype.integer b t n e = rw (number-inv is_integer Term.integer b t e).0
 
+-- as the code answers it
+positive : (d : Datatype) → 0 < datatype_code d
+positive any_uri = omega arith
+positive string = omega arith
+positive decimal = omega arith
+positive date_time = omega arith
+positive integer = omega arith
+
+pub asks-none : {k : ℕ} → 0 ≡ k → None ≡ code_if k
+asks-none {k} e = code-none k (sym e)
+
+pub asks-some : {c k : ℕ} → 0 < c → c ≡ k → Some c ≡ code_if k
+asks-some {c} {k} h e = ap Some e ∙ code-some k (omega arith)
+
 module _ (page : List ℕ) (at next : ℕ) (x : Triple) (h : TripleAt page at x next) where
   pub no-uri : (byte page at ≡ 0x81 → ⊥) → 0 ≡ code_of (asks x.property x.object)
   no-uri n =
@@ -156,8 +172,8 @@ module _ (page : List ℕ) (at next : ℕ) (x : Triple) (h : TripleAt page at x 
 
       pub range-asks : r ≡ true → {c : ℕ}
           → ((u : Text) → uri_text (part page (at + object_offset) (at + object_offset + text_width - (at + object_offset))) ≡ some u → c ≡ datatype_code (named_or_uri (named u)))
-          → c ≡ code_of (asks x.property x.object)
-      range-asks q f = f object_of.0 object-uri ∙ sym (ap code_of asks_of ∙ here x.property object_of.0 (sym ranged ∙ q))
+          → Some c ≡ code_if (code_of (asks x.property x.object))
+      range-asks q {c} f = asks-some (omega (arith, f object_of.0 object-uri, positive (named_or_uri (named object_of.0)))) (f object_of.0 object-uri ∙ sym (ap code_of asks_of ∙ here x.property object_of.0 (sym ranged ∙ q)))
         where
           here : (p u : Text) → same_bytes p (ascii "rdfs:range") ≡ true → code_of (asks_of_uri p u) ≡ datatype_code (named_or_uri (named u))
           here p u e = unfold asks_of_uri code_of in rw (asks_of_uri, e)

@@ -9,7 +9,7 @@ ghost use Rattle.definitions.specs.Types.{datatype_code};
 ghost use Rattle.definitions.specs.Terms.{Text, Triple, uri_text};
 ghost use Rattle.definitions.specs.Gathering.{named, named_or_uri, asks};
 ghost use Rattle.laws.specs.Records.{TripleAt};
-ghost use Rattle.fields.specs.Answers.{code_of};
+ghost use Rattle.fields.specs.Answers.{code_of, code_if};
 ghost use Rattle.asks.specs.PageRecords.{RecordAt};
 
 use definitions::{OBJECT_OFFSET, PROPERTY_OFFSET, TEXT_WIDTH};
@@ -22,10 +22,7 @@ pub fn is_text(field: &[u8], text: &[u8]) -> bool
     ensures { result ≡ same_bytes field.now (filled text_width text.now) }
 {
     let end = text.len();
-    if !same_bytes(&field[..end], text) {
-        return false;
-    }
-    is_zero(&field[end..])
+    same_bytes(&field[..end], text) && is_zero(&field[end..])
 }
 
 // The code of the datatype that a property's range asks for: any URI that is no literal's datatype asks for any_uri.
@@ -49,26 +46,26 @@ fn range_code(object: &[u8]) -> u8
     any_uri
 }
 
-// The code of the datatype that a record asks for, 0 where it asks nothing.
+// The code of the datatype that a record asks for, where it asks for one.
 // Ruled out: another URI that asks nothing; a text that asks although it is no URI.
-pub fn asked(page: &[u8], at: usize) -> u8
+pub fn asked(page: &[u8], at: usize) -> Option<u8>
     requires { RecordAt page.now at }
-    ensures { (x : Triple) (next : ℕ) → TripleAt page.now at x next → result ≡ code_of (asks x.property x.object) }
+    ensures { (x : Triple) (next : ℕ) → TripleAt page.now at x next → result ≡ code_if (code_of (asks x.property x.object)) }
 {
     if page[at] != 0x81 {
-        return 0;
+        return None;
     }
     let middle = at + PROPERTY_OFFSET;
     let last = at + OBJECT_OFFSET;
     let end = last + TEXT_WIDTH;
     if is_text(&page[middle..last], b"rdfs:range") {
-        return range_code(&page[last..end]);
+        return Some(range_code(&page[last..end]));
     }
     if !is_text(&page[middle..last], b"rdf:type") {
-        return 0;
+        return None;
     }
     if is_text(&page[last..end], b"owl:ObjectProperty") {
-        return 1;
+        return Some(1);
     }
-    0
+    None
 }

@@ -1,4 +1,5 @@
 -- The calls by their cases: another length, and the answer of the call itself.
+use Rattle.definitions.specs.Result.{OrRefusal}
 use Prim.Native.Nat.{ℕ}
 use mathlib.Core.Path.{◌≡◌, ap, sym, ◌∙◌}
 use mathlib.Core.List.{List}
@@ -9,35 +10,34 @@ use borrow.Author.Tests.{not-true, not-false}
 use Rattle.definitions.specs.Terms.{Term}
 use Rattle.definitions.specs.Result.{Result}
 use Rattle.definitions.specs.Calls.{total, number_call, suggest, SchemaResult, schema_call}
-use Rattle.definitions.specs.Numbers.{total_number, result_number, suggest_number, schema_number}
+use Rattle.definitions.specs.Numbers.{answer_number, result_number}
 use Rattle.definitions.specs.Limits.{total_report_width, number_record_width, suggest_report_width, schema_report_width}
-use Rattle.definitions.specs.Exports.{total_report, record_after, suggest_report, schema_report}
+use Rattle.definitions.specs.Exports.{count_report, record_after, suggest_report, schema_report}
 use Rattle.definitions.specs.Exports.{total_export, number_export, suggest_export, schema_export}
-use Rattle.definitions.specs.declared.TotalAnswer.{TotalAnswer}
-use Rattle.definitions.specs.declared.SuggestAnswer.{SuggestAnswer}
-use Rattle.definitions.specs.declared.SchemaAnswer.{SchemaAnswer}
+use Rattle.definitions.specs.declared.Suggested.{Suggested}
+use Rattle.definitions.specs.declared.SchemaCounts.{SchemaCounts}
 
 -- ── total ───────────────────────────────────────────────────────────────────────────────────
 
 module _ (terms schema script report : List ℕ) where
-  pub total-length : {b : Bool} → b ≡ eqb (length report) total_report_width → not b ≡ true → total_export terms schema script report ≡ record { number = 1; report = report }
+  pub total-length : {b : Bool} {n : ℕ} → b ≡ eqb (length report) total_report_width → not b ≡ true → n ≡ 1 → total_export terms schema script report ≡ record { number = n; report = report }
   unfolding total_export
-  total-length e t = rw (total_export, sym e ∙ not-true _ t)
+  total-length e t k = rw (total_export, sym e ∙ not-true _ t, k)
 
-  pub total-done : {b : Bool} {answer : TotalAnswer} {p : List ℕ} {n : ℕ} → b ≡ eqb (length report) total_report_width → not b ≡ false → answer ≡ total terms schema script
-      → p ≡ total_report report answer → n ≡ total_number answer → total_export terms schema script report ≡ record { number = n; report = p }
+  pub total-done : {b : Bool} {answer : OrRefusal ℕ} {p : List ℕ} {n : ℕ} → b ≡ eqb (length report) total_report_width → not b ≡ false → answer ≡ total terms schema script
+      → p ≡ count_report report answer → n ≡ answer_number answer → total_export terms schema script report ≡ record { number = n; report = p }
   unfolding total_export
   total-done {b} f t e written number =
-      let m = number ∙ ap total_number e in
-      let k = written ∙ ap (total_report report) e in
+      let m = number ∙ ap answer_number e in
+      let k = written ∙ ap (count_report report) e in
       rw (total_export, sym f ∙ not-false b t) (λ i. record { number = sym m i; report = sym k i })
 
 -- ── number ──────────────────────────────────────────────────────────────────────────────────
 
 module _ (text lent : List ℕ) where
-  pub number-length : {b : Bool} → b ≡ eqb (length lent) number_record_width → not b ≡ true → number_export text lent ≡ record { number = 1; «record» = lent }
+  pub number-length : {b : Bool} {n : ℕ} → b ≡ eqb (length lent) number_record_width → not b ≡ true → n ≡ 1 → number_export text lent ≡ record { number = n; «record» = lent }
   unfolding number_export
-  number-length e t = rw (number_export, sym e ∙ not-true _ t)
+  number-length e t k = rw (number_export, sym e ∙ not-true _ t, k)
 
   pub number-done : {b : Bool} {r : Result Term} {p : List ℕ} {n : ℕ} → b ≡ eqb (length lent) number_record_width → not b ≡ false → r ≡ number_call text → p ≡ record_after lent r → n ≡ result_number r
       → number_export text lent ≡ record { number = n; «record» = p }
@@ -50,28 +50,28 @@ module _ (text lent : List ℕ) where
 -- ── suggest ─────────────────────────────────────────────────────────────────────────────────
 
 module _ (terms schema script report : List ℕ) where
-  pub suggest-length : {b : Bool} → b ≡ eqb (length report) suggest_report_width → not b ≡ true → suggest_export terms schema script report ≡ record { number = 1; report = report }
+  pub suggest-length : {b : Bool} {n : ℕ} → b ≡ eqb (length report) suggest_report_width → not b ≡ true → n ≡ 1 → suggest_export terms schema script report ≡ record { number = n; report = report }
   unfolding suggest_export
-  suggest-length e t = rw (suggest_export, sym e ∙ not-true _ t)
+  suggest-length e t k = rw (suggest_export, sym e ∙ not-true _ t, k)
 
-  pub suggest-done : {b : Bool} {answer : SuggestAnswer} {p : List ℕ} {n : ℕ} → b ≡ eqb (length report) suggest_report_width → not b ≡ false → answer ≡ suggest terms schema script
-      → p ≡ suggest_report report answer → n ≡ suggest_number answer → suggest_export terms schema script report ≡ record { number = n; report = p }
+  pub suggest-done : {b : Bool} {answer : OrRefusal Suggested} {p : List ℕ} {n : ℕ} → b ≡ eqb (length report) suggest_report_width → not b ≡ false → answer ≡ suggest terms schema script
+      → p ≡ suggest_report report answer → n ≡ answer_number answer → suggest_export terms schema script report ≡ record { number = n; report = p }
   unfolding suggest_export
   suggest-done {b} f t e written number =
-      let m = number ∙ ap suggest_number e in
+      let m = number ∙ ap answer_number e in
       let k = written ∙ ap (suggest_report report) e in
       rw (suggest_export, sym f ∙ not-false b t) (λ i. record { number = sym m i; report = sym k i })
 
 -- ── a schema out of a page ──────────────────────────────────────────────────────────────────
 
 module _ (page schema report : List ℕ) where
-  pub schema-length : {b : Bool} → b ≡ eqb (length report) schema_report_width → not b ≡ true → schema_export page schema report ≡ record { number = 1; schema = schema; report = report }
+  pub schema-length : {b : Bool} {n : ℕ} → b ≡ eqb (length report) schema_report_width → not b ≡ true → n ≡ 1 → schema_export page schema report ≡ record { number = n; schema = schema; report = report }
   unfolding schema_export
-  schema-length e t = rw (schema_export, sym e ∙ not-true _ t)
+  schema-length e t k = rw (schema_export, sym e ∙ not-true _ t, k)
 
-  pub schema-done : {b : Bool} {answer : SchemaAnswer} {after p : List ℕ} {n : ℕ} → b ≡ eqb (length report) schema_report_width → not b ≡ false
+  pub schema-done : {b : Bool} {answer : OrRefusal SchemaCounts} {after p : List ℕ} {n : ℕ} → b ≡ eqb (length report) schema_report_width → not b ≡ false
       → schema_call page schema ≡ record { answer = answer; schema = after }
-      → p ≡ schema_report report answer → n ≡ schema_number answer → schema_export page schema report ≡ record { number = n; schema = after; report = p }
+      → p ≡ schema_report report answer → n ≡ answer_number answer → schema_export page schema report ≡ record { number = n; schema = after; report = p }
   unfolding schema_export
   schema-done {b} {answer} {after} {p} {n} f t call written number =
       let x : SchemaResult = record { answer = answer; schema = after } in

@@ -4,6 +4,7 @@
 ghost use Rattle.std.specs.Prelude.{◌≡◌};
 ghost use Rattle.definitions.specs.Exports.{total_export, number_export, suggest_export, schema_export};
 
+use definitions::Refusal;
 use handing_back::{after_number, after_schema, after_suggest, after_total};
 use lengths::{number_fits, schema_fits, suggest_fits, total_fits};
 
@@ -14,7 +15,7 @@ pub fn total(terms: &[u8], schema: &[u8], script: &[u8], report: &mut [u8]) -> u
         ≡ record { number = result; report = report.new } }
 {
     if !total_fits(report.len()) {
-        return 1;
+        return Refusal::WrongLength.number() as u32;
     }
     let answer = card_calls::total::total(terms, schema, script);
     after_total(answer, report)
@@ -26,7 +27,7 @@ pub fn number(text: &[u8], record: &mut [u8]) -> u32
     ensures { number_export text.now «record».old ≡ record { number = result; «record» = «record».new } }
 {
     if !number_fits(record.len()) {
-        return 1;
+        return Refusal::WrongLength.number() as u32;
     }
     let answer = numbers::read_number(text);
     after_number(answer, record)
@@ -39,7 +40,7 @@ pub fn suggest(terms: &[u8], schema: &[u8], script: &[u8], report: &mut [u8]) ->
         ≡ record { number = result; report = report.new } }
 {
     if !suggest_fits(report.len()) {
-        return 1;
+        return Refusal::WrongLength.number() as u32;
     }
     let answer = card_calls::suggest::suggest(terms, schema, script);
     after_suggest(answer, report)
@@ -52,7 +53,7 @@ pub fn schema(page: &[u8], schema: &mut [u8], report: &mut [u8]) -> u32
         ≡ record { number = result; schema = schema.new; report = report.new } }
 {
     if !schema_fits(report.len()) {
-        return 1;
+        return Refusal::WrongLength.number() as u32;
     }
     let answer = gathering::gather(page, schema);
     after_schema(answer, report)

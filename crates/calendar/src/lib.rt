@@ -1,7 +1,7 @@
 // Dates in the Gregorian calendar, by cycles of 400, 100 and 4 years.
 #![tactic(auto)]
 
-ghost use Rattle.std.specs.Prelude.{◌≡◌, cond, ◌<◌, min};
+ghost use Rattle.std.specs.Prelude.{◌≡◌, cond, ◌<◌};
 ghost use Rattle.definitions.specs.Calendar.{is_leap, month_lengths, month_from, date_of};
 ghost use Rattle.calendar.specs.Dates.{DateIs};
 
@@ -20,20 +20,11 @@ struct YearDay {
 }
 
 // Every fourth year, of the hundreds every fourth.
+#[tactic(auto, unfolding(definitions::specs::Calendar::is_leap))]
 fn is_leap(year: u64) -> bool
     ensures { result ≡ is_leap year }
 {
-    let by_four = year % 4 == 0;
-    let by_hundred = year % 100 == 0;
-    let by_four_hundred = year % 400 == 0;
-    by_four & (!by_hundred | by_four_hundred)
-}
-
-// The smaller of two numbers.
-fn at_most(n: u64, limit: u64) -> u64
-    ensures { result ≡ min n limit }
-{
-    if n < limit { n } else { limit }
+    year % 4 == 0 && (year % 100 != 0 || year % 400 == 0)
 }
 
 // The year of a day that is counted from 0001-01-01. The last century of a cycle and the last year of four have a day more.
@@ -43,14 +34,16 @@ fn year_day(day: u64) -> YearDay
 {
     let cycles = day / 146097;
     let in_cycle = day % 146097;
-    let centuries = at_most(in_cycle / 36524, 3);
+    let centuries = (in_cycle / 36524).min(3);
     let in_century = in_cycle - centuries * 36524;
     let fours = in_century / 1461;
     let in_four = in_century % 1461;
-    let years = at_most(in_four / 365, 3);
+    let years = (in_four / 365).min(3);
     let year = 1 + 400 * cycles + 100 * centuries + 4 * fours + years;
-    let rest = in_four - years * 365;
-    YearDay { year, day: rest }
+    YearDay {
+        year,
+        day: in_four - years * 365,
+    }
 }
 
 // February's length in a year.
@@ -67,10 +60,8 @@ fn in_year(year: u64, day: u64) -> Date
 {
     let second = february(year);
     let lengths = [31, second, 31, 30, 31, 30, 31, 31, 30, 31, 30, 31];
-    let mut passed: usize = 0;
     let mut left = day;
-    while passed < 12 {
-        let length = lengths[passed];
+    for (passed, &length) in lengths.iter().enumerate() {
         if left < length {
             return Date {
                 year,
@@ -79,7 +70,6 @@ fn in_year(year: u64, day: u64) -> Date
             };
         }
         left -= length;
-        passed += 1;
     }
     Date {
         year,

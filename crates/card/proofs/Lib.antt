@@ -1,4 +1,4 @@
-pub mod RefusalNumbers
+pub mod Told
 pub mod CardLaws
 pub mod ScriptLaws
 pub mod LeastLaws

@@ -1,4 +1,8 @@
 -- Refusals 2 to 7 in one: from what the code finds, which one is met, or what is ready to be typed.
+use Rattle.definitions.specs.declared.Refusal.TheVariants.{BadScript}
+use Rattle.std.specs.Prelude.{Some, None, Ok, Err}
+use Rattle.definitions.specs.declared.Refusal.{Refusal}
+use Rattle.std.specs.declared.option.Option as Answer
 use Prim.Native.Nat.{ℕ, ◌*◌, ◌≤◌, ◌<◌}
 use native.Mathlib.Omega.{arith}
 use mathlib.Core.Path.{◌≡◌, refl, sym, ap, subst, ◌∙◌}
@@ -17,6 +21,7 @@ use Rattle.definitions.specs.Scope.{in_scope}
 use Rattle.definitions.specs.Machine.{with_properties}
 use Rattle.definitions.specs.Result.{Result, refused, passed, ◌>>=◌, require, given}
 use Rattle.laws.specs.Lists.{All}
+use Rattle.laws.proofs.Options.{some_is}
 use Rattle.laws.proofs.Numbering.{all-properties}
 use Rattle.laws.proofs.Results.{passed_is, not-refused, require-refused, bind_inv, bind-refused, bind-passed}
 use Rattle.laws.proofs.Tests.{is_true, and_left}
@@ -25,44 +30,18 @@ use Rattle.laws.proofs.Valid.{terms-valid, schema-valid}
 use Rattle.laws.specs.ReadAnswers.{is_some}
 use Rattle.definitions.specs.Limits.{entry_width}
 use Rattle.table.specs.Table.{HeldTerms, list_of, added_of, table_of}
-use Rattle.table.specs.declared.Added.{Added}
-use Rattle.table.specs.declared.Added.TheVariants.{Count, Full}
 use Rattle.records.proofs.EntryLaws.{schema-length}
 use Rattle.records.proofs.NumberingLaws.{held-added, properties-append}
 use Rattle.records.specs.Listing.{listed_of}
 use Rattle.table.specs.Hashes.{HashedEntries}
 use Rattle.definitions.specs.Calls.{Listed, record_tests, script_tests, Parsed, read_tests}
-use Rattle.card.specs.Check.{number_of, ReadyOf}
-use Rattle.card.specs.declared.refusals.Ready.{Ready}
-use Rattle.card.proofs.RefusalNumbers.{NotZero, number-refused, number-after, refused-number, passed-number, given-not-zero, require-not-zero, bind-not-zero, after-not-zero}
+use Rattle.card.specs.Check.{ReadyOf}
+use Rattle.card.proofs.CardLaws.{two-three, listed}
 use Rattle.laws.proofs.Check.{ReadPassed, records-inv, read-passed}
 use Rattle.laws.proofs.Valid.{read-valid}
 use Rattle.definitions.specs.Calls.{sizes_fit}
 use Rattle.laws.proofs.Tests.{and_right}
 use lib.Dec.{T}
-
--- ── no test has the number 0 ────────────────────────────────────────────────────────────────
-
-records-not-zero : (terms schema : List ℕ) → NotZero (record_tests terms schema)
-unfolding record_tests
-records-not-zero terms schema =
-    bind-not-zero (given 2 (read_terms terms)) _ (given-not-zero 1 (read_terms terms)) (λ listed.
-    after-not-zero (require 3 (distinct same_term listed)) _ (require-not-zero 2 (distinct same_term listed))
-    (bind-not-zero (given 4 (read_schema schema)) _ (given-not-zero 3 (read_schema schema)) (λ S.
-    after-not-zero (require 5 (distinct same_property S)) _ (require-not-zero 4 (distinct same_property S)) tt)))
-
-script-not-zero : (terms : List Term) (S : Schema) (script : List ℕ) → NotZero (script_tests terms S script)
-unfolding script_tests
-script-not-zero terms S script =
-    after-not-zero (require 6 _) _ (require-not-zero 5 _)
-    (bind-not-zero (given 6 (parsed (length terms) script)) _ (given-not-zero 5 (parsed (length terms) script)) (λ root.
-    after-not-zero (require 7 (in_scope root)) _ (require-not-zero 6 (in_scope root)) tt))
-
-pub read-not-zero : (terms schema script : List ℕ) → NotZero (read_tests terms schema script)
-unfolding read_tests
-read-not-zero terms schema script =
-    bind-not-zero (record_tests terms schema) _ (records-not-zero terms schema) (λ l.
-    bind-not-zero (script_tests _ l.schema script) _ (script-not-zero _ l.schema script) (λ root. tt))
 
 -- ── what the tests that pass found ──────────────────────────────────────────────────────────
 
@@ -85,29 +64,26 @@ reads_of terms schema script x p =
       few = leb→le (length x.terms) term_limit (and_left few (entries && bytes) p.sizes);
     }
 
-full-fits : (ts : List Term) → leb (length ts) term_limit ≡ true → Full ≡ added_of ts → ⊥
+full-fits : (ts : List Term) → leb (length ts) term_limit ≡ true → None ≡ added_of ts → ⊥
 unfolding added_of
-full-fits ts e h = let g : Full ≡ Count (length ts) = h ∙ rw e in let z : ◌≡◌ {A = ℕ} 0 1 = cc in omega arith
+full-fits ts e h = let g : None ≡ Some (length ts) = h ∙ rw e in let z : ◌≡◌ {A = ℕ} 0 1 = cc in omega arith
 
 -- ── the code's answer ───────────────────────────────────────────────────────────────────────
-
--- of a refusal nothing is promised of the tables
-pub no-ready : {m : Result Parsed} {n : ℕ} {schema table : List ℕ} {r : Ready} → m ≡ refused n → (x : Parsed) → m ≡ passed x → ReadyOf x schema table r
-no-ready e x p = absurd (not-refused (sym e ∙ p))
 
 -- what is listed in a table is what is read
 pub listed-so : (S : Schema) {A : Type 0} (f : List Term → A) {o p : Option (List Term)} → o ≡ p → f (with_properties S (list_of o)) ≡ f (with_properties S (list_of p))
 listed-so S f e = ap (λ (o : Option (List Term)). f (with_properties S (list_of o))) e
 
-module _ (terms schema script : List ℕ) {a : ℕ} (ea : a ≡ number_of (record_tests terms schema)) where
-  pub records-refused : (a ≡ 0 → ⊥) → read_tests terms schema script ≡ refused a
+module _ (terms schema script : List ℕ) where
+  -- 2 to 5
+  pub records-refused : {n : Refusal} → record_tests terms schema ≡ refused n → read_tests terms schema script ≡ refused n
   unfolding read_tests
-  records-refused h = bind-refused _ (refused-number (record_tests terms schema) ea h)
+  records-refused e = bind-refused _ e
 
-  module _ (za : a ≡ 0) where
-    lists : (l : Listed) × (record_tests terms schema ≡ passed l)
-    lists = passed-number (record_tests terms schema) (records-not-zero terms schema) ea za
+  pub terms-refused : {n : Refusal} → Err n ≡ listed_of (read_terms terms) → read_tests terms schema script ≡ refused n
+  terms-refused e = records-refused (two-three terms schema e)
 
+  module _ (lists : (l : Listed) × (record_tests terms schema ≡ passed l)) where
     abbrev S : Schema
     S = lists.0.schema
 
@@ -138,45 +114,42 @@ module _ (terms schema script : List ℕ) {a : ℕ} (ea : a ≡ number_of (recor
     unfolding read_tests numbered
     second = bind-passed _ lists.1
 
-    -- no refusal of the terms
-    pub listed-none : {k : ℕ} → k ≡ (listed_of (read_terms terms)).refusal → k ≡ 0
-    unfolding listed_of
-    listed-none e = e ∙ rw (found.0, is_true (distinct same_term lists.0.terms) found.1)
-
     -- a limit passed
-    many : leb (length numbered) term_limit ≡ false → read_tests terms schema script ≡ refused 6
+    many : leb (length numbered) term_limit ≡ false → read_tests terms schema script ≡ refused BadScript
     unfolding script_tests sizes_fit
-    many e = second ∙ bind-refused _ (require-refused 6 _ (rw e))
+    many e = second ∙ bind-refused _ (require-refused BadScript _ (rw e))
 
-    pub many-listed : {n : ℕ} → n ≡ (listed_of (read_terms terms)).count → term_limit < n → read_tests terms schema script ≡ refused 6
-    unfolding listed_of numbered
+    pub many-listed : {n : ℕ} → Ok n ≡ listed_of (read_terms terms) → term_limit < n → read_tests terms schema script ≡ refused BadScript
+    unfolding numbered
     many-listed {n} e l =
         let more = properties-append S lists.0.terms in
-        let k : n ≡ length lists.0.terms = e ∙ rw (found.0, is_true (distinct same_term lists.0.terms) found.1) in
+        let here = listed terms e in
+        let k : n ≡ length lists.0.terms = here.3 ∙ ap length (some_is (sym here.1 ∙ found.0)) in
         many (lt-leb (length numbered) term_limit (omega (arith, k, ap length more.1, length-append lists.0.terms more.0)))
 
-    module _ {r : Added} {table : List ℕ} (er : r ≡ added_of (with_properties (list_of (read_schema schema)) (list_of (read_terms terms))))
+    module _ {r : Answer.Option ℕ} {table : List ℕ} (er : r ≡ added_of (with_properties (list_of (read_schema schema)) (list_of (read_terms terms))))
         (et : table ≡ table_of (with_properties (list_of (read_schema schema)) (list_of (read_terms terms)))) where
-      pub too_many : r ≡ Full → read_tests terms schema script ≡ refused 6
+      pub too_many : r ≡ None → read_tests terms schema script ≡ refused BadScript
       too_many k = many (go (leb (length numbered) term_limit) refl)
         where
           go : (b : Bool) → leb (length numbered) term_limit ≡ b → leb (length numbered) term_limit ≡ false
           go true e = absurd (full-fits numbered e (sym k ∙ er ∙ ap added_of numbered_is))
           go false e = e
 
-      module _ {n : ℕ} (k : r ≡ Count n) where
+      module _ {n : ℕ} (k : r ≡ Some n) where
         held : HeldTerms table n numbered
         held = held-added numbered numbered-valid n (sym k ∙ er ∙ ap added_of numbered_is) (et ∙ ap table_of numbered_is)
 
-        pub ready : {b : ℕ} → ((ts : List Term) (S : Schema) → length ts ≡ n → n ≤ term_limit → read_schema schema ≡ some S → b ≡ number_of (script_tests ts S script))
+        -- 6 and 7
+        pub script-refused : {m : Refusal} → ((ts : List Term) (S : Schema) → length ts ≡ n → n ≤ term_limit → read_schema schema ≡ some S → script_tests ts S script ≡ refused m)
+            → read_tests terms schema script ≡ refused m
+        script-refused says = second ∙ bind-refused _ (says numbered S held.count held.few found.2)
+
+        pub ready : ((ts : List Term) (S : Schema) → length ts ≡ n → n ≤ term_limit → read_schema schema ≡ some S → (root : Script) × (script_tests ts S script ≡ passed root) × Unit {0})
             → (entries : List ℕ) → (length schema ≤ schema_width → HashedEntries schema entries)
-            → (b ≡ number_of (read_tests terms schema script))
-            × ((x : Parsed) → read_tests terms schema script ≡ passed x → ReadyOf x schema table (record { refusal = b; count = n; entries = entries }))
-        ready {b} says entries h = (
-          says numbered S held.count held.few found.2 ∙ number-after (script_tests numbered S script) made ∙ sym (ap number_of second),
-          λ x p.
-              let i = bind_inv (script_tests numbered S script) (λ root. passed (made root)) (sym second ∙ p) in
-              let same : made i.0 ≡ x = passed_is i.2 in
-              subst (λ (x : Parsed). ReadyOf x schema table (record { refusal = b; count = n; entries = entries })) same
-              (record { count = sym held.count; slots = held.is; entries = h (reads_of terms schema script x (read-passed terms schema script x p)).short }),
-        )
+            → (x : Parsed) × (read_tests terms schema script ≡ passed x) × ReadyOf schema table x (record { count = n; entries = entries })
+        ready says entries h =
+            let root = says numbered S held.count held.few found.2 in
+            let x = made root.0 in
+            let e : read_tests terms schema script ≡ passed x = second ∙ bind-passed _ root.1 in
+            (x, e, record { count = sym held.count; slots = held.is; entries = h (reads_of terms schema script x (read-passed terms schema script x e)).short })

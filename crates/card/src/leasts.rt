@@ -28,11 +28,9 @@ pub fn least_codes(
     requires out_value { take from out.old ≡ take from (least_codes (read_schema schema.now) (terms_in table.now)) }
     ensures { out.new ≡ least_codes (read_schema schema.now) (terms_in table.now) ++ drop count out.old }
 {
-    let mut i = from;
-    while i < count {
+    for i in from..count {
         let at = i * SLOT_WIDTH;
         let end = at + SLOT_WIDTH;
         out[i] = least_type(schema, entries, &table[at..end]);
-        i += 1;
     }
 }

@@ -1,4 +1,6 @@
 -- The total call: the refusal of reading, or the total of the script that is read.
+use Rattle.std.specs.Prelude.{Ok, Err}
+use Rattle.definitions.specs.declared.Refusal.{Refusal}
 use Prim.Native.Nat.{ℕ, ◌≤◌}
 use native.Mathlib.Omega.{arith}
 use mathlib.Core.Path.{◌≡◌, ap, ◌∙◌}
@@ -11,18 +13,15 @@ use Rattle.definitions.specs.Limits.{term_limit, entry_limit, script_limit}
 use Rattle.definitions.specs.Tree.{Script}
 use Rattle.definitions.specs.Reading.{parsed}
 use Rattle.definitions.specs.Total.{script_records, has_each, total_of}
-use Rattle.definitions.specs.Result.{passed}
+use Rattle.definitions.specs.Result.{refused, passed}
 use Rattle.definitions.specs.Calls.{Parsed, sizes_fit, read_tests, total_result, total}
-use Rattle.definitions.specs.declared.TotalAnswer.TheVariants as TotalAnswers
 use Rattle.laws.specs.ReadAnswers.{is_some}
 use Rattle.laws.proofs.Tests.{and_right}
 use Rattle.laws.proofs.ReadBounds.{records-fit, parsed-in}
 use Rattle.laws.proofs.Check.{ReadPassed, read-passed}
 use Rattle.totals.specs.Totals.{total_in}
-use Rattle.card.specs.Check.{number_of, ReadyOf}
+use Rattle.card.specs.Check.{ReadyOf}
 use Rattle.card.specs.declared.refusals.Ready.{Ready}
-use Rattle.card.proofs.RefusalNumbers.{refused-number, passed-number}
-use Rattle.card.proofs.ReadyLaws.{read-not-zero}
 
 -- no more than the records
 total-few : (c : Script) → total_of c ≤ script_records c
@@ -33,25 +32,25 @@ total-few c = go (has_each c)
     go true = omega arith
     go false = omega arith
 
-module _ (terms schema script : List ℕ) (r : Ready) (number : r.refusal ≡ number_of (read_tests terms schema script)) where
-  pub total-refused : (r.refusal ≡ 0 → ⊥) → TotalAnswers.Refused r.refusal ≡ total terms schema script
+module _ (terms schema script : List ℕ) where
+  pub total-refused : {n : Refusal} → read_tests terms schema script ≡ refused n → Err n ≡ total terms schema script
   unfolding total total_result
-  total-refused h = rw (refused-number (read_tests terms schema script) number h)
+  total-refused e = rw e
 
-  module _ (z : r.refusal ≡ 0) {table : List ℕ} (ready : (x : Parsed) → read_tests terms schema script ≡ passed x → ReadyOf x schema table r) where
-    found : (x : Parsed) × (read_tests terms schema script ≡ passed x)
-    found = passed-number (read_tests terms schema script) (read-not-zero terms schema script) number z
+  module _ (r : Ready) {table : List ℕ} (told : (x : Parsed) × (read_tests terms schema script ≡ passed x) × ReadyOf schema table x r) where
+    abbrev x : Parsed
+    x = told.0
 
-    passes : ReadPassed terms schema script found.0
-    passes = read-passed terms schema script found.0 found.1
+    passes : ReadPassed terms schema script x
+    passes = read-passed terms schema script x told.1
 
-    parses : parsed r.count script ≡ some found.0.root
-    parses = ap (λ (n : ℕ). parsed n script) (ready found.0 found.1).count ∙ passes.parses
+    parses : parsed r.count script ≡ some x.root
+    parses = ap (λ (n : ℕ). parsed n script) told.2.count ∙ passes.parses
 
     pub reads : is_some (parsed r.count script) ≡ true
     reads = rw parses
 
-    is-total : total_in (parsed r.count script) ≡ total_of found.0.root
+    is-total : total_in (parsed r.count script) ≡ total_of x.root
     unfolding total_in
     is-total = rw parses
 
@@ -59,13 +58,12 @@ module _ (terms schema script : List ℕ) (r : Ready) (number : r.refusal ≡ nu
     pub total-small : total_in (parsed r.count script) ≤ script_limit
     unfolding sizes_fit
     total-small =
-        let x = found.0 in
         let short = leb (length script) script_limit in
         let rest = leb (length x.schema) entry_limit && short in
         let fits = leb→le (length script) script_limit (and_right (leb (length x.schema) entry_limit) short (and_right (leb (length x.terms) term_limit) rest passes.sizes)) in
         let placed = (parsed-in (length x.terms) script x.root passes.parses).placed in
         omega (arith, is-total, total-few x.root, records-fit 0 (length script) x.root placed, fits)
 
-    pub total-told : {n : ℕ} → n ≡ total_in (parsed r.count script) → TotalAnswers.Total n ≡ total terms schema script
+    pub total-told : {n : ℕ} → n ≡ total_in (parsed r.count script) → Ok n ≡ total terms schema script
     unfolding total total_result
-    total-told e = rw found.1 (ap TotalAnswers.Total (e ∙ is-total))
+    total-told e = rw told.1 (ap Ok (e ∙ is-total))

@@ -13,10 +13,7 @@ pub fn suggest(terms: &[u8], schema: &[u8], script: &[u8]) -> SuggestAnswer
 {
     let mut work = [0u8; TERM_TABLE_WIDTH];
     let mut leasts = [0u8; TERM_LIMIT];
-    let ready = ready_card(terms, schema, script, &mut work, &mut leasts);
-    if ready.refusal != 0 {
-        return SuggestAnswer::Refused(ready.refusal);
-    }
+    let ready = ready_card(terms, schema, script, &mut work, &mut leasts)?;
     let count = ready.count;
     suggest_for(script, &leasts[..count])
 }

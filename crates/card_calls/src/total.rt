@@ -12,12 +12,7 @@ pub fn total(terms: &[u8], schema: &[u8], script: &[u8]) -> TotalAnswer
     ensures { result ≡ Calls.total terms.now schema.now script.now }
 {
     let mut work = [0u8; TERM_TABLE_WIDTH];
-    let ready = read_card(terms, schema, script, &mut work);
-    if ready.refusal != 0 {
-        return TotalAnswer::Refused(ready.refusal);
-    }
-    let count = ready.count;
-    let steps = total_of(script, count);
-    let told = steps as u32;
-    TotalAnswer::Total(told)
+    let ready = read_card(terms, schema, script, &mut work)?;
+    let steps = total_of(script, ready.count);
+    Ok(steps as u32)
 }

@@ -1,6 +1,6 @@
 // Values made of plain data, and texts in the fields that hold them.
 ghost use Rattle.std.specs.Prelude.{◌≡◌, cond, ◌≤◌, pos, length};
-ghost use Rattle.definitions.specs.Limits.{text_width, tag_width, pattern_width};
+ghost use Rattle.definitions.specs.Limits.{text_width, tag_width};
 ghost use Rattle.definitions.specs.Bytes.{filled};
 ghost use Rattle.definitions.specs.Terms.{is_integer, is_decimal, is_date_time};
 ghost use Rattle.definitions.specs.Values.{Value as Meant};
@@ -8,7 +8,7 @@ ghost use Rattle.values.specs.Meaning.{where?};
 ghost use Rattle.values.specs.Means.{Holds};
 ghost use Rattle.cases.specs.Made.{tagged_in, uri_in};
 
-use definitions::{PATTERN_WIDTH, TAG_WIDTH, TEXT_WIDTH};
+use definitions::{TAG_WIDTH, TEXT_WIDTH};
 use term_bodies::texts;
 use values::arithmetic::limited;
 use values::{ANY_URI, DECIMAL, INTEGER, STRING, Value, now_value, number};
@@ -32,39 +32,32 @@ pub fn date_time(n: i64) -> Value
     ensures { Holds result (Meant.date_time (cond (is_date_time n) n (pos 0))) }
 {
     if number::within(n, number::DATE_TIME_LEAST, number::DATE_TIME_MOST) {
-        return now_value(n);
+        now_value(n)
+    } else {
+        now_value(0)
     }
-    now_value(0)
 }
 
 // A string from its fields, or no value where one of them is bad. Ruled out: a tag in capitals; bytes after a zero.
 fn string_in(tag: [u8; TAG_WIDTH], text: [u8; TEXT_WIDTH]) -> Value
     ensures { Holds result (Meant.string (tagged_in tag text)) }
 {
-    if !texts::tag_ok(&tag) {
-        return Value {
+    if texts::tag_ok(&tag) && texts::text_ok(&text) {
+        Value {
+            kind: STRING,
+            present: true,
+            number: 0,
+            tag,
+            text,
+        }
+    } else {
+        Value {
             kind: STRING,
             present: false,
             number: 0,
             tag: [0; TAG_WIDTH],
             text: [0; TEXT_WIDTH],
-        };
-    }
-    if !texts::text_ok(&text) {
-        return Value {
-            kind: STRING,
-            present: false,
-            number: 0,
-            tag: [0; TAG_WIDTH],
-            text: [0; TEXT_WIDTH],
-        };
-    }
-    Value {
-        kind: STRING,
-        present: true,
-        number: 0,
-        tag,
-        text,
+        }
     }
 }
 
@@ -72,51 +65,27 @@ fn string_in(tag: [u8; TAG_WIDTH], text: [u8; TEXT_WIDTH]) -> Value
 fn uri_in(text: [u8; TEXT_WIDTH]) -> Value
     ensures { Holds result (Meant.uri (uri_in text)) }
 {
-    if !texts::uri_ok(&text) {
-        return Value {
-            kind: ANY_URI,
-            present: true,
-            number: 0,
-            tag: [0; TAG_WIDTH],
-            text: [0; TEXT_WIDTH],
-        };
-    }
+    let good = if texts::uri_ok(&text) {
+        text
+    } else {
+        [0; TEXT_WIDTH]
+    };
     Value {
         kind: ANY_URI,
         present: true,
         number: 0,
         tag: [0; TAG_WIDTH],
-        text,
+        text: good,
     }
 }
 
-// A text in its field.
-fn text_field(text: &[u8]) -> [u8; TEXT_WIDTH]
-    requires { length text.now ≤ text_width }
-    ensures { result ≡ filled text_width text.now }
+// A text in a field that it fits. Ruled out: a text cut short; bytes other than zeros after it.
+pub fn field<const N: usize>(text: &[u8]) -> [u8; N]
+    requires { length text.now ≤ N }
+    ensures { result ≡ filled N text.now }
 {
-    let mut field = [0u8; TEXT_WIDTH];
+    let mut field = [0u8; N];
     field[..text.len()].copy_from_slice(text);
-    field
-}
-
-// A pattern in its field. Ruled out: a pattern cut short; bytes other than zeros after it.
-pub fn pattern_field(pattern: &[u8]) -> [u8; PATTERN_WIDTH]
-    requires { length pattern.now ≤ pattern_width }
-    ensures { result ≡ filled pattern_width pattern.now }
-{
-    let mut field = [0u8; PATTERN_WIDTH];
-    field[..pattern.len()].copy_from_slice(pattern);
-    field
-}
-
-// A language tag, or a language range, in its field. Ruled out: the last bytes of it; the bytes turned round.
-pub fn tag_field(tag: &[u8]) -> [u8; TAG_WIDTH]
-    requires { length tag.now ≤ tag_width }
-    ensures { result ≡ filled tag_width tag.now }
-{
-    let mut field = [0u8; TAG_WIDTH];
-    field[..tag.len()].copy_from_slice(tag);
     field
 }
 
@@ -126,9 +95,7 @@ pub fn string(tag: &[u8], text: &[u8]) -> Value
     requires text_len_bound { length text.now ≤ text_width }
     ensures { Holds result (Meant.string (tagged_in (filled tag_width tag.now) (filled text_width text.now))) }
 {
-    let tag_bytes = tag_field(tag);
-    let text_bytes = text_field(text);
-    string_in(tag_bytes, text_bytes)
+    string_in(field(tag), field(text))
 }
 
 // A URI. Ruled out: a string of the same text; the empty URI for a good text.
@@ -136,6 +103,5 @@ pub fn uri(text: &[u8]) -> Value
     requires { length text.now ≤ text_width }
     ensures { Holds result (Meant.uri (uri_in (filled text_width text.now))) }
 {
-    let bytes = text_field(text);
-    uri_in(bytes)
+    uri_in(field(text))
 }

@@ -1,13 +1,6 @@
 // Rows of words in one text, so that the cases of a topic are one literal.
 ghost use Rattle.std.specs.Prelude.{◌≡◌, ◌≢◌, ℕ, ◌+◌, ◌≤◌, ◌<◌, min, length, slice_index};
 
-// The smaller of two numbers.
-fn at_most(n: usize, limit: usize) -> usize
-    ensures { result ≡ min n limit }
-{
-    if n < limit { n } else { limit }
-}
-
 // Where a byte stands first, from an offset to another; the second offset where it does not.
 // Ruled out: the second offset in any case; a place past the first.
 pub fn find(rows: &[u8], at: usize, last: usize, ending: u8) -> usize
@@ -34,7 +27,7 @@ pub fn word_end(rows: &[u8], at: usize, ending: u8, width: usize) -> usize
 {
     let last = rows.len();
     let found = find(rows, at, last, ending);
-    at + at_most(found - at, width)
+    at + (found - at).min(width)
 }
 
 // Where the next row begins. Ruled out: the ending byte as its first; an offset past the rows.
@@ -42,7 +35,7 @@ pub fn after(rows: &[u8], end: usize) -> usize
     requires { end ≤ length rows.now }
     ensures { result ≡ min (end + 1) (length rows.now) }
 {
-    at_most(end + 1, rows.len())
+    (end + 1).min(rows.len())
 }
 
 // Where the next word of a row begins. Ruled out: an offset before the last word's end; one past the rows.

@@ -4,14 +4,14 @@
 ghost use Rattle.std.specs.Prelude.{◌≡◌, ◌&&◌, length};
 ghost use Rattle.definitions.specs.Limits.{ranks_width};
 ghost use Rattle.definitions.specs.Bytes.{same_bytes, unfilled};
-ghost use Rattle.definitions.specs.Values.{rank_in, before, string_before, equal_pair, less_pair};
+ghost use Rattle.definitions.specs.Values.{before, string_before, equal_pair, less_pair};
 ghost use Rattle.values.specs.Meaning.{meaning, string_of, Good, Tells, compared};
 
 use definitions::Truth;
 use text_order::tables;
 use truth::told;
 use values::arithmetic::counted;
-use values::{DECIMAL, Value, number};
+use values::{DATE_TIME, DECIMAL, INTEGER, STRING, Value, number};
 
 // Whether two strings have the same tag and text.
 fn same_strings(a: Value, b: Value) -> bool
@@ -19,34 +19,7 @@ fn same_strings(a: Value, b: Value) -> bool
     requires good_2 { Good b }
     ensures { result ≡ (same_bytes (unfilled a.tag) (unfilled b.tag) && same_bytes (unfilled a.text) (unfilled b.text)) }
 {
-    let tag = a.tag;
-    let other_tag = b.tag;
-    let tags = text_order::same(&tag, &other_tag);
-    let texts = same_texts(a, b);
-    tags & texts
-}
-
-// Whether two values have the same text.
-fn same_texts(a: Value, b: Value) -> bool
-    requires good { Good a }
-    requires good_2 { Good b }
-    ensures { result ≡ same_bytes (unfilled a.text) (unfilled b.text) }
-{
-    let text = a.text;
-    let other_text = b.text;
-    text_order::same(&text, &other_text)
-}
-
-// Whether one text comes before another under ranks.
-fn text_before(ranks: &[u8], a: Value, b: Value) -> bool
-    requires ranks_len { length ranks.now ≡ ranks_width }
-    requires good { Good a }
-    requires good_2 { Good b }
-    ensures { result ≡ before (rank_in ranks.now) (unfilled a.text) (unfilled b.text) }
-{
-    let text = a.text;
-    let other_text = b.text;
-    text_order::before(ranks, &text, &other_text)
+    text_order::same(&a.tag, &b.tag) && text_order::same(&a.text, &b.text)
 }
 
 // Whether one URI comes before another, by bytes.
@@ -55,20 +28,7 @@ fn uri_before(a: Value, b: Value) -> bool
     requires good_2 { Good b }
     ensures { result ≡ before (λ n. n) (unfilled a.text) (unfilled b.text) }
 {
-    let bytes = tables::BYTES;
-    text_before(&bytes, a, b)
-}
-
-// Whether one tag comes before another under ranks.
-fn tag_before(ranks: &[u8], a: Value, b: Value) -> bool
-    requires ranks_len { length ranks.now ≡ ranks_width }
-    requires good { Good a }
-    requires good_2 { Good b }
-    ensures { result ≡ before (rank_in ranks.now) (unfilled a.tag) (unfilled b.tag) }
-{
-    let tag = a.tag;
-    let other_tag = b.tag;
-    text_order::before(ranks, &tag, &other_tag)
+    text_order::before(&tables::BYTES, &a.text, &b.text)
 }
 
 // Whether one string comes before another: by text, then tag, under ranks.
@@ -78,10 +38,8 @@ fn string_before(ranks: &[u8], a: Value, b: Value) -> bool
     requires good_2 { Good b }
     ensures { result ≡ string_before ranks.now (string_of a) (string_of b) }
 {
-    let by_text = text_before(ranks, a, b);
-    let texts = same_texts(a, b);
-    let by_tag = tag_before(ranks, a, b);
-    by_text | (texts & by_tag)
+    text_order::before(ranks, &a.text, &b.text)
+        || (text_order::same(&a.text, &b.text) && text_order::before(ranks, &a.tag, &b.tag))
 }
 
 // Whether two values are equal: numbers by amount, date_times by seconds, strings by tag and text.
@@ -91,16 +49,15 @@ pub fn equal(a: Value, b: Value) -> Truth
     requires good_2 { Good b }
     ensures { Tells result (compared equal_pair (meaning a) (meaning b)) }
 {
-    let kind = a.kind;
     let present = a.present & b.present;
-    match kind {
-        2 => told(present, same_strings(a, b)),
-        3 | 5 => told(
+    match a.kind {
+        STRING => told(present, same_strings(a, b)),
+        DECIMAL | INTEGER => told(
             present,
             number::is_same(counted(a, DECIMAL), counted(b, DECIMAL)),
         ),
-        4 => told(true, number::is_same(a.number, b.number)),
-        _ => told(true, same_texts(a, b)),
+        DATE_TIME => told(true, number::is_same(a.number, b.number)),
+        _ => told(true, text_order::same(&a.text, &b.text)),
     }
 }
 
@@ -112,15 +69,14 @@ pub fn less(ranks: &[u8], a: Value, b: Value) -> Truth
     requires good_2 { Good b }
     ensures { Tells result (compared (less_pair ranks.now) (meaning a) (meaning b)) }
 {
-    let kind = a.kind;
     let present = a.present & b.present;
-    match kind {
-        2 => told(present, string_before(ranks, a, b)),
-        3 | 5 => told(
+    match a.kind {
+        STRING => told(present, string_before(ranks, a, b)),
+        DECIMAL | INTEGER => told(
             present,
             number::is_less(counted(a, DECIMAL), counted(b, DECIMAL)),
         ),
-        4 => told(true, number::is_less(a.number, b.number)),
+        DATE_TIME => told(true, number::is_less(a.number, b.number)),
         _ => told(true, uri_before(a, b)),
     }
 }

@@ -2,13 +2,13 @@
 use Prim.Native.Nat.{ℕ, ◌+◌, ◌≤◌, ◌<◌}
 use native.Mathlib.Omega.{arith}
 use mathlib.Core.Path.{◌≡◌, refl, sym, ◌∙◌, ap, ap₂}
-use mathlib.Core.List.{List}
+use mathlib.Core.List.{List, [], ◌∷◌}
 use mathlib.Core.Bool.{Bool, true, false, cond, not, ◌&&◌, ◌||◌}
 use mathlib.Core.Option.{none, some}
 use lib.Dec.{eqb, ltb}
 use lib.ListN.{length, get_or, drop, take, length-take}
-use lib.Seq.{get_or-take}
 use borrow.Author.Tests.{lt-ltb, le-ltb, eq-eqb, ne_eqb}
+use Rattle.std.specs.List.{list_all}
 use Rattle.definitions.specs.Limits.{variable_limit}
 use Rattle.definitions.specs.Lists.{every}
 use Rattle.definitions.specs.Types.{Ty}
@@ -49,27 +49,18 @@ every-same p q h = ap (every (λ (b : Bool). b)) (made-same p q h)
 
 -- ── a tuple's first numbers ─────────────────────────────────────────────────────────────────
 
-module _ (terms n : ℕ) (last : List ℕ) (k : ℕ) (l : length last ≡ 4) (few : n ≤ 4) where
-  counted : length (take n last) ≡ n
-  counted = omega (arith, length-take n last)
+-- std's word for a test of each element is the definitions'
+all-every : {A : Type 0} (p : A → Bool) (l : List A) → list_all p l ≡ every p l
+all-every p [] = refl
+all-every p (x ∷ l) = ap (λ (b : Bool). p x && b) (all-every p l)
 
-  module _ (far : every (λ i. ltb i terms) (take n last) ≡ every (λ i. ltb i terms) (drop k (take n last))) where
-    whole : {r : Bool} → r ≡ every (λ i. ltb i terms) (take n last) → r ≡ tuple_fits terms n last
-    unfolding tuple_fits
-    whole e = e ∙ sym (ap (λ (b : Bool). b && every (λ i. ltb i terms) (take n last)) (eq-eqb (length (take n last)) n counted))
-
-    pub tuple-next : k < n → get_or last k 0 < terms → every (λ i. ltb i terms) (take n last) ≡ every (λ i. ltb i terms) (drop (k + 1) (take n last))
-    tuple-next h s =
-        every-next (λ i. ltb i terms) (take n last) k 0 far (omega (arith, counted))
-        (ap (λ (i : ℕ). ltb i terms) (get_or-take n last k 0 h) ∙ lt-ltb (get_or last k 0) terms s)
-
-    pub tuple-stop : k < n → terms ≤ get_or last k 0 → false ≡ tuple_fits terms n last
-    tuple-stop h s =
-        whole (every-stop (λ i. ltb i terms) (take n last) k 0 far (omega (arith, counted))
-        (ap (λ (i : ℕ). ltb i terms) (get_or-take n last k 0 h) ∙ le-ltb (get_or last k 0) terms s))
-
-    pub tuple-done : n ≤ k → true ≡ tuple_fits terms n last
-    tuple-done h = whole (every-none (λ i. ltb i terms) (take n last) k 0 far (omega (arith, counted)))
+-- no more are asked for than there are
+pub tuple-tested : (terms n : ℕ) (last : List ℕ) → length last ≡ 4 → n ≤ 4 → {r : Bool} → r ≡ list_all (λ i. ltb i terms) (take n last) → r ≡ tuple_fits terms n last
+unfolding tuple_fits
+tuple-tested terms n last l few e =
+    let counted : length (take n last) ≡ n = omega (arith, length-take n last) in
+    e ∙ (all-every (λ i. ltb i terms) (take n last)
+    ∙ sym (ap (λ (b : Bool). b && every (λ i. ltb i terms) (take n last)) (eq-eqb (length (take n last)) n counted)))
 
 -- ── one binding ─────────────────────────────────────────────────────────────────────────────
 

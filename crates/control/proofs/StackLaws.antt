@@ -31,8 +31,8 @@ use Rattle.laws.specs.Walks.{Loads}
 use Rattle.laws.specs.ReadAnswers.{is_some, passes}
 use Rattle.scope.specs.Uses.{free_in}
 use Rattle.places.specs.Places.{place_of, place_at}
-use Rattle.places.specs.declared.Place.{Place}
-use Rattle.places.specs.declared.Place.TheVariants.{At, Nowhere}
+use Rattle.std.specs.Prelude.{Some, None}
+use Rattle.std.specs.declared.option.Option as Answer
 use Rattle.laws.proofs.ReadAnswers.{is-some}
 use Rattle.control.specs.Control.{all_bound, tuple_fits, last_held, item_held, items_held}
 use Rattle.control.proofs.BindingLaws.{every-same}
@@ -123,15 +123,15 @@ from_one (Places.under_second a) = omega (arith, from_one a)
 place-deep : (root : Script) (at : ℕ) (p : Saved.Place) → place_in root at ≡ some p → 1 ≤ p.depth
 place-deep root at p h = from_one (found root at p h).in_root
 
-module _ (s : List ℕ) (loaded at : ℕ) (e : is_some (parsed loaded s) ≡ true) {r : Place} (f : r ≡ place_at (parsed loaded s) at) where
+module _ (s : List ℕ) (loaded at : ℕ) (e : is_some (parsed loaded s) ≡ true) {r : Answer.Option ℕ} (f : r ≡ place_at (parsed loaded s) at) where
   answered : r ≡ place_of (place_in (is-some (parsed loaded s) e).0 at)
   unfolding place_at
   answered = f ∙ ap (λ (o : Option Script). place_at o at) (is-some (parsed loaded s) e).1
 
-  pub standing : {d : ℕ} → r ≡ At d → Standing s loaded at d
+  pub standing : {d : ℕ} → r ≡ Some d → Standing s loaded at d
   standing {d} g = go (place_in (is-some (parsed loaded s) e).0 at) refl (sym answered ∙ g)
     where
-      go : (o : Option Saved.Place) → place_in (is-some (parsed loaded s) e).0 at ≡ o → place_of o ≡ At d → Standing s loaded at d
+      go : (o : Option Saved.Place) → place_in (is-some (parsed loaded s) e).0 at ≡ o → place_of o ≡ Some d → Standing s loaded at d
       go none p q = absurd (let z : ◌≡◌ {A = ℕ} 0 1 = cc in omega arith)
       go (some p) h q =
           let w = is-some (parsed loaded s) e in
@@ -146,10 +146,10 @@ module _ (s : List ℕ) (loaded at : ℕ) (e : is_some (parsed loaded s) ≡ tru
             read = script-more s loaded (suc t.left) 24 at (omega (arith, t.depth, place-deep w.0 at p h)) p.script t.ends t.read;
           }
 
-  pub no_place : r ≡ Nowhere → place_in (is-some (parsed loaded s) e).0 at ≡ none
+  pub no_place : r ≡ None → place_in (is-some (parsed loaded s) e).0 at ≡ none
   no_place g = go (place_in (is-some (parsed loaded s) e).0 at) refl (sym answered ∙ g)
     where
-      go : (o : Option Saved.Place) → place_in (is-some (parsed loaded s) e).0 at ≡ o → place_of o ≡ Nowhere → place_in (is-some (parsed loaded s) e).0 at ≡ none
+      go : (o : Option Saved.Place) → place_in (is-some (parsed loaded s) e).0 at ≡ o → place_of o ≡ None → place_in (is-some (parsed loaded s) e).0 at ≡ none
       go none p q = p
       go (some p) h q = absurd (let z : ◌≡◌ {A = ℕ} 0 1 = cc in omega arith)
 
@@ -158,7 +158,7 @@ stands-loads w = (w.script, w.ends, w.read)
 
 -- an item, as the code tests it
 module _ (terms : ℕ) (bound : List Bool) (place : ℕ) (i : SavedItem) (s : List ℕ) (loaded : ℕ) where
-  pub nowhere : (e : is_some (parsed loaded s) ≡ true) {r : Place} → r ≡ place_at (parsed loaded s) i.«at» → r ≡ Nowhere
+  pub nowhere : (e : is_some (parsed loaded s) ≡ true) {r : Answer.Option ℕ} → r ≡ place_at (parsed loaded s) i.«at» → r ≡ None
       → false ≡ passes (item_held terms bound place i) (parsed loaded s)
   unfolding passes item_held
   nowhere e f g = rw ((is-some (parsed loaded s) e).1, no_place s loaded i.«at» e f g)
@@ -277,9 +277,14 @@ module _ (s : List ℕ) (loaded : ℕ) (e : is_some (parsed loaded s) ≡ true) 
     unfolding passes items_held
     stack-done h = let z : place ≡ 0 = omega arith in sym (far ∙ rw (z, (is-some (parsed loaded s) e).1))
 
-    module _ (h : 0 < place) {b : Bool} (f : b ≡ passes (item_held terms bound place (get_or items (place - 1) no_item)) (parsed loaded s)) where
+    module _ (h : 0 < place) {b : Bool} (f : b ≡ passes (item_held terms bound (place - 1 + 1) (get_or items (place - 1) no_item)) (parsed loaded s)) where
+      here : passes (item_held terms bound place (get_or items (place - 1) no_item)) (parsed loaded s) ≡ b
+      here =
+          let same : place ≡ place - 1 + 1 = omega arith in
+          ap (λ (n : ℕ). passes (item_held terms bound n (get_or items (place - 1) no_item)) (parsed loaded s)) same ∙ sym f
+
       pub stack-stop : b ≡ false → false ≡ passes (items_held terms bound items height) (parsed loaded s)
-      stack-stop g = sym (far ∙ (down place h ∙ ap (λ (x : Bool). x && passes (items_held terms bound items (place - 1)) (parsed loaded s)) (sym f ∙ g)))
+      stack-stop g = sym (far ∙ (down place h ∙ ap (λ (x : Bool). x && passes (items_held terms bound items (place - 1)) (parsed loaded s)) (here ∙ g)))
 
       pub stack-turn : b ≡ true → passes (items_held terms bound items height) (parsed loaded s) ≡ passes (items_held terms bound items (place - 1)) (parsed loaded s)
-      stack-turn g = far ∙ (down place h ∙ ap (λ (x : Bool). x && passes (items_held terms bound items (place - 1)) (parsed loaded s)) (sym f ∙ g))
+      stack-turn g = far ∙ (down place h ∙ ap (λ (x : Bool). x && passes (items_held terms bound items (place - 1)) (parsed loaded s)) (here ∙ g))

@@ -1,30 +1,28 @@
 // The control's half of soundness (refusal 10): whether stack and bindings of a saved control are sound.
 #![tactic(auto)]
 
-ghost use Rattle.std.specs.Prelude.{◌≡◌, true, ◌≤◌, length};
+ghost use Rattle.std.specs.Prelude.{◌≡◌, true, ◌≤◌, ltb, length, take};
+ghost use Rattle.std.specs.List.{list_all};
 ghost use Rattle.definitions.specs.Reading.{read_script, parsed};
 ghost use Rattle.laws.specs.Walks.{Loads};
 ghost use Rattle.laws.specs.ReadAnswers.{is_some, passes};
-ghost use Rattle.control.specs.Control.{all_bound, tuple_fits, last_held, item_held, items_held, binding_fits, bindings_fit, ControlOf};
+ghost use Rattle.control.specs.Control.{all_bound, last_held, item_held, items_held, binding_fits, bindings_fit, ControlOf};
 ghost use Rattle.definitions.specs.Limits.{depth_limit, pair_limit};
 
 use codes::has_type;
 use definitions::{DEPTH_LIMIT, ITEM_LIMIT, PAIR_LIMIT, SavedControl, SavedItem, VARIABLE_LIMIT};
-use fields::numbers::number_index;
-use places::{Place, place_at};
+use places::place_at;
 use scope::scope::free_in;
 
 // Whether each flagged variable is bound.
 fn all_bound(free: [bool; VARIABLE_LIMIT], bound: [bool; VARIABLE_LIMIT]) -> bool
     ensures { result ≡ all_bound free bound }
 {
-    let mut v = 0;
-    while v < VARIABLE_LIMIT {
+    for v in 0..VARIABLE_LIMIT {
         let good = !free[v] | bound[v];
         if !good {
             return false;
         }
-        v += 1;
     }
     true
 }
@@ -32,17 +30,9 @@ fn all_bound(free: [bool; VARIABLE_LIMIT], bound: [bool; VARIABLE_LIMIT]) -> boo
 // Whether a tuple's first numbers are all numbers of terms.
 fn tuple_fits(last: [u16; PAIR_LIMIT], n: usize, count: usize) -> bool
     requires { n ≤ pair_limit }
-    ensures { result ≡ tuple_fits count n last }
+    ensures { result ≡ list_all (λ i. ltb i count) (take n last) }
 {
-    let mut k = 0;
-    while k < n {
-        let number = number_index(last[k]);
-        if count <= number {
-            return false;
-        }
-        k += 1;
-    }
-    true
+    last[..n].iter().all(|&number| (number as usize) < count)
 }
 
 // Whether an item's last tuple, which only an each block has, names terms.
@@ -81,7 +71,7 @@ fn item_sound(
 {
     let offset = item.at;
     let at = offset as usize;
-    let Place::At(depth) = place_at(script, loaded, at) else {
+    let Some(depth) = place_at(script, loaded, at) else {
         return false;
     };
     let deep = depth as usize;
@@ -108,14 +98,10 @@ fn stack_sound(
     requires height_le_depth_limit { height ≤ depth_limit }
     ensures { result ≡ passes (items_held count bound items height) (parsed loaded script.now) }
 {
-    let mut place = height as usize;
-    while 0 < place {
-        let below = place - 1;
-        let item = items[below];
-        if !item_sound(script, loaded, item, place, bound, count) {
+    for below in (0..height as usize).rev() {
+        if !item_sound(script, loaded, items[below], below + 1, bound, count) {
             return false;
         }
-        place = below;
     }
     true
 }
@@ -149,12 +135,10 @@ fn bindings_sound(
     requires { count ≤ length leasts.now }
     ensures { result ≡ bindings_fit leasts.now count bound numbers types }
 {
-    let mut v = 0;
-    while v < VARIABLE_LIMIT {
+    for v in 0..VARIABLE_LIMIT {
         if !binding_sound(leasts, count, bound[v], numbers[v], types[v]) {
             return false;
         }
-        v += 1;
     }
     true
 }

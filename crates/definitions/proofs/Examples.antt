@@ -11,7 +11,7 @@ use Rattle.definitions.specs.Ascii.{ascii}
 use Rattle.definitions.specs.Bytes.{filled, little_bytes}
 use Rattle.definitions.specs.Terms.{Term, read_terms}
 use Rattle.definitions.specs.Calls.{Lent, load}
-use Rattle.definitions.specs.Numbers.{load_number}
+use Rattle.definitions.specs.Numbers.{answer_number}
 use Rattle.definitions.specs.Printer.{printed}
 use Rattle.definitions.proofs.Opened.{opened}
 
@@ -36,7 +36,7 @@ lend terms schema script =
     record { ranks = built_in; terms = terms; schema = schema; script = script; term_table = replicate term_table_width 0; quad_table = replicate quad_table_width 0 }
 
 load_of : (terms schema script : List ℕ) → ℕ
-load_of terms schema script = load_number (load (lend terms schema script)).returned.answer
+load_of terms schema script = answer_number (load (lend terms schema script)).returned.answer
 
 integer-3 : List ℕ
 integer-3 = 0x13 ∷ little_bytes 8 3
@@ -52,7 +52,7 @@ block : (count : ℕ) → (query : List ℕ) → List ℕ
 block count query = 0x73 ∷ 0 ∷ count ∷ replicate 8 0 ++ (query ++ success)
 
 -- a quad table of 0 bytes
-refusal-1 : load_number (load (record { ranks = built_in; terms = []; schema = []; script = success; term_table = replicate term_table_width 0; quad_table = [] })).returned.answer ≡ 1
+refusal-1 : answer_number (load (record { ranks = built_in; terms = []; schema = []; script = success; term_table = replicate term_table_width 0; quad_table = [] })).returned.answer ≡ 1
 unfolding success opened
 refusal-1 = refl
 
@@ -140,6 +140,6 @@ long-texts = refl
 
 -- a term table of before: 512 slots of 49 bytes
 old-table :
-    load_number (load (record { ranks = built_in; terms = []; schema = []; script = success; term_table = replicate 25088 0; quad_table = replicate quad_table_width 0 })).returned.answer ≡ 1
+    answer_number (load (record { ranks = built_in; terms = []; schema = []; script = success; term_table = replicate 25088 0; quad_table = replicate quad_table_width 0 })).returned.answer ≡ 1
 unfolding success opened
 old-table = refl

@@ -8,6 +8,7 @@ use Prim.Native.String.{String}
 use Rattle.definitions.specs.Ascii.{ascii}
 use Rattle.definitions.specs.Terms.{Term}
 use Rattle.definitions.specs.Result.{Result, refused, passed}
+use Rattle.definitions.specs.declared.Refusal.TheVariants.{BadNumberText, NoSuchNumber}
 use Rattle.definitions.specs.Calls.{number_call}
 use Rattle.definitions.specs.Exports.{number_export}
 use Rattle.definitions.proofs.Opened.{opened}
@@ -41,16 +42,16 @@ values = refl
 -- no whole count of millionths; both limits and one past; an exponent far past
 limits :
     map read ("1e-7" ∷ "1e-6" ∷ "0.0000010" ∷ "0.0000011" ∷ "1000000000000" ∷ "1000000000001" ∷ "1e12" ∷ "-1000000000000.000001" ∷ "1e99" ∷ "1e-99" ∷ [])
-    ≡ refused 17
+    ≡ refused NoSuchNumber
     ∷ decimal 1
     ∷ decimal 1
-    ∷ refused 17
+    ∷ refused NoSuchNumber
     ∷ integer (10 ^ 12)
-    ∷ refused 17
+    ∷ refused NoSuchNumber
     ∷ decimal (10 ^ 18)
-    ∷ refused 17
-    ∷ refused 17
-    ∷ refused 17
+    ∷ refused NoSuchNumber
+    ∷ refused NoSuchNumber
+    ∷ refused NoSuchNumber
     ∷ []
 unfolding read integer decimal opened
 limits = refl
@@ -58,7 +59,7 @@ limits = refl
 -- texts of another form
 forms :
     map read ("" ∷ " " ∷ " 1" ∷ "1 " ∷ "+" ∷ ".5" ∷ "5." ∷ "1e" ∷ "1e+" ∷ "1e123" ∷ "1e1.5" ∷ "--1" ∷ "1,5" ∷ "0x10" ∷ "NaN" ∷ [])
-    ≡ replicate 15 (refused 16)
+    ≡ replicate 15 (refused BadNumberText)
 unfolding read opened
 forms = refl
 
@@ -70,9 +71,9 @@ lengths :
     ∷ number_call (replicate 41 0x39)
     ∷ []
     ≡ integer 7
-    ∷ refused 16
-    ∷ refused 17
-    ∷ refused 16
+    ∷ refused BadNumberText
+    ∷ refused NoSuchNumber
+    ∷ refused BadNumberText
     ∷ []
 unfolding integer opened
 lengths = refl

@@ -52,13 +52,13 @@ unfolding Types.datatype_name
 open_types = tt
 
 unfoldable pub open_terms : Unit {0}
-unfolding Terms.field_text Terms.uri_text Terms.within_limits Terms.term_of_body Terms.body_of Terms.slot_of Terms.entry_record Terms.schema_records Terms.body_at Terms.uri_at Terms.read_term
-    Terms.read_entry Terms.read_triple Terms.read_terms Terms.read_schema Terms.read_page Terms.same_number Terms.same_term Terms.datatype_in Terms.sort_of
+unfolding Terms.field_text Terms.uri_text Terms.within_limits Terms.term_of_body Terms.body_of Terms.slot_of Terms.entry_record Terms.schema_records Terms.body_at Terms.uri_at
+    Terms.read_term Terms.read_entry Terms.read_triple Terms.read_terms Terms.read_schema Terms.read_page Terms.same_number Terms.same_term Terms.datatype_in Terms.sort_of
 open_terms = tt
 
 unfoldable pub open_gathering : Unit {0}
-unfolding Gathering.named Gathering.asks_of_uri Gathering.asks Gathering.askings Gathering.asked_of Gathering.meets Gathering.least_that Gathering.least_asked Gathering.with_subject
-    Gathering.subjects_after Gathering.gathered_of Gathering.gathered
+unfolding Gathering.named Gathering.asks_of_uri Gathering.asks Gathering.askings Gathering.asked_of Gathering.meets Gathering.least_that Gathering.least_asked
+    Gathering.with_subject Gathering.subjects_after Gathering.gathered_of Gathering.gathered
 open_gathering = tt
 
 unfoldable pub open_text : Unit {0}
@@ -67,8 +67,8 @@ unfolding Text.no_literal Text.atom_of Text.pieces_of Text.pattern_of_text Text.
 open_text = tt
 
 unfoldable pub open_reading : Unit {0}
-unfolding Reading.and_then Reading.one_of Reading.two_of Reading.four_of Reading.read_name Reading.read_expr Reading.with_body Reading.read_cond Reading.read_query Reading.written_of
-    Reading.binder_at Reading.binders_at Reading.with_binders Reading.read_script Reading.parsed
+unfolding Reading.and_then Reading.one_of Reading.two_of Reading.four_of Reading.read_name Reading.read_expr Reading.with_body Reading.read_cond Reading.read_query
+    Reading.written_of Reading.binder_at Reading.binders_at Reading.with_binders Reading.read_script Reading.parsed
 open_reading = tt
 
 unfoldable pub open_scope : Unit {0}
@@ -108,8 +108,8 @@ unfolding Values.value_of Values.number_in Values.lifted Values.lifted₂ Values
 open_values = tt
 
 unfoldable pub open_numerals : Unit {0}
-unfolding Numerals.is_digit Numerals.leading Numerals.after_sign Numerals.digits_at Numerals.fraction_at Numerals.exponent_at Numerals.numeral_of Numerals.natural_of Numerals.with_sign
-    Numerals.integer_term Numerals.decimal_term Numerals.term_of
+unfolding Numerals.is_digit Numerals.leading Numerals.after_sign Numerals.digits_at Numerals.fraction_at Numerals.exponent_at Numerals.numeral_of Numerals.natural_of
+    Numerals.with_sign Numerals.integer_term Numerals.decimal_term Numerals.term_of
 open_numerals = tt
 
 unfoldable pub open_evaluate : Unit {0}
@@ -135,8 +135,9 @@ unfolding Publish.uri_of Publish.triple_of Publish.triples_in Publish.triples_of
 open_publish = tt
 
 unfoldable pub open_saved : Unit {0}
-unfolding Saved.slots Saved.term_table Saved.slot_term Saved.terms_from Saved.terms_in Saved.quad_bytes Saved.quad_table Saved.quads_from Saved.quads_in Saved.place_from Saved.place_in
-    Saved.last_tuple Saved.stack_from Saved.saved_item Saved.saved_items Saved.bindings_in Saved.held_control Saved.held_store Saved.saved_control Saved.saved_store Saved.held
+unfolding Saved.slots Saved.term_table Saved.slot_term Saved.terms_from Saved.terms_in Saved.quad_bytes Saved.quad_table Saved.quads_from Saved.quads_in Saved.place_from
+    Saved.place_in Saved.last_tuple Saved.stack_from Saved.saved_item Saved.saved_items Saved.bindings_in Saved.held_control Saved.held_store Saved.saved_control Saved.saved_store
+    Saved.held
 open_saved = tt
 
 unfoldable pub open_sound : Unit {0}
@@ -148,10 +149,11 @@ unfolding Result.◌>>=◌ Result.◌>>◌ Result.require Result.given
 open_result = tt
 
 unfoldable pub open_calls : Unit {0}
-unfolding Calls.record_tests Calls.sizes_fit Calls.script_tests Calls.read_tests Calls.constants_of Calls.types_of Calls.type_tests Calls.check Calls.reported_types Calls.tables_fit
-    Calls.load_tests Calls.load_result Calls.load Calls.checked_of Calls.sound_in Calls.entry_tests Calls.run_in Calls.run_tests Calls.ran_of Calls.run_result Calls.run_call Calls.page_in
-    Calls.take_in Calls.page_tests Calls.page_result Calls.page_call Calls.total_result Calls.total Calls.number_call Calls.suggest_answer Calls.suggest_for Calls.suggest_result
-    Calls.suggest Calls.schema_tests Calls.written Calls.schema_result Calls.schema_call Calls.publish_in Calls.publish_tests Calls.publish_result Calls.publish_call
+unfolding Calls.record_tests Calls.sizes_fit Calls.script_tests Calls.read_tests Calls.constants_of Calls.types_of Calls.type_tests Calls.check Calls.reported_types
+    Calls.tables_fit Calls.load_tests Calls.load_result Calls.load Calls.checked_of Calls.sound_in Calls.entry_tests Calls.run_in Calls.run_tests Calls.ran_of Calls.run_result
+    Calls.run_call Calls.page_in Calls.take_in Calls.page_tests Calls.page_result Calls.page_call Calls.total_result Calls.total Calls.number_call Calls.suggest_answer
+    Calls.suggest_for Calls.suggest_result Calls.suggest Calls.schema_tests Calls.written Calls.schema_result Calls.schema_call Calls.publish_in Calls.publish_tests
+    Calls.publish_result Calls.publish_call
 open_calls = tt
 
 unfoldable pub open_call_list : Unit {0}
@@ -159,9 +161,9 @@ unfolding CallList.run_done CallList.page_done CallList.machine_call CallList.ma
 open_call_list = tt
 
 unfoldable pub open_exports : Unit {0}
-unfolding Exports.words Exports.items_bytes Exports.saved_bytes Exports.words_from Exports.items_from Exports.items_good Exports.saved_from Exports.run_report Exports.page_report
-    Exports.total_report Exports.publish_report Exports.record_after Exports.suggest_report Exports.schema_report Exports.load_export Exports.run_export Exports.page_export
-    Exports.total_export Exports.number_export Exports.suggest_export Exports.schema_export Exports.publish_export
+unfolding Exports.words Exports.items_bytes Exports.saved_bytes Exports.words_from Exports.items_from Exports.items_good Exports.saved_from Exports.run_report Exports.count_report
+    Exports.record_after Exports.suggest_report Exports.schema_report Exports.load_export Exports.run_export Exports.page_export Exports.total_export Exports.number_export
+    Exports.suggest_export Exports.schema_export Exports.publish_export
 open_exports = tt
 
 unfoldable pub open_printer : Unit {0}
@@ -170,6 +172,7 @@ unfolding Printer.entry_body Printer.end_from Printer.terms_end Printer.schema_e
 open_printer = tt
 
 unfoldable pub opened : Unit {0}
-unfolding open_lists open_alphabet open_ascii open_bytes open_types open_terms open_gathering open_text open_reading open_scope open_total open_typing open_suggest open_calendar open_outcome
-    open_truth open_values open_numerals open_evaluate open_evaluated open_search open_machine open_publish open_saved open_sound open_result open_calls open_call_list open_exports open_printer
+unfolding open_lists open_alphabet open_ascii open_bytes open_types open_terms open_gathering open_text open_reading open_scope open_total open_typing open_suggest open_calendar
+    open_outcome open_truth open_values open_numerals open_evaluate open_evaluated open_search open_machine open_publish open_saved open_sound open_result open_calls open_call_list
+    open_exports open_printer
 opened = tt

@@ -1,5 +1,5 @@
 -- Document 01, "Refusals": load, run and page, their refusals in order, and every result outright; then the calls of document 02.
-use Rattle.std.specs.Prelude.{ℕ, List, [], ◌∷◌, ◌++◌, map, Bool, false, ◌&&◌, eqb, leb, length, get_or, drop, ℤ}
+use Rattle.std.specs.Prelude.{ℕ, List, [], ◌∷◌, ◌++◌, map, Bool, false, ◌&&◌, eqb, leb, length, get_or, drop, ℤ, Ok, Err}
 use Rattle.std.proofs.Math.Option.{Option, none, some}
 use Rattle.std.proofs.Math.ListN.{get_elem?}
 use Rattle.definitions.specs.Limits.{term_limit, entry_limit, script_limit, budget_limit, page_limit, ranks_width, term_table_width, quad_table_width, schema_width}
@@ -23,22 +23,15 @@ use Rattle.definitions.specs.Publish.{published}
 use Rattle.definitions.specs.Saved.{term_table, quad_table, held, saved_of, no_run}
 use Rattle.definitions.specs.Evaluate.{Setting, is_uri}
 use Rattle.definitions.specs.Sound.{state_sound}
-use Rattle.definitions.specs.Result.{Result, refused, passed, ◌>>=◌, ◌>>◌, require, given}
+use Rattle.definitions.specs.Result.{Result, refused, passed, OrRefusal, ◌>>=◌, ◌>>◌, require, given}
+use Rattle.definitions.specs.declared.Refusal.TheVariants.{WrongLength, BadTerm, TermTwice, BadEntry, PropertyTwice, BadScript, OutOfScope, NoTyping, NoGreatest, Unsound, BadRun, NoGraph, BadPage, NoRoom, BadNumberText, NoSuchNumber, TooManyEntries, BadRanks, NotFetched, ShortBuffer}
+use Rattle.definitions.specs.declared.Suggested.{Suggested}
+use Rattle.definitions.specs.declared.Suggested.TheVariants as Suggests
+use Rattle.definitions.specs.declared.SchemaCounts.{SchemaCounts}
 use Rattle.definitions.specs.declared.SavedRun.{SavedRun}
 use Rattle.definitions.specs.declared.Loaded.{Loaded}
 use Rattle.definitions.specs.declared.Ran.{Ran}
 use Rattle.definitions.specs.declared.Paged.{Paged}
-use Rattle.definitions.specs.declared.TotalAnswer.{TotalAnswer}
-use Rattle.definitions.specs.declared.SuggestAnswer.{SuggestAnswer}
-use Rattle.definitions.specs.declared.SchemaAnswer.{SchemaAnswer}
-use Rattle.definitions.specs.declared.PublishAnswer.{PublishAnswer}
-use Rattle.definitions.specs.declared.LoadAnswer.TheVariants as LoadAnswers
-use Rattle.definitions.specs.declared.RunAnswer.TheVariants as RunAnswers
-use Rattle.definitions.specs.declared.PageAnswer.TheVariants as PageAnswers
-use Rattle.definitions.specs.declared.TotalAnswer.TheVariants as TotalAnswers
-use Rattle.definitions.specs.declared.SuggestAnswer.TheVariants as SuggestAnswers
-use Rattle.definitions.specs.declared.SchemaAnswer.TheVariants as SchemaAnswers
-use Rattle.definitions.specs.declared.PublishAnswer.TheVariants as PublishAnswers
 
 -- ── terms, schema and script: 2 to 9 ────────────────────────────────────────────────────────
 
@@ -50,10 +43,10 @@ pub record Listed : Type 0 where
 -- 2 to 5
 unfoldable pub record_tests : (terms schema : List ℕ) → Result Listed
 record_tests terms schema = do
-  listed ← given 2 (read_terms terms)
-  require 3 (distinct same_term listed)
-  S ← given 4 (read_schema schema)
-  require 5 (distinct same_property S)
+  listed ← given BadTerm (read_terms terms)
+  require TermTwice (distinct same_term listed)
+  S ← given BadEntry (read_schema schema)
+  require PropertyTwice (distinct same_property S)
   passed (record { terms = listed; schema = S })
 
 -- a limit passed on terms, entries or script bytes
@@ -63,9 +56,9 @@ sizes_fit terms S script = leb (length terms) term_limit && (leb (length S) entr
 -- 6 and 7, over the terms as loading numbers them
 unfoldable pub script_tests : List Term → Schema → (script : List ℕ) → Result Script
 script_tests terms S script = do
-  require 6 (sizes_fit terms S script)
-  root ← given 6 (parsed (length terms) script)
-  require 7 (in_scope root)
+  require BadScript (sizes_fit terms S script)
+  root ← given BadScript (parsed (length terms) script)
+  require OutOfScope (in_scope root)
   passed root
 
 -- what is ready to be typed: the schema, the terms as loading numbers them, and the script
@@ -94,8 +87,8 @@ unfoldable pub constants_of : Schema → List Term → ℕ → Sort
 constants_of S terms c = get_or (map (sort_of S) terms) c (Sort.uri none)
 
 unfoldable pub types_of : Verdict → Result (List Ty)
-types_of no_typing = refused 8
-types_of no_greatest = refused 9
+types_of no_typing = refused NoTyping
+types_of no_greatest = refused NoGreatest
 types_of (greatest Γ) = passed Γ
 
 -- 8 and 9
@@ -163,17 +156,17 @@ pub record LoadResult : Type 0 where
 
 unfoldable pub load_tests : Lent → Result Checked
 load_tests l = do
-  require 1 (lengths_fit l)
-  require 21 (is_alphabet l.ranks)
+  require WrongLength (lengths_fit l)
+  require BadRanks (is_alphabet l.ranks)
   check l.terms l.schema l.script
 
 unfoldable pub load_result : Lent → Result Checked → LoadResult
 load_result l (refused n) =
-    record { returned = record { answer = LoadAnswers.Refused n; saved = no_run }; term_table = l.term_table; quad_table = l.quad_table }
+    record { returned = record { answer = Err n; saved = no_run }; term_table = l.term_table; quad_table = l.quad_table }
 load_result l (passed c) =
     let s = loaded c.terms c.root in
     record {
-      returned = record { answer = LoadAnswers.Accepted; saved = saved_of (reported c) s };
+      returned = record { answer = Ok tt; saved = saved_of (reported c) s };
       term_table = term_table s.store.terms;
       quad_table = quad_table s.store.quads;
     }
@@ -202,9 +195,9 @@ sound_in l saved =
 -- what a call on a saved run begins with: 1, 21, 10
 unfoldable pub entry_tests : Lent → SavedRun → Result Sound
 entry_tests l saved = do
-  require 1 (lengths_fit l)
-  require 21 (is_alphabet l.ranks)
-  given 10 (sound_in l saved)
+  require WrongLength (lengths_fit l)
+  require BadRanks (is_alphabet l.ranks)
+  given Unsound (sound_in l saved)
 
 -- ── run: 1, 21, 10, 11 ──────────────────────────────────────────────────────────────────────
 
@@ -215,7 +208,7 @@ setting_of c ranks now = record { schema = c.schema; ranks = ranks; clock = now 
 -- the machine's part of a run call
 unfoldable pub run_in : Checked → (ranks : List ℕ) → (budget : ℕ) → (now : ℤ) → State → Result (Outcome Run)
 run_in c ranks budget now s = do
-  require 11 (leb budget budget_limit && is_date_time now)
+  require BadRun (leb budget budget_limit && is_date_time now)
   passed (run (setting_of c ranks now) (type_at c.types) budget s)
 
 -- where the machine runs: what loading finds, the state before, and the run
@@ -232,10 +225,10 @@ run_tests l saved budget now = do
 
 -- the steps taken and how the run ended, with the state after its last step
 unfoldable pub ran_of : Checked → State → Run → Ran
-ran_of c s r = record { answer = RunAnswers.Ran (length r.passed) r.ending; saved = saved_of (reported c) (last_of s r.passed) }
+ran_of c s r = record { answer = Ok (record { steps = length r.passed; state = r.ending }); saved = saved_of (reported c) (last_of s r.passed) }
 
 unfoldable pub run_result : SavedRun → Result Running → Outcome Ran
-run_result saved (refused n) = ok (record { answer = RunAnswers.Refused n; saved = saved })
+run_result saved (refused n) = ok (record { answer = Err n; saved = saved })
 run_result saved (passed x) = Outcomes.◌>>=◌ x.run (λ r. ok (ran_of x.checked x.state r))
 
 -- The tables are only read. A fault of the machine is a fault here: that there is none is for the call to promise.
@@ -263,10 +256,10 @@ page_taken g k s = record { skipped = k.skipped; state = record { control = s.co
 -- the machine's part of a page call
 unfoldable pub take_in : Checked → (graph : ℕ) → (page : List ℕ) → State → Result PageTaken
 take_in c g page s = do
-  require 12 (is_graph (get_elem? s.store.terms g))
-  triples ← given 13 (page_in page)
+  require NoGraph (is_graph (get_elem? s.store.terms g))
+  triples ← given BadPage (page_in page)
   let k = taken c.schema g triples s.store
-  require 14 (in_limits (with_page g k s.store))
+  require NoRoom (in_limits (with_page g k s.store))
   passed (page_taken g k s)
 
 pub record Taking : Type 0 where
@@ -286,11 +279,11 @@ pub record PageResult : Type 0 where
 
 unfoldable pub page_result : Lent → SavedRun → Result Taking → PageResult
 page_result l saved (refused n) =
-    record { returned = record { answer = PageAnswers.Refused n; saved = saved }; term_table = l.term_table; quad_table = l.quad_table }
+    record { returned = record { answer = Err n; saved = saved }; term_table = l.term_table; quad_table = l.quad_table }
 page_result l saved (passed x) =
     let s = x.taken.state in
     record {
-      returned = record { answer = PageAnswers.Taken x.taken.skipped; saved = saved_of (reported x.checked) s };
+      returned = record { answer = Ok x.taken.skipped; saved = saved_of (reported x.checked) s };
       term_table = term_table s.store.terms;
       quad_table = quad_table s.store.quads;
     }
@@ -300,12 +293,12 @@ page_call l saved g page = page_result l saved (page_tests l saved g page)
 
 -- ── total: 2 to 7, and at the C interface 1 for its report ──────────────────────────────────
 
-unfoldable pub total_result : Result Parsed → TotalAnswer
-total_result (refused n) = TotalAnswers.Refused n
-total_result (passed x) = TotalAnswers.Total (total_of x.root)
+unfoldable pub total_result : Result Parsed → OrRefusal ℕ
+total_result (refused n) = Err n
+total_result (passed x) = Ok (total_of x.root)
 
 -- types are not asked
-unfoldable pub total : (terms schema script : List ℕ) → TotalAnswer
+unfoldable pub total : (terms schema script : List ℕ) → OrRefusal ℕ
 total terms schema script = total_result (read_tests terms schema script)
 
 -- ── number: 16, 17, and at the C interface 1 for its record ─────────────────────────────────
@@ -313,29 +306,29 @@ total terms schema script = total_result (read_tests terms schema script)
 -- the term that a text reads as
 unfoldable pub number_call : (text : List ℕ) → Result Term
 number_call text = do
-  n ← given 16 (numeral_of text)
-  given 17 (term_of n)
+  n ← given BadNumberText (numeral_of text)
+  given NoSuchNumber (term_of n)
 
 -- ── suggest: 2 to 8, and at the C interface 1 for its report ────────────────────────────────
 
-unfoldable pub suggest_answer : Option Suggestion → SuggestAnswer
-suggest_answer none = SuggestAnswers.NoSingle
-suggest_answer (some w) = SuggestAnswers.Named w.variable (type_code w.type)
+unfoldable pub suggest_answer : Option Suggestion → OrRefusal Suggested
+suggest_answer none = Ok Suggests.NoSingle
+suggest_answer (some w) = Ok (Suggests.Named w.variable (type_code w.type))
 
 -- in the place of refusal 9 the type to write
-unfoldable pub suggest_for : (constants : ℕ → Sort) → List Written → Script → SuggestAnswer
+unfoldable pub suggest_for : (constants : ℕ → Sort) → List Written → Script → OrRefusal Suggested
 suggest_for constants ws s =
     elim (verdict constants ws s) [
-      | no_typing ↦ SuggestAnswers.Refused 8
+      | no_typing ↦ Err NoTyping
       | no_greatest ↦ suggest_answer (suggestion constants ws s)
-      | greatest Γ ↦ SuggestAnswers.Accepted
+      | greatest Γ ↦ Ok Suggests.Accepted
     ]
 
-unfoldable pub suggest_result : Result Parsed → SuggestAnswer
-suggest_result (refused n) = SuggestAnswers.Refused n
+unfoldable pub suggest_result : Result Parsed → OrRefusal Suggested
+suggest_result (refused n) = Err n
 suggest_result (passed x) = suggest_for (constants_of x.schema x.terms) (written_types x.root) x.root
 
-unfoldable pub suggest : (terms schema script : List ℕ) → SuggestAnswer
+unfoldable pub suggest : (terms schema script : List ℕ) → OrRefusal Suggested
 suggest terms schema script = suggest_result (read_tests terms schema script)
 
 -- ── schema: 1, 13, 19 ───────────────────────────────────────────────────────────────────────
@@ -343,10 +336,10 @@ suggest terms schema script = suggest_result (read_tests terms schema script)
 -- `schema` is the lent buffer
 unfoldable pub schema_tests : (page schema : List ℕ) → Result Gathered
 schema_tests page schema = do
-  require 1 (eqb (length schema) schema_width)
-  triples ← given 13 (page_in page)
+  require WrongLength (eqb (length schema) schema_width)
+  triples ← given BadPage (page_in page)
   let g = gathered triples
-  require 19 (leb (length g.entries) entry_limit)
+  require TooManyEntries (leb (length g.entries) entry_limit)
   passed g
 
 -- records at the front of a buffer, the rest untouched
@@ -355,13 +348,13 @@ written S schema = let front = schema_records S in front ++ drop (length front) 
 
 -- what the call returns, and the buffer at its end
 pub record SchemaResult : Type 0 where
-  pub answer : SchemaAnswer
+  pub answer : OrRefusal SchemaCounts
   pub schema : List ℕ
 
 unfoldable pub schema_result : (schema : List ℕ) → Result Gathered → SchemaResult
-schema_result schema (refused n) = record { answer = SchemaAnswers.Refused n; schema = schema }
+schema_result schema (refused n) = record { answer = Err n; schema = schema }
 schema_result schema (passed g) =
-    record { answer = SchemaAnswers.Gathered (length g.entries) g.left_out; schema = written g.entries schema }
+    record { answer = Ok (record { entries = length g.entries; left_out = g.left_out }); schema = written g.entries schema }
 
 unfoldable pub schema_call : (page schema : List ℕ) → SchemaResult
 schema_call page schema = schema_result schema (schema_tests page schema)
@@ -371,27 +364,27 @@ schema_call page schema = schema_result schema (schema_tests page schema)
 -- the page of a fetched graph, for a buffer with room for so many bytes
 unfoldable pub publish_in : (graph room : ℕ) → Store → Result (List ℕ)
 publish_in g room s = do
-  require 22 (is_in g s.fetched)
-  require 23 (leb (length (published g s)) room)
+  require NotFetched (is_in g s.fetched)
+  require ShortBuffer (leb (length (published g s)) room)
   passed (published g s)
 
 -- it is lent no ranks: those that stand here are not looked at
 unfoldable pub publish_tests : Lent → SavedRun → (graph room : ℕ) → Result (List ℕ)
 publish_tests l saved g room = do
-  require 1 (both_tables_fit (lengths_of l))
-  x ← given 10 (sound_in l saved)
+  require WrongLength (both_tables_fit (lengths_of l))
+  x ← given Unsound (sound_in l saved)
   publish_in g room x.state.store
 
 -- what the call returns, and the buffer at its end; tables and saved run are only read
 pub record PublishResult : Type 0 where
-  pub returned : PublishAnswer
+  pub returned : OrRefusal ℕ
   pub page : List ℕ
 
 -- the page stands first, and the rest of the buffer is untouched
 unfoldable pub publish_result : (buffer : List ℕ) → Result (List ℕ) → PublishResult
-publish_result buffer (refused n) = record { returned = PublishAnswers.Refused n; page = buffer }
+publish_result buffer (refused n) = record { returned = Err n; page = buffer }
 publish_result buffer (passed page) =
-    record { returned = PublishAnswers.Published (length page); page = page ++ drop (length page) buffer }
+    record { returned = Ok (length page); page = page ++ drop (length page) buffer }
 
 unfoldable pub publish_call : Lent → SavedRun → (graph : ℕ) → (buffer : List ℕ) → PublishResult
 publish_call l saved g buffer = publish_result buffer (publish_tests l saved g (length buffer))

@@ -1,5 +1,5 @@
 -- The calls on bytes, as other programs link them: saved run and report, or a record, are lent as bytes too, and count as lent tables.
-use Rattle.std.specs.Prelude.{ℕ, zero, suc, ◌+◌, List, [], ◌∷◌, ◌++◌, map, Bool, true, false, ◌&&◌, eqb, leb, ℤ, length}
+use Rattle.std.specs.Prelude.{ℕ, zero, suc, ◌+◌, List, [], ◌∷◌, ◌++◌, map, Bool, true, false, ◌&&◌, eqb, leb, ℤ, length, Ok, Err}
 use Rattle.std.proofs.Math.Option.{Option, none, some}
 use Rattle.definitions.specs.Limits.{variable_limit, graph_limit, depth_limit, pair_limit}
 use Rattle.definitions.specs.Limits.{types_offset, bound_offset, bindings_offset, fetched_offset, items_offset, item_width, saved_width}
@@ -9,25 +9,17 @@ use Rattle.definitions.specs.Alphabet.{is_alphabet}
 use Rattle.definitions.specs.Bytes.{byte, word, little_bytes, part, provided}
 use Rattle.definitions.specs.Terms.{Term, record_of}
 use Rattle.definitions.specs.Outcome.{Outcome, ok, ◌>>=◌}
-use Rattle.definitions.specs.Result.{Result, refused, passed}
+use Rattle.definitions.specs.Result.{Result, refused, passed, OrRefusal}
 use Rattle.definitions.specs.Saved.{zero_item}
 use Rattle.definitions.specs.Calls.{Lent, lengths_fit, load, run_call, PageResult, page_call, total, number_call, suggest, schema_call, lengths_of, both_tables_fit, PublishResult, publish_call}
-use Rattle.definitions.specs.Numbers.{load_number, run_number, page_number, total_number, result_number, state_number, wanted_graph, suggest_number, schema_number, publish_number}
+use Rattle.definitions.specs.Numbers.{answer_number, result_number, state_number, wanted_graph}
 use Rattle.definitions.specs.declared.SavedItem.{SavedItem}
 use Rattle.definitions.specs.declared.SavedRun.{SavedRun}
 use Rattle.definitions.specs.declared.Ran.{Ran}
-use Rattle.definitions.specs.declared.RunAnswer.{RunAnswer}
-use Rattle.definitions.specs.declared.PageAnswer.{PageAnswer}
-use Rattle.definitions.specs.declared.TotalAnswer.{TotalAnswer}
-use Rattle.definitions.specs.declared.SuggestAnswer.{SuggestAnswer}
-use Rattle.definitions.specs.declared.RunAnswer.TheVariants as RunAnswers
-use Rattle.definitions.specs.declared.PageAnswer.TheVariants as PageAnswers
-use Rattle.definitions.specs.declared.TotalAnswer.TheVariants as TotalAnswers
-use Rattle.definitions.specs.declared.SuggestAnswer.TheVariants as SuggestAnswers
-use Rattle.definitions.specs.declared.SchemaAnswer.{SchemaAnswer}
-use Rattle.definitions.specs.declared.SchemaAnswer.TheVariants as SchemaAnswers
-use Rattle.definitions.specs.declared.PublishAnswer.{PublishAnswer}
-use Rattle.definitions.specs.declared.PublishAnswer.TheVariants as PublishAnswers
+use Rattle.definitions.specs.declared.RunEnd.{RunEnd}
+use Rattle.definitions.specs.declared.Suggested.{Suggested}
+use Rattle.definitions.specs.declared.Suggested.TheVariants as Suggests
+use Rattle.definitions.specs.declared.SchemaCounts.{SchemaCounts}
 
 -- ── the saved run as bytes ────────────────────────────────────────────────────────────────
 
@@ -94,24 +86,14 @@ saved_from b =
 -- ── reports ─────────────────────────────────────────────────────────────────────────────────
 
 -- steps taken, state, zero, the wanted graph's term number or zero; a refused call leaves the report as it was
-unfoldable pub run_report : List ℕ → RunAnswer → List ℕ
-run_report report (RunAnswers.Ran steps state) = little_bytes 4 steps ++ (state_number state ∷ 0 ∷ little_bytes 2 (wanted_graph state))
-run_report report (RunAnswers.Refused n) = report
+unfoldable pub run_report : List ℕ → OrRefusal RunEnd → List ℕ
+run_report report (Ok e) = little_bytes 4 e.steps ++ (state_number e.state ∷ 0 ∷ little_bytes 2 (wanted_graph e.state))
+run_report report (Err r) = report
 
--- the skipped count
-unfoldable pub page_report : List ℕ → PageAnswer → List ℕ
-page_report report (PageAnswers.Taken skipped) = little_bytes 4 skipped
-page_report report (PageAnswers.Refused n) = report
-
--- the total
-unfoldable pub total_report : List ℕ → TotalAnswer → List ℕ
-total_report report (TotalAnswers.Total n) = little_bytes 4 n
-total_report report (TotalAnswers.Refused n) = report
-
--- the page's length
-unfoldable pub publish_report : List ℕ → PublishAnswer → List ℕ
-publish_report report (PublishAnswers.Published n) = little_bytes 4 n
-publish_report report (PublishAnswers.Refused n) = report
+-- a count: of triples skipped, of steps in all, of a page's bytes
+unfoldable pub count_report : List ℕ → OrRefusal ℕ → List ℕ
+count_report report (Ok n) = little_bytes 4 n
+count_report report (Err r) = report
 
 -- the record of the term that a text reads as
 unfoldable pub record_after : List ℕ → Result Term → List ℕ
@@ -119,16 +101,19 @@ record_after lent (refused n) = lent
 record_after lent (passed t) = record_of t
 
 -- 0 accepted as it is, 1 a type is named, 2 no single one would do; the variable and the code, both zero unless one is named; zero
-unfoldable pub suggest_report : List ℕ → SuggestAnswer → List ℕ
-suggest_report report SuggestAnswers.Accepted = 0 ∷ 0 ∷ 0 ∷ 0 ∷ []
-suggest_report report (SuggestAnswers.Named x code) = 1 ∷ x ∷ code ∷ 0 ∷ []
-suggest_report report SuggestAnswers.NoSingle = 2 ∷ 0 ∷ 0 ∷ 0 ∷ []
-suggest_report report (SuggestAnswers.Refused n) = report
+abbrev pub suggested_bytes : Suggested → List ℕ
+suggested_bytes Suggests.Accepted = 0 ∷ 0 ∷ 0 ∷ 0 ∷ []
+suggested_bytes (Suggests.Named x code) = 1 ∷ x ∷ code ∷ 0 ∷ []
+suggested_bytes Suggests.NoSingle = 2 ∷ 0 ∷ 0 ∷ 0 ∷ []
+
+unfoldable pub suggest_report : List ℕ → OrRefusal Suggested → List ℕ
+suggest_report report (Ok s) = suggested_bytes s
+suggest_report report (Err r) = report
 
 -- the number of entries, the number of subjects left out
-unfoldable pub schema_report : List ℕ → SchemaAnswer → List ℕ
-schema_report report (SchemaAnswers.Gathered entries left_out) = little_bytes 4 entries ++ little_bytes 4 left_out
-schema_report report (SchemaAnswers.Refused n) = report
+unfoldable pub schema_report : List ℕ → OrRefusal SchemaCounts → List ℕ
+schema_report report (Ok g) = little_bytes 4 g.entries ++ little_bytes 4 g.left_out
+schema_report report (Err r) = report
 
 -- ── the calls: the number returned, and every lent buffer at the end ────────────────────────
 
@@ -180,7 +165,7 @@ saved_after (suc n) r lent = lent
 unfoldable pub load_export : Lent → (saved : List ℕ) → LoadExport
 load_export l saved =
     let r = load l in
-    let n = load_number r.returned.answer in
+    let n = answer_number r.returned.answer in
     elim (eqb (length saved) saved_width) [
       | true ↦ record { number = n; term_table = r.term_table; quad_table = r.quad_table; saved = saved_after n r.returned.saved saved }
       | false ↦ record { number = 1; term_table = l.term_table; quad_table = l.quad_table; saved = saved }
@@ -191,7 +176,7 @@ refused_run n saved report = record { number = n; saved = saved; report = report
 
 abbrev pub ran_export : (saved report : List ℕ) → Ran → RunExport
 ran_export saved report r =
-    let n = run_number r.answer in
+    let n = answer_number r.answer in
     record { number = n; saved = saved_after n r.saved saved; report = run_report report r.answer }
 
 -- bytes that no saved run has are unsound
@@ -214,13 +199,13 @@ refused_page n l saved report = record { number = n; term_table = l.term_table; 
 
 abbrev pub paged_export : (saved report : List ℕ) → PageResult → PageExport
 paged_export saved report r =
-    let n = page_number r.returned.answer in
+    let n = answer_number r.returned.answer in
     record {
       number = n;
       term_table = r.term_table;
       quad_table = r.quad_table;
       saved = saved_after n r.returned.saved saved;
-      report = page_report report r.returned.answer;
+      report = count_report report r.returned.answer;
     }
 
 abbrev pub page_on : Lent → (graph : ℕ) → (page : List ℕ) → (saved report : List ℕ) → Option SavedRun → PageExport
@@ -241,7 +226,7 @@ unfoldable pub total_export : (terms schema script report : List ℕ) → TotalE
 total_export terms schema script report =
     let answer = total terms schema script in
     elim (eqb (length report) total_report_width) [
-      | true ↦ record { number = total_number answer; report = total_report report answer }
+      | true ↦ record { number = answer_number answer; report = count_report report answer }
       | false ↦ record { number = 1; report = report }
     ]
 
@@ -257,7 +242,7 @@ unfoldable pub suggest_export : (terms schema script report : List ℕ) → Sugg
 suggest_export terms schema script report =
     let answer = suggest terms schema script in
     elim (eqb (length report) suggest_report_width) [
-      | true ↦ record { number = suggest_number answer; report = suggest_report report answer }
+      | true ↦ record { number = answer_number answer; report = suggest_report report answer }
       | false ↦ record { number = 1; report = report }
     ]
 
@@ -265,7 +250,7 @@ unfoldable pub schema_export : (page schema report : List ℕ) → SchemaExport
 schema_export page schema report =
     let r = schema_call page schema in
     elim (eqb (length report) schema_report_width) [
-      | true ↦ record { number = schema_number r.answer; schema = r.schema; report = schema_report report r.answer }
+      | true ↦ record { number = answer_number r.answer; schema = r.schema; report = schema_report report r.answer }
       | false ↦ record { number = 1; schema = schema; report = report }
     ]
 
@@ -274,7 +259,7 @@ refused_publish n page report = record { number = n; page = page; report = repor
 
 abbrev pub published_export : (report : List ℕ) → PublishResult → PublishExport
 published_export report r =
-    record { number = publish_number r.returned; page = r.page; report = publish_report report r.returned }
+    record { number = answer_number r.returned; page = r.page; report = count_report report r.returned }
 
 abbrev pub publish_on : Lent → (graph : ℕ) → (page report : List ℕ) → Option SavedRun → PublishExport
 publish_on l g page report none = refused_publish 10 page report

@@ -1,69 +1,56 @@
--- Document 01's number for every case of an enum answer, the graph that a wanted one carries, and the term that a number's text reads as. What else an answer
--- carries stands in the reports (`Exports.runReport`, `Exports.pageReport`, `Exports.totalReport`, `Exports.suggestReport`, `Exports.schemaReport`,
--- `Exports.publishReport`).
-use Rattle.std.specs.Prelude.{ℕ}
+-- The documents' number for every refusal and every state, the graph that a wanted one carries, and the term that a number's text reads as. What else an answer
+-- carries stands in the reports (`Exports.run_report`, `Exports.page_report`, `Exports.total_report`, `Exports.suggest_report`, `Exports.schema_report`,
+-- `Exports.publish_report`).
+use Rattle.std.specs.Prelude.{ℕ, Ok, Err}
 use Rattle.definitions.specs.Bytes.{signed}
 use Rattle.definitions.specs.Terms.{Term}
-use Rattle.definitions.specs.Result.{Result, refused, passed}
+use Rattle.definitions.specs.Result.{Result, refused, passed, OrRefusal}
 use Rattle.definitions.specs.declared.RunState.{RunState}
 use Rattle.definitions.specs.declared.RunState.TheVariants.{Ended, Wanted, Waiting, Spent}
-use Rattle.definitions.specs.declared.LoadAnswer.{LoadAnswer}
-use Rattle.definitions.specs.declared.RunAnswer.{RunAnswer}
-use Rattle.definitions.specs.declared.PageAnswer.{PageAnswer}
-use Rattle.definitions.specs.declared.TotalAnswer.{TotalAnswer}
-use Rattle.definitions.specs.declared.NumberAnswer.{NumberAnswer}
-use Rattle.definitions.specs.declared.SuggestAnswer.{SuggestAnswer}
-use Rattle.definitions.specs.declared.SchemaAnswer.{SchemaAnswer}
-use Rattle.definitions.specs.declared.PublishAnswer.{PublishAnswer}
-use Rattle.definitions.specs.declared.LoadAnswer.TheVariants as LoadAnswers
-use Rattle.definitions.specs.declared.RunAnswer.TheVariants as RunAnswers
-use Rattle.definitions.specs.declared.PageAnswer.TheVariants as PageAnswers
-use Rattle.definitions.specs.declared.TotalAnswer.TheVariants as TotalAnswers
-use Rattle.definitions.specs.declared.NumberAnswer.TheVariants as NumberAnswers
-use Rattle.definitions.specs.declared.SuggestAnswer.TheVariants as SuggestAnswers
-use Rattle.definitions.specs.declared.SchemaAnswer.TheVariants as SchemaAnswers
-use Rattle.definitions.specs.declared.PublishAnswer.TheVariants as PublishAnswers
+use Rattle.definitions.specs.declared.Refusal.{Refusal}
+use Rattle.definitions.specs.declared.Refusal.TheVariants as Refusals
+use Rattle.definitions.specs.declared.Number.{Number}
+use Rattle.definitions.specs.declared.Number.TheVariants as Numbers
+
+abbrev pub refusal_number : Refusal → ℕ
+refusal_number Refusals.WrongLength = 1
+refusal_number Refusals.BadTerm = 2
+refusal_number Refusals.TermTwice = 3
+refusal_number Refusals.BadEntry = 4
+refusal_number Refusals.PropertyTwice = 5
+refusal_number Refusals.BadScript = 6
+refusal_number Refusals.OutOfScope = 7
+refusal_number Refusals.NoTyping = 8
+refusal_number Refusals.NoGreatest = 9
+refusal_number Refusals.Unsound = 10
+refusal_number Refusals.BadRun = 11
+refusal_number Refusals.NoGraph = 12
+refusal_number Refusals.BadPage = 13
+refusal_number Refusals.NoRoom = 14
+refusal_number Refusals.BadNumberText = 16
+refusal_number Refusals.NoSuchNumber = 17
+refusal_number Refusals.TooManyEntries = 19
+refusal_number Refusals.BadRanks = 21
+refusal_number Refusals.NotFetched = 22
+refusal_number Refusals.ShortBuffer = 23
 
 -- 0, or the refusal's number
-abbrev pub load_number : LoadAnswer → ℕ
-load_number LoadAnswers.Accepted = 0
-load_number (LoadAnswers.Refused n) = n
-
-abbrev pub run_number : RunAnswer → ℕ
-run_number (RunAnswers.Ran steps state) = 0
-run_number (RunAnswers.Refused n) = n
-
-abbrev pub page_number : PageAnswer → ℕ
-page_number (PageAnswers.Taken skipped) = 0
-page_number (PageAnswers.Refused n) = n
-
-abbrev pub total_number : TotalAnswer → ℕ
-total_number (TotalAnswers.Total n) = 0
-total_number (TotalAnswers.Refused n) = n
-
-abbrev pub publish_number : PublishAnswer → ℕ
-publish_number (PublishAnswers.Published length) = 0
-publish_number (PublishAnswers.Refused n) = n
+abbrev pub answer_number : {A : Type 0} → OrRefusal A → ℕ
+answer_number (Ok a) = 0
+answer_number (Err r) = refusal_number r
 
 abbrev pub result_number : {A : Type 0} → Result A → ℕ
-result_number (refused n) = n
+result_number (refused r) = refusal_number r
 result_number (passed a) = 0
 
 -- the term that a text reads as; its number is carried in two's complement
-abbrev pub term_read : NumberAnswer → Result Term
-term_read (NumberAnswers.Integer n) = passed (Term.integer (signed n))
-term_read (NumberAnswers.Decimal n) = passed (Term.decimal (signed n))
-term_read (NumberAnswers.Refused n) = refused n
+abbrev pub as_term : Number → Term
+as_term (Numbers.Integer n) = Term.integer (signed n)
+as_term (Numbers.Decimal n) = Term.decimal (signed n)
 
-abbrev pub suggest_number : SuggestAnswer → ℕ
-suggest_number SuggestAnswers.Accepted = 0
-suggest_number (SuggestAnswers.Named x code) = 0
-suggest_number SuggestAnswers.NoSingle = 0
-suggest_number (SuggestAnswers.Refused n) = n
-
-abbrev pub schema_number : SchemaAnswer → ℕ
-schema_number (SchemaAnswers.Gathered entries left_out) = 0
-schema_number (SchemaAnswers.Refused n) = n
+abbrev pub term_read : OrRefusal Number → Result Term
+term_read (Ok n) = passed (as_term n)
+term_read (Err r) = refused r
 
 -- the state of a run, and the wanted graph's term number
 abbrev pub state_number : RunState → ℕ

@@ -9,6 +9,8 @@ use Rattle.definitions.specs.Terms.{of_term_kind, body_width}
 use Rattle.definitions.specs.Typing.{Written, unbound, undecided, fixed, written_types}
 use Rattle.definitions.specs.Values.{natural_text}
 use Rattle.definitions.specs.Result.{Result, refused, passed}
+use Rattle.definitions.specs.Numbers.{refusal_number}
+use Rattle.definitions.specs.declared.Refusal.TheVariants.{BadScript}
 use Rattle.definitions.specs.Calls.{Checked, check}
 
 -- ── splitting the joined input ──────────────────────────────────────────────────────────────
@@ -77,7 +79,7 @@ bound_count (w ∷ ws) = counted w (bound_count ws)
 
 -- state and variable count, then a line for each variable; on a refusal the single line `refused` and its number
 unfoldable pub printed_result : Result Checked → List ℕ
-printed_result (refused n) = line (ascii "refused " ++ natural_text n)
+printed_result (refused n) = line (ascii "refused " ++ natural_text (refusal_number n))
 printed_result (passed c) =
     let ws = written_types c.root in
     line (ascii "accepted " ++ natural_text (bound_count ws)) ++ type_lines 0 ws c.types
@@ -87,5 +89,5 @@ unfoldable pub printed : List ℕ → List ℕ
 printed s =
     elim (leb (length s) printer_limit) [
       | true ↦ printed_result (check (terms_part s) (schema_part s) (script_part s))
-      | false ↦ printed_result (refused 6)
+      | false ↦ printed_result (refused BadScript)
     ]

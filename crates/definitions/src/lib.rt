@@ -121,54 +121,45 @@ pub const SCHEMA_REPORT_WIDTH: usize = 8;
 
 pub const PUBLISH_REPORT_WIDTH: usize = 4;
 
-// The refusals, by document 01's numbers.
-pub const WRONG_LENGTH: u8 = 1;
+// The refusals, by the documents' numbers: document 01's, and from 16 on document 02's.
+#[derive(Clone, Copy, Debug, PartialEq, Eq)]
+pub enum Refusal {
+    WrongLength = 1,
+    BadTerm = 2,
+    TermTwice = 3,
+    BadEntry = 4,
+    PropertyTwice = 5,
+    BadScript = 6,
+    OutOfScope = 7,
+    NoTyping = 8,
+    NoGreatest = 9,
+    Unsound = 10,
+    BadRun = 11,
+    NoGraph = 12,
+    BadPage = 13,
+    NoRoom = 14,
+    // A text that is no number's, or whose number no term has.
+    BadNumberText = 16,
+    NoSuchNumber = 17,
+    // A page that asks for more entries than a schema has.
+    TooManyEntries = 19,
+    // Ranks that are no alphabet.
+    BadRanks = 21,
+    // A graph that is not fetched, a buffer shorter than its page.
+    NotFetched = 22,
+    ShortBuffer = 23,
+}
 
-pub const BAD_TERM: u8 = 2;
+impl Refusal {
+    ghost use Rattle.std.specs.Prelude.{◌≡◌};
+    ghost use Rattle.definitions.specs.Numbers.{refusal_number};
 
-pub const TERM_TWICE: u8 = 3;
-
-pub const BAD_ENTRY: u8 = 4;
-
-pub const PROPERTY_TWICE: u8 = 5;
-
-pub const BAD_SCRIPT: u8 = 6;
-
-pub const OUT_OF_SCOPE: u8 = 7;
-
-pub const NO_TYPING: u8 = 8;
-
-pub const NO_GREATEST: u8 = 9;
-
-pub const UNSOUND: u8 = 10;
-
-pub const BAD_RUN: u8 = 11;
-
-pub const NO_GRAPH: u8 = 12;
-
-pub const BAD_PAGE: u8 = 13;
-
-pub const NO_ROOM: u8 = 14;
-
-// Document 02's: a text that is no number's, or whose number no term has; a page that asks for more entries than a schema has; ranks
-// that are no alphabet; a graph that is not fetched, a buffer shorter than its page.
-pub const BAD_NUMBER_TEXT: u8 = 16;
-
-pub const NO_SUCH_NUMBER: u8 = 17;
-
-pub const TOO_MANY_ENTRIES: u8 = 19;
-
-pub const BAD_RANKS: u8 = 21;
-
-pub const NOT_FETCHED: u8 = 22;
-
-pub const SHORT_BUFFER: u8 = 23;
-
-// What reading a record gives: the offset after it, or that it is malformed.
-#[derive(Clone, Copy)]
-pub enum Read {
-    Next(usize),
-    Malformed,
+    // The documents' number. Ruled out: 20 for ranks that are no alphabet; each number one less.
+    pub fn number(self) -> u8
+        ensures { result ≡ refusal_number self }
+    {
+        self as u8
+    }
 }
 
 // A script item on the stack: the offset of its record in the script, and the tuple that an each block last used.
@@ -221,61 +212,55 @@ pub enum RunState {
     Spent,
 }
 
-// The answers of the calls: a refusal's number, or the result: steps and state of a run, the skipped count of a page, the total of
-// a script, the integer or the millionths that a text reads as, in two's complement, a variable and the code of the type to write at
-// it, the entries of a schema out of a page and the subjects left out, the length of a published page.
+// The answers of the calls: a refusal, or the result. Of a run, steps and state.
 #[derive(Clone, Copy)]
-pub enum LoadAnswer {
-    Accepted,
-    Refused(u8),
+pub struct RunEnd {
+    pub steps: u32,
+    pub state: RunState,
 }
 
+// The term that a text reads as: the integer or the millionths, in two's complement.
 #[derive(Clone, Copy)]
-pub enum RunAnswer {
-    Ran(u32, RunState),
-    Refused(u8),
-}
-
-#[derive(Clone, Copy)]
-pub enum PageAnswer {
-    Taken(u32),
-    Refused(u8),
-}
-
-#[derive(Clone, Copy)]
-pub enum TotalAnswer {
-    Total(u32),
-    Refused(u8),
-}
-
-#[derive(Clone, Copy)]
-pub enum NumberAnswer {
+pub enum Number {
     Integer(u64),
     Decimal(u64),
-    Refused(u8),
 }
 
+// What would make a script acceptable: nothing is wanting; a variable and the code of the type to write at it; no single one.
 #[derive(Clone, Copy)]
-pub enum SuggestAnswer {
+pub enum Suggested {
     Accepted,
     Named(u8, u8),
     NoSingle,
-    Refused(u8),
 }
 
+// The entries of a schema out of a page, and the subjects left out.
 #[derive(Clone, Copy)]
-pub enum SchemaAnswer {
-    Gathered(u32, u32),
-    Refused(u8),
+pub struct SchemaCounts {
+    pub entries: u32,
+    pub left_out: u32,
 }
 
-#[derive(Clone, Copy)]
-pub enum PublishAnswer {
-    Published(u32),
-    Refused(u8),
-}
+pub type LoadAnswer = Result<(), Refusal>;
 
-// An enum holds no array, so the saved run stands beside its answer.
+pub type RunAnswer = Result<RunEnd, Refusal>;
+
+// How many triples of a page were skipped.
+pub type PageAnswer = Result<u32, Refusal>;
+
+// How many steps a script takes.
+pub type TotalAnswer = Result<u32, Refusal>;
+
+pub type NumberAnswer = Result<Number, Refusal>;
+
+pub type SuggestAnswer = Result<Suggested, Refusal>;
+
+pub type SchemaAnswer = Result<SchemaCounts, Refusal>;
+
+// The length of the published page.
+pub type PublishAnswer = Result<u32, Refusal>;
+
+// The saved run stands beside the answer: a refused run or page hands it back as it was lent, and a refused load none (`Calls`).
 #[derive(Clone, Copy)]
 pub struct Loaded {
     pub answer: LoadAnswer,

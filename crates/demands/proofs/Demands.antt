@@ -1,13 +1,13 @@
 -- The demands and requests, held together with the code. The definitions of the calls say what each call gives: answer, saved run and both tables, on refusals too,
 -- and at the C interface the number returned and every lent buffer. The first sixteen fields say that the code gives exactly that: they are the contracts of the
 -- calls and of the exports, met. The others say what follows from the definitions.
+use Rattle.std.specs.Prelude.{Ok}
 use mathlib.Core.Path.{◌≡◌}
 use mathlib.Core.List.{List}
 use lib.ListN.{length}
 use Prim.Native.Nat.{ℕ}
 use Rattle.definitions.specs.Calls.{Lent, load}
 use Rattle.definitions.specs.Limits.{saved_width}
-use Rattle.definitions.specs.declared.LoadAnswer.TheVariants as LoadAnswers
 use Rattle.loading.proofs.load.Statement as load-call
 use Rattle.loading.proofs.load.Met as load-met
 use Rattle.running.proofs.run.Statement as run_call_lem
@@ -93,8 +93,8 @@ pub record Demands (M : Type 1) : Type 2 where
   -- typing, runs and pages
   pub second : Demand2
   -- the whole list of calls after the load of an accepted script
-  pub third : (l : Lent) → (load l).returned.answer ≡ LoadAnswers.Accepted → (calls : List HostCall) → Demand3 l calls
-  pub third_on_bytes : (l : Lent) → (load l).returned.answer ≡ LoadAnswers.Accepted → (saved : List ℕ) → length saved ≡ saved_width
+  pub third : (l : Lent) → (load l).returned.answer ≡ Ok tt → (calls : List HostCall) → Demand3 l calls
+  pub third_on_bytes : (l : Lent) → (load l).returned.answer ≡ Ok tt → (saved : List ℕ) → length saved ≡ saved_width
       → (calls : List ExportCall) → OnBytes l saved calls
   -- Ask 12: how long a script with no each block takes, of the calls and on bytes
   pub exact : (l : Lent) (o : OnceLoad l) → ExactSteps l o.read.root

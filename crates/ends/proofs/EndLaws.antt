@@ -1,11 +1,9 @@
 -- Filling the table from the script's end: what stands after an offset does not hang on what stands at it.
 use Prim.Native.Nat.{ℕ, zero, suc, ◌+◌, ◌-◌, ◌≤◌, ◌<◌}
 use native.Mathlib.Omega.{arith}
-use mathlib.Core.Bool.{Bool, true, false, cond}
 use mathlib.Core.List.{List}
 use mathlib.Core.Logic.{⊎_elim}
 use mathlib.Core.Path.{◌≡◌, refl, sym, ap, subst, ◌∙◌}
-use lib.Dec.{ltb}
 use lib.Seq.{get_or-set_same, get_or-set_other}
 use lib.ListN.{length, get_or, set}
 use borrow.Author.Tests.{lt-ltb, le-ltb}
@@ -50,9 +48,9 @@ module _ (ends : List ℕ) (n lo : ℕ) (onward : Onward ends n lo) where
         all_same k (after_in ends n from) (omega (arith, b.0)) b.1 ∙ ap (after_all (after_in others n) k) (after_same from l)
 
 -- one record of those that are left, and none
-pub all-on : (after : ℕ → ℕ) (k from next : ℕ) → 0 < k → next ≡ after from → after_all after k from ≡ after_all after (k - 1) next
+pub all-on : (after : ℕ → ℕ) (k j from next : ℕ) → k ≡ suc j → next ≡ after from → after_all after k from ≡ after_all after j next
 unfolding after_all
-all-on after k from next l e = let h : k ≡ suc (k - 1) = omega arith in ap (λ j. after_all after j from) h ∙ ap (after_all after (k - 1)) (sym e)
+all-on after k j from next h e = ap (λ i. after_all after i from) h ∙ ap (after_all after j) (sym e)
 
 pub all-off : (after : ℕ → ℕ) (k from : ℕ) → k ≡ 0 → after_all after k from ≡ from
 unfolding after_all

@@ -1,17 +1,16 @@
 -- The extents of kinds as the code has them: four widths that are not 1, and a digit for each number of children.
 use Prim.Native.Nat.{ℕ, ◌-◌, ◌+◌, ◌≤◌, ◌<◌}
 use native.Mathlib.Omega.{arith}
-use mathlib.Core.Bool.{Bool, true, false, cond, ◌&&◌, ◌||◌, true≢false}
-use mathlib.Core.List.{List, []}
+use mathlib.Core.Bool.{◌&&◌}
+use mathlib.Core.List.{List}
 use mathlib.Core.Path.{◌≡◌, refl, sym, ap}
 use lib.Dec.{T, eqb, eqb→eq, leb, leb→le, ltb, ltb→lt}
 use lib.ListN.{get_or}
-use borrow.Author.Tests.{ltb-false}
 use Rattle.definitions.specs.Limits.{pattern_width, language_range_width}
 use Rattle.definitions.specs.Ascii.{ascii}
-use Rattle.laws.specs.Ends.{Extent, extent, extents, extent_of}
+use Rattle.laws.specs.Ends.{extent, extents, extent_of}
 use Rattle.laws.proofs.Tests.{and_left, and_right}
-use Rattle.laws.proofs.Ranges.{every_from, every_in}
+use Rattle.laws.proofs.Ranges.{every_in}
 use Rattle.laws.proofs.Reading.{row-all, row-keys}
 
 -- ── widths ──────────────────────────────────────────────────────────────────────────────────
@@ -57,21 +56,14 @@ widths k =
 
 -- ── children ────────────────────────────────────────────────────────────────────────────────
 
--- of each kind that the digits leave out
-pub no-children : (k : ℕ) → k < 256 → (ltb k 0x40 || ltb 0x65 k) ≡ true → 0 ≡ (extent_of k).children
+-- of each kind below and above those that the digits are for
+pub none-below : (k : ℕ) → k < 0x40 → 0 ≡ (extent_of k).children
 unfolding extent_of
-no-children k l e =
-    let t = every_in (λ j. cond (ltb j 0x40 || ltb 0x65 j) (eqb (extent_of j).children 0) true) 0 256 tt k (omega arith) l in
-    sym (eqb→eq (extent_of k).children 0 (rw e at t))
+none-below k h = sym (eqb→eq (extent_of k).children 0 (every_in (λ j. eqb (extent_of j).children 0) 0 0x40 tt k (omega arith) h))
 
--- and of the others
-pub kept : (k : ℕ) → (ltb k 0x40 || ltb 0x65 k) ≡ false → (0x40 ≤ k) × (k < 0x66)
-kept k e = go (ltb k 0x40) (ltb 0x65 k) refl refl e
-  where
-    go : (a b : Bool) → ltb k 0x40 ≡ a → ltb 0x65 k ≡ b → (a || b) ≡ false → (0x40 ≤ k) × (k < 0x66)
-    go true b p q e = absurd (true≢false e)
-    go false true p q e = absurd (true≢false e)
-    go false false p q e = (omega (arith, ltb-false k 0x40 p), omega (arith, ltb-false 0x65 k q))
+pub none-above : (k : ℕ) → 0x66 ≤ k → k < 256 → 0 ≡ (extent_of k).children
+unfolding extent_of
+none-above k h l = sym (eqb→eq (extent_of k).children 0 (every_in (λ j. eqb (extent_of j).children 0) 0x66 154 tt k h l))
 
 abbrev pub digits : List ℕ
 digits = ascii "00112200000000000022111220000000042210"

@@ -26,11 +26,10 @@ fn children(kind: u8) -> usize
 {
     // a digit for each kind from 40 to 65
     let digits = b"00112200000000000022111220000000042210";
-    if (kind < 0x40) | (0x65 < kind) {
-        return 0;
+    match kind {
+        0x40..=0x65 => (digits[(kind - 0x40) as usize] - b'0') as usize,
+        _ => 0,
     }
-    let at = (kind - 0x40) as usize;
-    (digits[at] - b'0') as usize
 }
 
 // The offset after the record at an offset of a script of n bytes. Ruled out: the offset itself; a number read past the script.
@@ -38,10 +37,7 @@ pub fn after(ends: &[u16], n: usize, at: usize) -> usize
     requires { n ≤ length ends.now }
     ensures { result ≡ after_in ends.now n at }
 {
-    if at < n {
-        return ends[at] as usize;
-    }
-    at
+    if at < n { ends[at] as usize } else { at }
 }
 
 // Where the last child of the record at an offset ends, by the numbers after it.
@@ -53,10 +49,8 @@ fn end_at(script: &[u8], ends: &[u16], at: usize) -> usize
 {
     let kind = script[at];
     let mut end = at + width(kind);
-    let mut left = children(kind);
-    while 0 < left {
+    for _child in 0..children(kind) {
         end = after(ends, script.len(), end);
-        left -= 1;
     }
     end
 }
@@ -67,10 +61,7 @@ pub fn fill_ends(script: &[u8], ends: &mut [u16])
     requires ends_len_bound { length ends.old ≤ script_limit }
     ensures { EndsLent script.now ends.new }
 {
-    let mut at = script.len();
-    while 0 < at {
-        at -= 1;
-        let end = end_at(script, ends, at);
-        ends[at] = end as u16;
+    for at in (0..script.len()).rev() {
+        ends[at] = end_at(script, ends, at) as u16;
     }
 }

@@ -1,4 +1,8 @@
 -- Refusal 10, from the tests that the code makes.
+use Rattle.definitions.specs.declared.Refusal.TheVariants.{WrongLength, Unsound, BadRanks}
+use Rattle.std.specs.Prelude.{Some, None}
+use Rattle.std.specs.declared.option.Option as Answer
+use Rattle.definitions.specs.declared.Refusal.{Refusal}
 use Prim.Native.Nat.{ℕ, zero, suc, ◌≤◌}
 use native.Mathlib.Omega.{arith}
 use mathlib.Core.Path.{◌≡◌, refl, sym, ap, subst, ◌∙◌}
@@ -14,7 +18,7 @@ use Rattle.definitions.specs.Terms.{Term, Schema, sort_of, same_term, read_schem
 use Rattle.definitions.specs.Reading.{parsed}
 use Rattle.definitions.specs.Saved.{terms_in, quads_from, held_control, held_store}
 use Rattle.definitions.specs.Sound.{begins_with, store_sound, control_sound}
-use Rattle.definitions.specs.Result.{Result, refused, passed, require, given, ◌>>◌}
+use Rattle.definitions.specs.Result.{Result, OrRefusal, refused, passed, require, given, ◌>>◌}
 use Rattle.definitions.specs.Calls as Calls
 use Rattle.definitions.specs.Calls.{Checked, check, reported, Lent, tables_fit, lengths_fit, sound_in, entry_tests, lengths_of}
 use Rattle.definitions.specs.Alphabet.{is_alphabet}
@@ -36,8 +40,6 @@ use Rattle.table.specs.Table.{HoldsTerms}
 use Rattle.table.specs.Hashes.{HashedEntries}
 use Rattle.table.proofs.CountLaws.{count_none, count-some}
 use Rattle.table.proofs.TableLaws.{holds-few}
-use Rattle.fields.specs.declared.Counted.{Counted}
-use Rattle.fields.specs.declared.Counted.TheVariants.{Count, Malformed}
 use Rattle.laws.specs.ReadAnswers.{is_some, passes}
 use Rattle.soundness.specs.Store.{begins_in, terms_sound, store_test, InOrder}
 use Rattle.soundness.proofs.BeginLaws.{begins-take}
@@ -46,12 +48,11 @@ use Rattle.control.specs.Control.{ControlOf}
 use Rattle.entry.proofs.Halves.{control_fits, both_fit, sound-test, not-loaded, first-fails, then-second}
 use Rattle.entry.specs.declared.Entered.{Entered}
 use Rattle.card.specs.declared.refusals.Card.{Card}
-use Rattle.card.specs.Check.{number_of, card_of, TablesOf}
+use Rattle.card.specs.Check.{Tells, CardOf}
 use Rattle.card.specs.Leasts.{code_of, least_codes}
 use Rattle.lengths.specs.Lent.{lent_of}
-use Rattle.entry.specs.Entry.{refused_entry, Found, Finds}
-use Rattle.card.proofs.RefusalNumbers.{number-refused, number_passed, refused-number, passed-number, require-not-zero, given-not-zero, after-not-zero}
-use Rattle.card.proofs.CheckLaws.{card-number, check-not-zero}
+use Rattle.entry.specs.Entry.{Found}
+use Rattle.card.proofs.Told.{told-refusal}
 
 -- ── the codes of least types ────────────────────────────────────────────────────────────────
 
@@ -90,265 +91,234 @@ module _ (ranks terms schema script table store : List ℕ) (saved : SavedRun) w
   l = lent_of ranks terms schema script table store
 
   abbrev Refuses : Type 0
-  Refuses = (rows leasts : List ℕ) (r : Entered) → r ≡ refused_entry 10 → Finds l saved (given 10 (sound_in l saved)) r rows leasts
+  Refuses = given Unsound (sound_in l saved) ≡ refused Unsound
 
   unsound : is_some (sound_in l saved) ≡ false → Refuses
   unfolding given
-  unsound e rows leasts r k =
-      let g : given 10 (sound_in l saved) ≡ refused 10 = rw (is_none (sound_in l saved) e) in
-      record { number = ap (λ (r : Entered). r.refusal) k ∙ number-refused g; found = λ x h. absurd (not-refused (sym g ∙ h)) }
+  unsound e = rw (is_none (sound_in l saved) e)
 
-  module _ {card : Card} (ec : card ≡ card_of (check terms schema script) card.entries) where
-    number : card.refusal ≡ number_of (check terms schema script)
-    number = ap (λ (c : Card). c.refusal) ec ∙ card-number (check terms schema script) card.entries
+  -- 2 to 9
+  pub not-checked : {n : Refusal} → check terms schema script ≡ refused n → Refuses
+  not-checked {n} e = unsound (not-loaded l saved n e)
 
-    -- 2 to 9
-    pub not-checked : (card.refusal ≡ 0 → ⊥) → Refuses
-    not-checked h = unsound (not-loaded l saved card.refusal (refused-number (check terms schema script) number h))
+  module _ {card : Card} {loading codes₀ : List ℕ} (told : (c : Checked) × (check terms schema script ≡ passed c) × CardOf schema loading codes₀ c card) where
+    abbrev c : Checked
+    c = told.0
 
-    module _ (nought : card.refusal ≡ 0) {loading codes₀ : List ℕ}
-        (t : (c : Checked) → check terms schema script ≡ passed c → TablesOf c schema loading codes₀ card.entries) where
-      checks : (c : Checked) × (check terms schema script ≡ passed c)
-      checks = passed-number (check terms schema script) (check-not-zero terms schema script) number nought
+    abbrev checks : check terms schema script ≡ passed c
+    checks = told.1
 
-      abbrev c : Checked
-      c = checks.0
+    abbrev tables : CardOf schema loading codes₀ c card
+    tables = told.2
 
-      tables : TablesOf c schema loading codes₀ card.entries
-      tables = t c checks.1
+    passes-all : Passed terms schema script c
+    passes-all = check-passed terms schema script c checks
 
-      passes-all : Passed terms schema script c
-      passes-all = check-passed terms schema script c checks.1
+    loaded-is : card.count ≡ length c.terms
+    loaded-is = tables.count
 
-      card-is : card ≡ card_of (passed c) card.entries
-      card-is = ec ∙ ap (λ (m : Result Checked). card_of m card.entries) checks.1
+    types_are : card.types ≡ reported c
+    types_are = tables.types
 
-      loaded-is : card.count ≡ length c.terms
-      unfolding card_of
-      loaded-is = ap (λ (c : Card). c.count) card-is
+    test : is_some (sound_in l saved)
+        ≡ (same_bytes saved.control.types (reported c)
+        && passes (both_fit c saved.control) (held_store table store saved.store))
+    test = sound-test l saved c checks
 
-      types_are : card.types ≡ reported c
-      unfolding card_of
-      types_are = ap (λ (c : Card). c.types) card-is
+    by-types : same_bytes saved.control.types (reported c) ≡ false → is_some (sound_in l saved) ≡ false
+    by-types e = test ∙ ap (λ (b : Bool). b && passes (both_fit c saved.control) (held_store table store saved.store)) e
 
-      test : is_some (sound_in l saved)
-          ≡ (same_bytes saved.control.types (reported c)
-          && passes (both_fit c saved.control) (held_store table store saved.store))
-      test = sound-test l saved c checks.1
+    by_state : passes (both_fit c saved.control) (held_store table store saved.store) ≡ false
+        → is_some (sound_in l saved) ≡ false
+    by_state e = test ∙ ap (λ (b : Bool). same_bytes saved.control.types (reported c) && b) e ∙ and-false (same_bytes saved.control.types (reported c))
 
-      by-types : same_bytes saved.control.types (reported c) ≡ false → is_some (sound_in l saved) ≡ false
-      by-types e = test ∙ ap (λ (b : Bool). b && passes (both_fit c saved.control) (held_store table store saved.store)) e
+    -- the term table holds no terms
+    pub no-terms : {n : Answer.Option ℕ} → n ≡ count_of (terms_in table) → n ≡ None → Refuses
+    unfolding held_store passes onward
+    no-terms e h = unsound (by_state (rw (count_none (terms_in table) (sym e ∙ h)) refl))
 
-      by_state : passes (both_fit c saved.control) (held_store table store saved.store) ≡ false
-          → is_some (sound_in l saved) ≡ false
-      by_state e = test ∙ ap (λ (b : Bool). same_bytes saved.control.types (reported c) && b) e ∙ and-false (same_bytes saved.control.types (reported c))
+    pub other-types : {b : Bool} → (saved.control.types ≡ card.types → b ≡ true) → b ≡ false → Refuses
+    other-types {b} same e =
+        unsound (by-types (differ saved.control.types (reported c) (λ h.
+        absurd (let z : ◌≡◌ {A = ℕ} 0 1 = (let y : ◌≡◌ {A = Bool} true false = sym (same (h ∙ sym types_are)) ∙ e in cc) in omega arith))))
 
-      -- the term table holds no terms
-      pub no-terms : {n : Counted} → n ≡ count_of (terms_in table) → n ≡ Malformed → Refuses
-      unfolding held_store passes onward
-      no-terms e h = unsound (by_state (rw (count_none (terms_in table) (sym e ∙ h)) refl))
+    -- ── what the tests are lent ────────────────────────────────────────────────────────────
 
-      pub other-types : {b : Bool} → (saved.control.types ≡ card.types → b ≡ true) → b ≡ false → Refuses
-      other-types {b} same e =
-          unsound (by-types (differ saved.control.types (reported c) (λ h.
-          absurd (let z : ◌≡◌ {A = ℕ} 0 1 = (let y : ◌≡◌ {A = Bool} true false = sym (same (h ∙ sym types_are)) ∙ e in cc) in omega arith))))
+    pub schema-good : is_some (read_schema schema) ≡ true
+    schema-good = rw passes-all.reads.entries refl
 
-      -- ── what the tests are lent ────────────────────────────────────────────────────────────
+    pub schema-hashed : HashedEntries schema card.entries
+    schema-hashed = tables.hashes
 
-      pub schema-good : is_some (read_schema schema) ≡ true
-      schema-good = rw passes-all.reads.entries refl
+    pub script-good : is_some (parsed card.count script) ≡ true
+    script-good = rw (loaded-is, passes-all.reads.parses) refl
 
-      pub schema-hashed : HashedEntries schema card.entries
-      schema-hashed = tables.hashes
+    few : length c.terms ≤ term_limit
+    few = terms-fit terms schema script c passes-all
 
-      pub script-good : is_some (parsed card.count script) ≡ true
-      script-good = rw (loaded-is, passes-all.reads.parses) refl
+    loading-in : terms_in loading ≡ some c.terms
+    loading-in = ap terms_in tables.slots ∙ terms-of c.terms (check-valid terms schema script c checks) few
 
-      few : length c.terms ≤ term_limit
-      few = terms-fit terms schema script c passes-all
+    pub loading-apart : distinct_in same_term (terms_in loading) ≡ true
+    unfolding distinct_in
+    loading-apart = ap (distinct_in same_term) loading-in ∙ is_true (distinct same_term c.terms) (accepted terms schema script c passes-all).apart
 
-      loading-in : terms_in loading ≡ some c.terms
-      loading-in = ap terms_in tables.slots ∙ terms-of c.terms (check-valid terms schema script c checks.1) few
+    pub loading-holds : HoldsTerms loading card.count
+    unfolding count_of
+    loading-holds =
+        record {
+          width = ap length tables.slots ∙ term-table-length c.terms (check-valid terms schema script c checks) few;
+          count = ap count_of loading-in ∙ ap Some (sym loaded-is);
+        }
 
-      pub loading-apart : distinct_in same_term (terms_in loading) ≡ true
-      unfolding distinct_in
-      loading-apart = ap (distinct_in same_term) loading-in ∙ is_true (distinct same_term c.terms) (accepted terms schema script c passes-all).apart
+    -- ── the terms in use ───────────────────────────────────────────────────────────────────
 
-      pub loading-holds : HoldsTerms loading card.count
-      unfolding count_of
-      loading-holds =
-          record {
-            width = ap length tables.slots ∙ term-table-length c.terms (check-valid terms schema script c checks.1) few;
-            count = ap count_of loading-in ∙ ap Count (sym loaded-is);
-          }
+    module _ {n : Answer.Option ℕ} {count : ℕ} (width : length table ≡ term_table_width) (en : n ≡ count_of (terms_in table)) (hn : n ≡ Some count) where
+      used : (ts : List Term) × (terms_in table ≡ some ts) × (length ts ≡ count)
+      used = count-some (terms_in table) (sym en ∙ hn)
 
-      -- ── the terms in use ───────────────────────────────────────────────────────────────────
+      pub table-holds : HoldsTerms table count
+      table-holds = record { width = width; count = sym en ∙ hn }
 
-      module _ {n : Counted} {count : ℕ} (width : length table ≡ term_table_width) (en : n ≡ count_of (terms_in table)) (hn : n ≡ Count count) where
-        used : (ts : List Term) × (terms_in table ≡ some ts) × (length ts ≡ count)
-        used = count-some (terms_in table) (sym en ∙ hn)
+      -- the tests of the store, by any codes of its terms
+      store_is : (leasts : List ℕ) → LeastOf c.schema used.0 leasts
+          → terms_sound (terms_in loading) (terms_in table) && store_test store saved.store leasts count ≡ passes (store_sound c.schema c.terms) (held_store table store saved.store)
+      store_is leasts codes = store-tests loading table store count table-holds saved.store leasts c.schema c.terms used.0 loading-in used.1 codes
 
-        pub table-holds : HoldsTerms table count
-        table-holds = record { width = width; count = sym en ∙ hn }
+      no_store : passes (store_sound c.schema c.terms) (held_store table store saved.store) ≡ false → Refuses
+      no_store e = unsound (by_state (first-fails (store_sound c.schema c.terms) (control_fits c saved.control) (held_store table store saved.store) e))
 
-        -- the tests of the store, by any codes of its terms
-        store_is : (leasts : List ℕ) → LeastOf c.schema used.0 leasts
-            → terms_sound (terms_in loading) (terms_in table) && store_test store saved.store leasts count ≡ passes (store_sound c.schema c.terms) (held_store table store saved.store)
-        store_is leasts codes = store-tests loading table store count table-holds saved.store leasts c.schema c.terms used.0 loading-in used.1 codes
+      module _ {a : Bool} (ea : a ≡ terms_sound (terms_in loading) (terms_in table)) where
+        pub other-terms : a ≡ false → Refuses
+        other-terms e =
+            let any = map (code_of c.schema) used.0 ++ [] in
+            no_store (sym (store_is any (codes_at c.schema used.0 [])) ∙ ap (λ (b : Bool). b && store_test store saved.store any count) (sym ea ∙ e))
 
-        no_store : passes (store_sound c.schema c.terms) (held_store table store saved.store) ≡ false → Refuses
-        no_store e = unsound (by_state (first-fails (store_sound c.schema c.terms) (control_fits c saved.control) (held_store table store saved.store) e))
+        module _ (ga : a ≡ true) where
+          first : take (length c.terms) used.0 ≡ c.terms
+          unfolding terms_sound begins_in
+          first =
+              let both : begins_with c.terms used.0 && distinct_in same_term (some used.0) ≡ true = rw (loading-in, used.1) at (sym ea ∙ ga) in
+              begins-take c.terms used.0 (and_left (begins_with c.terms used.0) (distinct_in same_term (some used.0)) (true_is _ both))
 
-        module _ {a : Bool} (ea : a ≡ terms_sound (terms_in loading) (terms_in table)) where
-          pub other-terms : a ≡ false → Refuses
-          other-terms e =
-              let any = map (code_of c.schema) used.0 ++ [] in
-              no_store (sym (store_is any (codes_at c.schema used.0 [])) ∙ ap (λ (b : Bool). b && store_test store saved.store any count) (sym ea ∙ e))
+          pub loaded-in : card.count ≤ count
+          loaded-in = omega (arith, ap length first, length-take (length c.terms) used.0, used.2, loaded-is)
 
-          module _ (ga : a ≡ true) where
-            first : take (length c.terms) used.0 ≡ c.terms
-            unfolding terms_sound begins_in
-            first =
-                let both : begins_with c.terms used.0 && distinct_in same_term (some used.0) ≡ true = rw (loading-in, used.1) at (sym ea ∙ ga) in
-                begins-take c.terms used.0 (and_left (begins_with c.terms used.0) (distinct_in same_term (some used.0)) (true_is _ both))
+          -- the codes of loading's terms are those of the table's first
+          pub codes-stand : take card.count codes₀ ≡ take card.count (least_codes (read_schema schema) (terms_in table))
+          unfolding least_codes
+          codes-stand =
+              rw (loaded-is, passes-all.reads.entries, used.1)
+              (tables.codes ∙ ap (map (code_of c.schema)) (sym first) ∙ sym (take-codes c.schema (length c.terms) used.0))
 
-            pub loaded-in : card.count ≤ count
-            loaded-in = omega (arith, ap length first, length-take (length c.terms) used.0, used.2, loaded-is)
-
-            -- the codes of loading's terms are those of the table's first
-            pub codes-stand : take card.count codes₀ ≡ take card.count (least_codes (read_schema schema) (terms_in table))
+          module _ (room : length codes₀ ≡ term_limit) {leasts : List ℕ} (el : leasts ≡ least_codes (read_schema schema) (terms_in table) ++ drop count codes₀) where
+            codes-are : leasts ≡ map (code_of c.schema) used.0 ++ drop count codes₀
             unfolding least_codes
-            codes-stand =
-                rw (loaded-is, passes-all.reads.entries, used.1)
-                (tables.codes ∙ ap (map (code_of c.schema)) (sym first) ∙ sym (take-codes c.schema (length c.terms) used.0))
+            codes-are = el ∙ rw (passes-all.reads.entries, used.1) refl
 
-            module _ (room : length codes₀ ≡ term_limit) {leasts : List ℕ} (el : leasts ≡ least_codes (read_schema schema) (terms_in table) ++ drop count codes₀) where
-              codes-are : leasts ≡ map (code_of c.schema) used.0 ++ drop count codes₀
-              unfolding least_codes
-              codes-are = el ∙ rw (passes-all.reads.entries, used.1) refl
+            codes : LeastOf c.schema used.0 leasts
+            codes = subst (LeastOf c.schema used.0) (sym codes-are) (codes_at c.schema used.0 (drop count codes₀))
 
-              codes : LeastOf c.schema used.0 leasts
-              codes = subst (LeastOf c.schema used.0) (sym codes-are) (codes_at c.schema used.0 (drop count codes₀))
+            fewer : count ≤ term_limit
+            fewer = holds-few table count table-holds
 
-              fewer : count ≤ term_limit
-              fewer = holds-few table count table-holds
+            pub leasts-length : length leasts ≡ term_limit
+            leasts-length =
+                omega (
+                  arith,
+                  ap length codes-are,
+                  length-append (map (code_of c.schema) used.0) (drop count codes₀),
+                  length-map used.0 (code_of c.schema),
+                  used.2,
+                  length-drop count codes₀,
+                  room,
+                  fewer,
+                )
 
-              pub leasts-length : length leasts ≡ term_limit
-              leasts-length =
-                  omega (
-                    arith,
-                    ap length codes-are,
-                    length-append (map (code_of c.schema) used.0) (drop count codes₀),
-                    length-map used.0 (code_of c.schema),
-                    used.2,
-                    length-drop count codes₀,
-                    room,
-                    fewer,
-                  )
+            module _ {b : Bool} (eb : b ≡ store_test store saved.store leasts count) where
+              stored : b ≡ passes (store_sound c.schema c.terms) (held_store table store saved.store)
+              stored = eb ∙ ap (λ (x : Bool). x && store_test store saved.store leasts count) (sym ga ∙ ea) ∙ store_is leasts codes
 
-              module _ {b : Bool} (eb : b ≡ store_test store saved.store leasts count) where
-                stored : b ≡ passes (store_sound c.schema c.terms) (held_store table store saved.store)
-                stored = eb ∙ ap (λ (x : Bool). x && store_test store saved.store leasts count) (sym ga ∙ ea) ∙ store_is leasts codes
+              pub other-store : b ≡ false → Refuses
+              other-store e = no_store (sym stored ∙ e)
 
-                pub other-store : b ≡ false → Refuses
-                other-store e = no_store (sym stored ∙ e)
+              module _ (gb : b ≡ true) {s : Bool} (same : s ≡ true → saved.control.types ≡ card.types) (es : s ≡ true)
+                  {k : Bool} (ek : ControlOf script card.count saved.control count leasts k) where
+                types_same : saved.control.types ≡ reported c
+                types_same = same es ∙ types_are
 
-                module _ (gb : b ≡ true) {s : Bool} (same : s ≡ true → saved.control.types ≡ card.types) (es : s ≡ true)
-                    {k : Bool} (ek : ControlOf script card.count saved.control count leasts k) where
-                  types_same : saved.control.types ≡ reported c
-                  types_same = same es ∙ types_are
+                control-is : k ≡ passes (control_sound c.schema c.types c.root used.0) (held_control c.root saved.control)
+                control-is =
+                    ek c used.0
+                    (record {
+                      parses = ap (λ (n : ℕ). parsed n script) loaded-is ∙ passes-all.reads.parses;
+                      types = types_same;
+                      each = types-length terms schema script c passes-all;
+                      counted = sym used.2;
+                      codes = codes;
+                    })
 
-                  control-is : k ≡ passes (control_sound c.schema c.types c.root used.0) (held_control c.root saved.control)
-                  control-is =
-                      ek c used.0
-                      (record {
-                        parses = ap (λ (n : ℕ). parsed n script) loaded-is ∙ passes-all.reads.parses;
-                        types = types_same;
-                        each = types-length terms schema script c passes-all;
-                        counted = sym used.2;
-                        codes = codes;
-                      })
+                -- the control's half decides
+                decided : k ≡ is_some (sound_in l saved)
+                decided =
+                    let p = store_sound c.schema c.terms in
+                    let q = control_fits c saved.control in
+                    let h = then-second p q (held_store table store saved.store) (sym stored ∙ gb) in
+                    control-is
+                    ∙ ap (λ (ts : List Term). passes (control_sound c.schema c.types c.root ts) (held_control c.root saved.control))
+                    (some_is (sym used.1 ∙ (store-inv table store saved.store h.0 h.1).terms))
+                    ∙ sym h.3
+                    ∙ sym (test ∙ ap (λ (b : Bool). b && passes (both_fit c saved.control) (held_store table store saved.store)) (alike saved.control.types (reported c) types_same))
 
-                  -- the control's half decides
-                  decided : k ≡ is_some (sound_in l saved)
-                  decided =
-                      let p = store_sound c.schema c.terms in
-                      let q = control_fits c saved.control in
-                      let h = then-second p q (held_store table store saved.store) (sym stored ∙ gb) in
-                      control-is
-                      ∙ ap (λ (ts : List Term). passes (control_sound c.schema c.types c.root ts) (held_control c.root saved.control))
-                      (some_is (sym used.1 ∙ (store-inv table store saved.store h.0 h.1).terms))
-                      ∙ sym h.3
-                      ∙ sym (test ∙ ap (λ (b : Bool). b && passes (both_fit c saved.control) (held_store table store saved.store)) (alike saved.control.types (reported c) types_same))
+                pub other-control : k ≡ false → Refuses
+                other-control e = unsound (sym decided ∙ e)
 
-                  pub other-control : k ≡ false → Refuses
-                  other-control e = unsound (sym decided ∙ e)
-
-                  pub all_found : k ≡ true → (rows : List ℕ) → length rows ≡ quad_limit
-                      → (b ≡ true → InOrder saved.store.quads rows (quads_from saved.store.quads store 0))
-                      → Finds l saved (given 10 (sound_in l saved)) (record { refusal = 0; loaded = card.count; count = count; entries = card.entries }) rows leasts
-                  unfolding given
-                  all_found e rows wide er =
-                      let y = is-some (sound_in l saved) (sym decided ∙ e) in
+                pub all_found : k ≡ true → (rows : List ℕ) → length rows ≡ quad_limit
+                    → (b ≡ true → InOrder saved.store.quads rows (quads_from saved.store.quads store 0))
+                    → (x : Calls.Sound) × (given Unsound (sound_in l saved) ≡ passed x)
+                    × Found l saved rows leasts x (record { loaded = card.count; count = count; entries = card.entries })
+                unfolding given
+                all_found e rows wide er =
+                    let y = is-some (sound_in l saved) (sym decided ∙ e) in
+                    let x = y.0 in
+                    let i = sound-in l saved x y.1 in
+                    let is : x.checked ≡ c = passed_is (sym i.loads ∙ checks) in
+                    let h = held-inv x.checked.root table store saved x.state i.holds in
+                    let all : used.0 ≡ x.state.store.terms = some_is (sym used.1 ∙ h.store.terms) in
+                    let n = saved.store.quads in
+                    let quads = quads-few x.checked (is-accepted l saved x i) x.state i.sound in (
+                      x,
+                      ap (given Unsound) y.1,
                       record {
-                        number = number_passed (ap (given 10) y.1);
-                        found = λ x h.
-                            let i = sound-in l saved x (given-inv 10 (sound_in l saved) h) in
-                            let is : x.checked ≡ c = passed_is (sym i.loads ∙ checks.1) in
-                            let h = held-inv x.checked.root table store saved x.state i.holds in
-                            let all : used.0 ≡ x.state.store.terms = some_is (sym used.1 ∙ h.store.terms) in
-                            let n = saved.store.quads in
-                            let quads = quads-few x.checked (is-accepted l saved x i) x.state i.sound in
+                        loaded = loaded-is ∙ ap (λ (c : Checked). length c.terms) (sym is);
+                        lent = λ clock.
                             record {
-                              loaded = loaded-is ∙ ap (λ (c : Checked). length c.terms) (sym is);
-                              lent = λ clock.
-                                  record {
-                                    tabled = record { reads = h.store.terms; counted = ap length (sym all) ∙ used.2; size = width };
-                                    stored = record { room = omega (arith, quads, quads-in-count n store x.state.store.quads h.store.quads, wide); rises = (er gb).rises };
-                                    quads_are = (er gb).rows ∙ quads-in-are n store x.state.store.quads h.store.quads;
-                                    room = omega (arith, fewer, leasts-length);
-                                    least_of = subst (λ (ts : List Term). LeastOf x.checked.schema ts leasts) all (subst (λ (c : Checked). LeastOf c.schema used.0 leasts) (sym is) codes);
-                                  };
-                              hashed = schema-hashed;
+                              tabled = record { reads = h.store.terms; counted = ap length (sym all) ∙ used.2; size = width };
+                              stored = record { room = omega (arith, quads, quads-in-count n store x.state.store.quads h.store.quads, wide); rises = (er gb).rises };
+                              quads_are = (er gb).rows ∙ quads-in-are n store x.state.store.quads h.store.quads;
+                              room = omega (arith, fewer, leasts-length);
+                              least_of = subst (λ (ts : List Term). LeastOf x.checked.schema ts leasts) all (subst (λ (c : Checked). LeastOf c.schema used.0 leasts) (sym is) codes);
                             };
-                      }
+                        hashed = schema-hashed;
+                      },
+                    )
 
--- ── refusal 1 ───────────────────────────────────────────────────────────────────────────────
+-- ── refusals 1 and 21 ───────────────────────────────────────────────────────────────────────
 
 module _ (l : Lent) {a : Bool} (ea : a ≡ tables_fit (lengths_of l)) where
-  pub wrong-length : (saved : SavedRun) → a ≡ false → (rows leasts : List ℕ) {r : Entered} → r ≡ refused_entry 1 → Finds l saved (entry_tests l saved) r rows leasts
-  wrong-length saved e rows leasts k =
-      let g = entry-one l saved (sym ea ∙ e) in
-      record { number = ap (λ (r : Entered). r.refusal) k ∙ number-refused g; found = λ x h. absurd (not-refused (sym g ∙ h)) }
+  pub wrong-length : (saved : SavedRun) → a ≡ false → entry_tests l saved ≡ refused WrongLength
+  wrong-length saved e = entry-one l saved (sym ea ∙ e)
 
   module _ (fit : a ≡ true) where
     module _ (saved : SavedRun) {b : Bool} (eb : b ≡ is_alphabet l.ranks) where
-      pub no-alphabet : b ≡ false → (rows leasts : List ℕ) {r : Entered} → r ≡ refused_entry 21 → Finds l saved (entry_tests l saved) r rows leasts
-      no-alphabet e rows leasts k =
-          let g = entry-ranks l saved (true_is (lengths_fit l) (sym ea ∙ fit)) (sym eb ∙ e) in
-          record { number = ap (λ (r : Entered). r.refusal) k ∙ number-refused g; found = λ x h. absurd (not-refused (sym g ∙ h)) }
+      pub no-alphabet : b ≡ false → entry_tests l saved ≡ refused BadRanks
+      no-alphabet e = entry-ranks l saved (true_is (lengths_fit l) (sym ea ∙ fit)) (sym eb ∙ e)
 
       -- the tests are those of refusal 10
-      pub tests-go-on : b ≡ true → {r : Entered} {rows leasts : List ℕ} → Finds l saved (given 10 (sound_in l saved)) r rows leasts → Finds l saved (entry_tests l saved) r rows leasts
+      pub tests-go-on : b ≡ true → {B : Type 0} (says : Calls.Sound → B → Type 0) (r : OrRefusal B) → Tells says (given Unsound (sound_in l saved)) r → Tells says (entry_tests l saved) r
       unfolding entry_tests
-      tests-go-on e {r} {rows} {leasts} f =
-          let rest = given 10 (sound_in l saved) in
-          subst (λ (m : Result Calls.Sound). Finds l saved m r rows leasts)
-          (sym (require-after 1 (lengths_fit l) (require 21 (is_alphabet l.ranks) >> rest) (true_is (lengths_fit l) (sym ea ∙ fit))
-          ∙ require-after 21 (is_alphabet l.ranks) rest (true_is (is_alphabet l.ranks) (sym eb ∙ e)))) f
-
--- ── what a call goes by ─────────────────────────────────────────────────────────────────────
-
-module _ {l : Lent} {saved : SavedRun} {r : Entered} {rows leasts : List ℕ} (f : Finds l saved (entry_tests l saved) r rows leasts) where
-  pub not_entered : (r.refusal ≡ 0 → ⊥) → entry_tests l saved ≡ refused r.refusal
-  not_entered h = refused-number (entry_tests l saved) f.number h
-
-  pub entered : r.refusal ≡ 0 → (x : Calls.Sound) × (entry_tests l saved ≡ passed x) × Found l saved x r rows leasts
-  unfolding entry_tests
-  entered z =
-      let rest = given 10 (sound_in l saved) in
-      let good = is_alphabet l.ranks in
-      let later = after-not-zero (require 21 good) rest (require-not-zero 20 good) (given-not-zero 9 (sound_in l saved)) in
-      let never = after-not-zero (require 1 (lengths_fit l)) (require 21 good >> rest) (require-not-zero 0 (lengths_fit l)) later in
-      let x = passed-number (entry_tests l saved) never f.number z in
-      (x.0, x.1, f.found x.0 x.1)
+      tests-go-on e says r f =
+          let rest = given Unsound (sound_in l saved) in
+          subst (λ (m : Result Calls.Sound). Tells says m r)
+          (sym (require-after WrongLength (lengths_fit l) (require BadRanks (is_alphabet l.ranks) >> rest) (true_is (lengths_fit l) (sym ea ∙ fit))
+          ∙ require-after BadRanks (is_alphabet l.ranks) rest (true_is (is_alphabet l.ranks) (sym eb ∙ e)))) f

@@ -1,4 +1,5 @@
 -- Refusal 10 in two halves: where the records load, the store that is held passes its test, and the control that is held its own over the store's terms.
+use Rattle.definitions.specs.declared.Refusal.{Refusal}
 use Prim.Native.Nat.{ℕ}
 use native.Mathlib.Omega.{arith}
 use mathlib.Core.Path.{◌≡◌, refl, sym, ◌∙◌, ap}
@@ -57,7 +58,7 @@ sound-test l saved c e =
     (only_if same (onward states (λ s. provided (test s) (some (make s))))
     ∙ ap (λ (b : Bool). same && b) (tested test make states ∙ halves c l.term_table l.quad_table saved))
 
-pub not-loaded : (l : Lent) (saved : SavedRun) (n : ℕ) → check l.terms l.schema l.script ≡ refused n → is_some (sound_in l saved) ≡ false
+pub not-loaded : (l : Lent) (saved : SavedRun) (n : Refusal) → check l.terms l.schema l.script ≡ refused n → is_some (sound_in l saved) ≡ false
 unfolding sound_in checked_of onward
 not-loaded l saved n e = rw e
 

@@ -1,14 +1,11 @@
 -- What a call on a saved run finds as it begins.
-use Rattle.std.specs.Prelude.{ℕ, ◌≡◌, List, length, replicate}
-use Rattle.definitions.specs.Limits.{entry_limit}
-use Rattle.definitions.specs.Result.{Result, passed}
+use Rattle.std.specs.Prelude.{ℕ, ◌≡◌, List, length}
 use Rattle.definitions.specs.Calls as Calls
 use Rattle.definitions.specs.Calls.{Lent}
 use Rattle.definitions.specs.declared.SavedRun.{SavedRun}
 use Rattle.table.specs.Hashes.{HashedEntries}
 use Rattle.query.specs.declared.Context.{Context}
 use Rattle.query.specs.StoreLent.{StoreLent}
-use Rattle.card.specs.Check.{number_of}
 use Rattle.entry.specs.declared.Entered.{Entered}
 
 -- what a search is told where this was found, at a value of now
@@ -16,16 +13,7 @@ abbrev pub context_of : Entered → SavedRun → (clock : ℕ) → Context
 context_of r saved clock = record { loaded = r.loaded; count = r.count; quads = saved.store.quads; clock = clock }
 
 -- of a sound state: the store is lent, whatever now is, and the schema's URIs are hashed
-pub record Found (l : Lent) (saved : SavedRun) (x : Calls.Sound) (r : Entered) (rows leasts : List ℕ) : Type 0 where
+pub record Found (l : Lent) (saved : SavedRun) (rows leasts : List ℕ) (x : Calls.Sound) (r : Entered) : Type 0 where
   pub loaded : r.loaded ≡ length x.checked.terms
   pub lent : (clock : ℕ) → StoreLent l.term_table rows leasts (context_of r saved clock) x.checked.schema x.state.store.terms x.state.store.quads
   pub hashed : HashedEntries l.schema r.entries
-
--- a refusal finds nothing
-abbrev pub refused_entry : ℕ → Entered
-refused_entry n = record { refusal = n; loaded = 0; count = 0; entries = replicate entry_limit 0 }
-
--- the number of the first test broken, or 0 and what was found
-pub record Finds (l : Lent) (saved : SavedRun) (tests : Result Calls.Sound) (r : Entered) (rows leasts : List ℕ) : Type 0 where
-  pub number : r.refusal ≡ number_of tests
-  pub found : (x : Calls.Sound) → tests ≡ passed x → Found l saved x r rows leasts

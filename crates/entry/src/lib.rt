@@ -5,48 +5,35 @@ ghost use Rattle.std.specs.Prelude.{◌≡◌, List, ℕ, length};
 ghost use Rattle.definitions.specs.Limits.{term_limit, quad_limit, term_table_width, quad_table_width};
 ghost use Rattle.definitions.specs.Saved.{terms_in};
 ghost use Rattle.definitions.specs.Result.{given};
+ghost use Rattle.definitions.specs.declared.Refusal.TheVariants.{Unsound};
 ghost use Rattle.definitions.specs.Calls.{sound_in, entry_tests};
 ghost use Rattle.fields.specs.Answers.{count_of};
 ghost use Rattle.table.specs.Table.{HoldsTerms};
 ghost use Rattle.lengths.specs.Lent.{lent_of};
-ghost use Rattle.entry.specs.Entry.{refused_entry, Finds};
+ghost use Rattle.card.specs.Check.{Tells};
+ghost use Rattle.entry.specs.Entry.{Found};
 
 use alphabet::is_alphabet;
 use card::leasts::least_codes;
 use card::refusals::check_card;
 use control::control_sound;
-use definitions::{
-    BAD_RANKS, ENTRY_LIMIT, SLOT_WIDTH, SavedRun, TERM_TABLE_WIDTH, UNSOUND, WRONG_LENGTH,
-};
-use fields::Counted;
+use definitions::{ENTRY_LIMIT, Refusal, SLOT_WIDTH, SavedRun, TERM_TABLE_WIDTH};
 use fields::numbers::same_bytes;
 use lengths::tables_fit;
 use soundness::tables::store_sound;
 use soundness::terms::terms_sound;
 use table::slots::used_terms;
 
-// A refusal's number and zeros; or 0, how many terms loading numbers, how many are in use, and the hashes of the schema's URIs.
+// How many terms loading numbers, how many are in use, and the hashes of the schema's URIs.
 #[derive(Clone, Copy)]
 pub struct Entered {
-    pub refusal: u8,
     pub loaded: usize,
     pub count: usize,
     pub entries: [u16; ENTRY_LIMIT],
 }
 
-fn refused(refusal: u8) -> Entered
-    ensures { result ≡ refused_entry refusal }
-{
-    Entered {
-        refusal,
-        loaded: 0,
-        count: 0,
-        entries: [0; ENTRY_LIMIT],
-    }
-}
-
 // How many terms a table holds. Where it begins as that of loading, the slots of loading's terms are not read again.
-fn counted(loading: &[u8], loaded: usize, table: &[u8]) -> Counted
+fn counted(loading: &[u8], loaded: usize, table: &[u8]) -> Option<usize>
     requires holds_terms { HoldsTerms loading.now loaded }
     requires table_len { length table.now ≡ term_table_width }
     ensures { result ≡ count_of (terms_in table.now) }
@@ -69,48 +56,45 @@ pub fn sound(
     saved: SavedRun,
     keys: &mut [u64],
     leasts: &mut [u8],
-) -> Entered
+) -> Result<Entered, Refusal>
     requires table_len { length table.now ≡ term_table_width }
     requires store_len { length store.now ≡ quad_table_width }
     requires keys_len { length keys.old ≡ quad_limit }
     requires leasts_len { length leasts.old ≡ term_limit }
-    ensures { (ranks : List ℕ) → Finds (lent_of ranks terms.now schema.now script.now table.now store.now) saved
-        (given 10 (sound_in (lent_of ranks terms.now schema.now script.now table.now store.now) saved)) result keys.new
-        leasts.new }
+    ensures { (ranks : List ℕ) → Tells (Found (lent_of ranks terms.now schema.now script.now table.now store.now) saved keys.new leasts.new)
+        (given Unsound (sound_in (lent_of ranks terms.now schema.now script.now table.now store.now) saved)) result }
 {
     let mut loading = [0u8; TERM_TABLE_WIDTH];
-    let card = check_card(terms, schema, script, &mut loading, leasts);
-    if card.refusal != 0 {
-        return refused(UNSOUND);
-    }
+    let Ok(card) = check_card(terms, schema, script, &mut loading, leasts) else {
+        return Err(Refusal::Unsound);
+    };
     let loaded = card.count;
-    let Counted::Count(count) = counted(&loading, loaded, table) else {
-        return refused(UNSOUND);
+    let Some(count) = counted(&loading, loaded, table) else {
+        return Err(Refusal::Unsound);
     };
     let types = card.types;
     let control = saved.control;
     let reported = control.types;
     if !check::same(&reported, &types) {
-        return refused(UNSOUND);
+        return Err(Refusal::Unsound);
     }
     if !terms_sound(&loading, loaded, table, count) {
-        return refused(UNSOUND);
+        return Err(Refusal::Unsound);
     }
     let entries = card.entries;
     least_codes(table, loaded, count, schema, &entries, leasts);
     let kept = saved.store;
     if !store_sound(store, kept, leasts, count, keys) {
-        return refused(UNSOUND);
+        return Err(Refusal::Unsound);
     }
     if !control_sound(script, loaded, control, count, leasts) {
-        return refused(UNSOUND);
+        return Err(Refusal::Unsound);
     }
-    Entered {
-        refusal: 0,
+    Ok(Entered {
         loaded,
         count,
         entries,
-    }
+    })
 }
 
 // Refusals 1, 21 and 10. Where none comes, `keys` has those of the quads, and `leasts` the codes of the terms' least types.
@@ -125,18 +109,17 @@ pub fn enter(
     saved: SavedRun,
     keys: &mut [u64],
     leasts: &mut [u8],
-) -> Entered
+) -> Result<Entered, Refusal>
     requires keys_len { length keys.old ≡ quad_limit }
     requires leasts_len { length leasts.old ≡ term_limit }
-    ensures { Finds (lent_of ranks.now terms.now schema.now script.now table.now store.now) saved
-        (entry_tests (lent_of ranks.now terms.now schema.now script.now table.now store.now) saved) result keys.new
-        leasts.new }
+    ensures { Tells (Found (lent_of ranks.now terms.now schema.now script.now table.now store.now) saved keys.new leasts.new)
+        (entry_tests (lent_of ranks.now terms.now schema.now script.now table.now store.now) saved) result }
 {
     if !tables_fit(ranks, table, store) {
-        return refused(WRONG_LENGTH);
+        return Err(Refusal::WrongLength);
     }
     if !is_alphabet(ranks) {
-        return refused(BAD_RANKS);
+        return Err(Refusal::BadRanks);
     }
     sound(terms, schema, script, table, store, saved, keys, leasts)
 }

@@ -5,7 +5,7 @@ ghost use Rattle.std.specs.Prelude.{◌≡◌, List, ℕ};
 ghost use Rattle.definitions.specs.Outcome.{ok};
 ghost use Rattle.definitions.specs.Exports.{load_export, run_export, page_export, total_export, number_export, suggest_export, schema_export, publish_export};
 
-use definitions::UNSOUND;
+use definitions::Refusal;
 use layout::reading;
 
 // Load: 1, 21, 2 to 9.
@@ -37,7 +37,7 @@ pub fn willetcoffer_load(
         } }
 {
     if !lengths::load_fits(saved.len()) {
-        return 1;
+        return Refusal::WrongLength.number() as u32;
     }
     let loaded = loading::load(ranks, terms, schema, script, term_table, quad_table);
     let answer = loaded.answer;
@@ -78,11 +78,11 @@ pub fn willetcoffer_run(
         saved.len(),
         report.len(),
     ) {
-        return 1;
+        return Refusal::WrongLength.number() as u32;
     }
     let read = reading::read_saved(saved);
     if !read.ok {
-        return alphabet::unread_number(ranks) as u32;
+        return alphabet::unread_refusal(ranks).number() as u32;
     }
     let before = read.saved;
     let ran = running::run(
@@ -132,11 +132,11 @@ pub fn willetcoffer_page(
         saved.len(),
         report.len(),
     ) {
-        return 1;
+        return Refusal::WrongLength.number() as u32;
     }
     let read = reading::read_saved(saved);
     if !read.ok {
-        return alphabet::unread_number(ranks) as u32;
+        return alphabet::unread_refusal(ranks).number() as u32;
     }
     let before = read.saved;
     let paged = paging::page(
@@ -213,11 +213,11 @@ pub fn willetcoffer_publish(
         saved.len(),
         report.len(),
     ) {
-        return 1;
+        return Refusal::WrongLength.number() as u32;
     }
     let read = reading::read_saved(saved);
     if !read.ok {
-        return UNSOUND as u32;
+        return Refusal::Unsound.number() as u32;
     }
     let before = read.saved;
     let answer = publishing::publish(

@@ -33,10 +33,8 @@ impl Families {
         ensures { result.parents ≡ up_from 0 node_limit }
     {
         let mut parents = [0; NODES];
-        let mut node = 0;
-        while node < NODES {
+        for node in 0..NODES {
             parents[node] = narrow(node);
-            node += 1;
         }
         Families { parents }
     }

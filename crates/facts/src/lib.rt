@@ -26,10 +26,3 @@ pub const EDGES: usize = VARIABLE_LIMIT * VARIABLE_LIMIT;
 
 // The byte of a variable that no pair binds, among the written types.
 pub const UNBOUND: u8 = 255;
-
-// What the typer answers: a refusal's number and zeros, or 0 and the reported type of each variable, 0 where no pair binds it.
-#[derive(Clone, Copy)]
-pub struct Answer {
-    pub refusal: u8,
-    pub types: [u8; VARIABLE_LIMIT],
-}

@@ -2,55 +2,53 @@
 use Prim.Native.Nat.{ℕ, zero, suc, ◌+◌, ◌-◌, ◌*◌, ◌^◌, ◌<◌, ◌≤◌}
 use mathlib.Core.Bool.{Bool, true, false, ◌&&◌, and-true}
 use mathlib.Core.List.{List}
-use mathlib.Core.Path.{◌≡◌, refl, sym, ap, ap₂, ◌∙◌, subst}
+use mathlib.Core.Path.{◌≡◌, refl, sym, ap, ap₂, ◌∙◌}
 use native.Mathlib.Numerals.{add-one}
 use native.Mathlib.Omega.{arith}
 use lib.Dec.{eqb, ltb, leb, leb-suc-suc}
-use lib.IntN.{ℤ, pos, negsuc, ◌-ℤ◌}
+use lib.IntN.{pos, negsuc}
 use lib.ListN.{length, drop, drop_of_length-le}
-use lib.Seq.{drop-cons}
-use borrow.Author.Tests.{lt-ltb, le-ltb, ne_eqb}
+use lib.Seq.{drop-cons, take_all}
+use borrow.Author.Tests.{lt-ltb, le-ltb, eq-eqb, ne_eqb}
 use mir.Syntax.{w64}
-use mir.Val.{SFits, to_z, of_z}
-use mir.Facts.{to_z_pos, to_z-of_z}
+use mir.Val.{to_z}
+use mir.Facts.{to_z_pos, to_z-neg}
+use mathlib.Core.Logic.{⊎_elim}
+use Rattle.laws.proofs.Ranges.{split}
 use Rattle.definitions.specs.Limits.{number_width}
 use Rattle.definitions.specs.Bytes.{byte, part, little, signed, all_zero}
 use Rattle.definitions.specs.Terms.{within_limits}
+use Rattle.std.specs.Prelude.{Some, None}
+use Rattle.std.specs.declared.option.Option as Answer
+use Rattle.fields.specs.Answers.{code_if}
 
 -- ── eight bytes ─────────────────────────────────────────────────────────────────────────────
 
--- one more byte of a part, counted from an offset
-part-more : (s : List ℕ) (at k n : ℕ) → at + k < length s → little (part s (at + k) (suc n)) ≡ byte s (at + k) + 256 * little (part s (at + suc k) n)
+-- one more byte of a part
+part-more : (s : List ℕ) (at n : ℕ) → at < length s → little (part s at (suc n)) ≡ byte s at + 256 * little (part s (suc at) n)
 unfolding little
-part-more s at k n h =
-    let e : at + suc k ≡ suc (at + k) = omega arith in
-    rw (drop-cons s (at + k) 0 h, e)
+part-more s at n h = rw (drop-cons s at 0 h)
 
-pub eight : (s : List ℕ) (at : ℕ) → at + number_width ≤ length s
-    → byte s at + 256 * byte s (at + 1) + 65536 * byte s (at + 2) + 16777216 * byte s (at + 3) + 4294967296 * byte s (at + 4)
-    + 1099511627776 * byte s (at + 5) + 281474976710656 * byte s (at + 6) + 72057594037927936 * byte s (at + 7) ≡ little (part s at number_width)
-eight s at h =
-    let z : at + 0 ≡ at = omega arith in
-    let e₀ : little (part s at number_width) ≡ byte s at + 256 * little (part s (at + 1) 7) = rw z at (part-more s at 0 7 (omega arith)) in
-    let last : little (part s (at + number_width) 0) ≡ 0 = unfold little in refl in
+pub eight : (r : List ℕ) → length r ≡ number_width
+    → byte r 0 + byte r 1 * 256 + byte r 2 * 65536 + byte r 3 * 16777216 + byte r 4 * 4294967296
+    + byte r 5 * 1099511627776 + byte r 6 * 281474976710656 + byte r 7 * 72057594037927936 ≡ little r
+eight r l =
+    let whole : part r 0 8 ≡ r = take_all 8 r (omega arith) in
+    let last : little (part r 8 0) ≡ 0 = unfold little in refl in
     omega (
       arith,
-      e₀,
-      part-more s at 1 6 (omega arith),
-      part-more s at 2 5 (omega arith),
-      part-more s at 3 4 (omega arith),
-      part-more s at 4 3 (omega arith),
-      part-more s at 5 2 (omega arith),
-      part-more s at 6 1 (omega arith),
-      part-more s at 7 0 (omega arith),
+      ap little whole,
+      part-more r 0 7 (omega arith),
+      part-more r 1 6 (omega arith),
+      part-more r 2 5 (omega arith),
+      part-more r 3 4 (omega arith),
+      part-more r 4 3 (omega arith),
+      part-more r 5 2 (omega arith),
+      part-more r 6 1 (omega arith),
+      part-more r 7 0 (omega arith),
     )
 
 -- ── two's complement ────────────────────────────────────────────────────────────────────────
-
--- −1 − k
-less_one : (k : ℕ) → negsuc 0 -ℤ pos k ≡ negsuc k
-less_one zero = refl
-less_one (suc k) = ap negsuc (omega arith)
 
 low_signed : (v : ℕ) → v < 2 ^ 63 → signed v ≡ pos v
 unfolding signed
@@ -61,22 +59,19 @@ unfolding signed
 high-signed v h = rw (le-ltb v (2 ^ 63) h)
 
 module _ (v : ℕ) where
-  pub low_value : v < 2 ^ 63 → to_z w64 v ≡ signed v
-  low_value h = to_z_pos w64 h ∙ sym (low_signed v h)
+  pub signed_is : v < 2 ^ 64 → to_z w64 v ≡ signed v
+  signed_is l = ⊎_elim high_value low_value (split (2 ^ 63) v)
+    where
+      low_value : v < 2 ^ 63 → to_z w64 v ≡ signed v
+      low_value h = to_z_pos w64 h ∙ sym (low_signed v h)
+
+      high_value : 2 ^ 63 ≤ v → to_z w64 v ≡ signed v
+      high_value h =
+          let k : 2 ^ 64 - suc v < 2 ^ 63 = omega arith in
+          let e : v ≡ 2 ^ 64 - suc (2 ^ 64 - suc v) = omega arith in
+          ap (to_z w64) e ∙ to_z-neg w64 (2 ^ 64 - suc v) k ∙ sym (high-signed v h)
 
   module _ (h : 2 ^ 63 ≤ v) (l : v < 2 ^ 64) where
-    high-difference : negsuc 0 -ℤ to_z w64 (2 ^ 64 - 1 - v) ≡ signed v
-    high-difference =
-        let k : 2 ^ 64 - 1 - v < 2 ^ 63 = omega arith in
-        let e : 2 ^ 64 - 1 - v ≡ 2 ^ 64 - suc v = omega arith in
-        ap (λ (z : ℤ). negsuc 0 -ℤ z) (to_z_pos w64 k) ∙ less_one (2 ^ 64 - 1 - v) ∙ ap negsuc e ∙ sym (high-signed v h)
-
-    pub high_fits : SFits w64 (negsuc 0 -ℤ to_z w64 (2 ^ 64 - 1 - v))
-    high_fits = subst (λ (z : ℤ). SFits w64 z) (sym (high-difference ∙ high-signed v h)) (record { sfits = omega arith })
-
-    pub high_value : to_z w64 (of_z w64 (negsuc 0 -ℤ to_z w64 (2 ^ 64 - 1 - v))) ≡ signed v
-    high_value = to_z-of_z high_fits ∙ high-difference
-
     -- the limits, tested on the unsigned number
     pub high-within : (low high : ℕ) → 0 < low → ltb (2 ^ 64 - 1 - v) low ≡ within_limits low high (signed v)
     unfolding within_limits
@@ -111,3 +106,30 @@ module _ (s : List ℕ) (i : ℕ) where
   pub zero-end : (z : Bool) → length s ≤ i → z && all_zero (drop i s) ≡ all_zero s → z ≡ all_zero s
   zero-end false h far = far
   zero-end true h far = sym (rw (drop_of_length-le s {i = i} h)) ∙ far
+
+-- ── a code, none for 0 ──────────────────────────────────────────────────────────────────────
+
+module _ (k : ℕ) where
+  pub code-some : 0 < k → Some k ≡ code_if k
+  unfolding code_if
+  code-some h = rw (ne_eqb k 0 (λ e. omega arith))
+
+  pub code-none : k ≡ 0 → None ≡ code_if k
+  unfolding code_if
+  code-none e = rw (eq-eqb k 0 e)
+
+  module _ {r : Answer.Option ℕ} (e : r ≡ code_if k) where
+    pub code-is : {c : ℕ} → r ≡ Some c → (c ≡ k) × (0 < k)
+    code-is {c} q = ⊎_elim low high (split k 0)
+      where
+        low : k ≤ 0 → (c ≡ k) × (0 < k)
+        low l = let x = code-none (omega arith) in absurd (let z : ◌≡◌ {A = ℕ} 0 1 = cc in omega arith)
+
+        high : 0 < k → (c ≡ k) × (0 < k)
+        high l = let x = code-some l in let z : c ≡ k = cc in (z, l)
+
+    pub code-not : r ≡ None → k ≡ 0
+    code-not q = ⊎_elim (λ l. omega arith) high (split k 0)
+      where
+        high : 0 < k → k ≡ 0
+        high l = let x = code-some l in absurd (let z : ◌≡◌ {A = ℕ} 0 1 = cc in omega arith)

@@ -1,19 +1,20 @@
 -- Equal bytes are equal terms and equal properties.
+use Rattle.std.specs.Prelude.{Some}
 use Prim.Native.Nat.{ℕ, suc, ◌+◌, ◌-◌, ◌<◌, ◌≤◌}
 use mathlib.Core.Bool.{Bool, true, false, ◌&&◌}
-use mathlib.Core.List.{List, ◌∷◌}
+use mathlib.Core.List.{List, [], ◌∷◌}
 use mathlib.Core.Option.{some}
 use mathlib.Core.Path.{◌≡◌, refl, sym, ap, ap₂, subst, ◌∙◌}
-use mathlib.Core.Logic.{⊎_elim}
 use native.Mathlib.Numerals.{add-one}
 use native.Mathlib.Omega.{arith}
 use lib.Dec.{T, eqb}
-use lib.ListN.{length, get_or, drop, length-take, drop_of_length-le}
+use lib.Pointwise.{pointwise}
+use lib.ListN.{length, drop, length-take}
 use lib.Seq.{drop-cons}
 use Rattle.definitions.specs.Limits.{text_width, slot_width, entry_width}
 use Rattle.definitions.specs.Bytes.{byte, part, same_bytes, filled}
 use Rattle.definitions.specs.Terms.{Text, Term, Entry, datatype, term_kind, body_width, uri_text, of_term_kind, record_of, slot_of, read_term, read_entry, same_term, same_property}
-use Rattle.laws.proofs.Tests.{decide, is_true, is_false, true_is}
+use Rattle.laws.proofs.Tests.{is_true, true_is}
 use Rattle.laws.proofs.Options.{some_is}
 use Rattle.laws.proofs.Bytes.{AreBytes, part_bytes, part_length}
 use Rattle.laws.proofs.Equality.{same_bytes_lem, bytes-refl, same-term, term-refl}
@@ -21,7 +22,6 @@ use Rattle.laws.proofs.Valid.{term-valid, uri-inv}
 use Rattle.laws.proofs.Slots.{body-inv, kind-inv, slot-one, width_fits}
 use Rattle.laws.specs.Records.{TermAt, EntryAt}
 use Rattle.laws.proofs.RecordsAt.{term-inv, entry-inv}
-use Rattle.definitions.specs.declared.Read.TheVariants.{Next}
 use Rattle.laws.specs.ReadAnswers.{is_some, next_of}
 use Rattle.fields.specs.Answers.{width_of, same_in}
 use Rattle.laws.proofs.ReadAnswers.{is-some, next-got}
@@ -37,22 +37,12 @@ test-is false false f g = refl
 abbrev pub Compared : List ℕ → List ℕ → Bool → Type 0
 Compared a b r = (r ≡ true → a ≡ b) × (a ≡ b → r ≡ true)
 
--- two lists of one length side by side: those looked at are the same, and so is the rest
-module _ (a b : List ℕ) (e : length a ≡ length b) (i : ℕ) where
-  pub same_next : (s : Bool) → i < length a → s && same_bytes (drop i a) (drop i b) ≡ same_bytes a b
-      → (s && eqb (get_or a i 0) (get_or b i 0)) && same_bytes (drop (i + 1) a) (drop (i + 1) b) ≡ same_bytes a b
-  same_next false h far = far
-  same_next true h far =
-      let next : (l : List ℕ) → i < length l → get_or l i 0 ∷ drop (i + 1) l ≡ drop i l =
-      λ l k. sym (drop-cons l i 0 k ∙ ap (λ (n : ℕ). get_or l i 0 ∷ drop n l) (sym (add-one i))) in
-      ap₂ same_bytes (next a h) (next b (omega (arith, e))) ∙ far
-
-  pub same_end : (s : Bool) → length a ≤ i → s && same_bytes (drop i a) (drop i b) ≡ same_bytes a b → s ≡ same_bytes a b
-  same_end false h far = far
-  same_end true h far = let k : length b ≤ i = omega (arith, e) in sym (ap₂ same_bytes (drop_of_length-le a h) (drop_of_length-le b k)) ∙ far
-
-pub same-lengths : (a b : List ℕ) → (length a ≡ length b → ⊥) → false ≡ same_bytes a b
-same-lengths a b h = sym (⊎_elim (λ t. absurd (h (ap length (same_bytes_lem a b t)))) (is_false (same_bytes a b)) (decide (same_bytes a b)))
+-- as `==` of slices says it
+pub pointwise-same : (a b : List ℕ) → pointwise eqb a b ≡ same_bytes a b
+pointwise-same [] [] = refl
+pointwise-same [] (y ∷ b) = refl
+pointwise-same (x ∷ a) [] = refl
+pointwise-same (x ∷ a) (y ∷ b) = ap (λ t. eqb x y && t) (pointwise-same a b)
 
 -- as `check::same` says it
 pub compared : (a b : List ℕ) (r : Bool) → r ≡ same_bytes a b → Compared a b r
@@ -75,14 +65,14 @@ module _ (s : List ℕ) (at : ℕ) (g : is_some (read_term s at) ≡ true) where
     unfolding width_of
     width_is = e ∙ ap width_of holds.kind
 
-    pub term-ends : Next (at + 1 + w) ≡ next_of (read_term s at)
+    pub term-ends : Some (at + 1 + w) ≡ next_of (read_term s at)
     unfolding next_of
-    term-ends = rw found.1 (ap Next (omega (arith, holds.ends, width_is)))
+    term-ends = rw found.1 (ap Some (omega (arith, holds.ends, width_is)))
 
     pub term_fits : at + 1 + w ≤ length s
     term_fits = omega (arith, holds.ends, holds.fits, width_is)
 
-  pub term-next : {n : ℕ} → Next n ≡ next_of (read_term s at) → (at < n) × (n ≤ length s)
+  pub term-next : {n : ℕ} → Some n ≡ next_of (read_term s at) → (at < n) × (n ≤ length s)
   term-next {n} e =
       let r = next-got (read_term s at) (sym e) in
       let t = term-inv s at r.0 n r.1 in
@@ -112,7 +102,7 @@ module _ (s : List ℕ) (h : AreBytes s) (at : ℕ) (t : Term) (n : ℕ) (e : re
       let r = term-inv s at t n e in
       omega (arith, r.ends, width_fits r.datatype, length-take (n - (at + 1)) (drop (at + 1) s))
 
-pub same-terms : (s : List ℕ) → AreBytes s → (a b m n : ℕ) {r : Bool} → Next m ≡ next_of (read_term s a) → Next n ≡ next_of (read_term s b)
+pub same-terms : (s : List ℕ) → AreBytes s → (a b m n : ℕ) {r : Bool} → Some m ≡ next_of (read_term s a) → Some n ≡ next_of (read_term s b)
     → Compared (part s a (m - a)) (part s b (n - b)) r → r ≡ same_in same_term (read_term s a) (read_term s b)
 unfolding same_in slot_of
 same-terms s h a b m n {r} e f c =
@@ -138,9 +128,9 @@ module _ (s : List ℕ) (at : ℕ) (g : is_some (read_entry s at) ≡ true) wher
   pub entry-inside : at + entry_width ≤ length s
   entry-inside = omega (arith, entry-holds.ends, entry-holds.fits)
 
-  pub entry-ends : Next (at + entry_width) ≡ next_of (read_entry s at)
+  pub entry-ends : Some (at + entry_width) ≡ next_of (read_entry s at)
   unfolding next_of
-  entry-ends = rw entry.1 (ap Next (sym entry-holds.ends))
+  entry-ends = rw entry.1 (ap Some (sym entry-holds.ends))
 
 -- two URI fields
 pub same-uris : (a b : List ℕ) (u v : Text) {r : Bool} → uri_text a ≡ some u → uri_text b ≡ some v → Compared a b r → r ≡ same_bytes u v

@@ -1,14 +1,13 @@
 -- What the code answers of what the definitions give.
-use Rattle.std.specs.Prelude.{ℕ, ◌+◌, Bool, false, ◌||◌, List, eqb, leb, length}
+use Rattle.std.specs.Prelude.{ℕ, ◌+◌, Bool, false, cond, ◌||◌, List, eqb, leb, length}
 use Rattle.std.proofs.Math.Option.{Option, none, some}
 use Rattle.definitions.specs.Bytes.{Got, onward}
 use Rattle.definitions.specs.Lists.{some?, distinct}
 use Rattle.definitions.specs.Types.{Datatype, datatype_code, type_code}
 use Rattle.definitions.specs.Terms.{Text, Term, Schema, between, body_width, term_of_body, body_at, datatype_in, sort_of}
 use Rattle.laws.specs.Sorts.{least}
-use Rattle.fields.specs.declared.Counted.{Counted}
-use Rattle.fields.specs.declared.Counted.TheVariants as Counts
-use Rattle.definitions.specs.declared.Read.TheVariants.{Malformed}
+use Rattle.std.specs.declared.option.Option as Answer
+use Rattle.std.specs.Prelude.{Some, None}
 
 -- a byte from low to high, or one other
 unfoldable pub range_or : (low high other : ℕ) → ℕ → Bool
@@ -32,9 +31,9 @@ body_from o s at = onward o (λ d. body_at d s at)
 
 -- ── records one after the other, none where one is malformed ────────────────────────────────
 
-unfoldable pub count_of : {A : Type 0} → Option (List A) → Counted
-count_of none = Counts.Malformed
-count_of (some xs) = Counts.Count (length xs)
+unfoldable pub count_of : {A : Type 0} → Option (List A) → Answer.Option ℕ
+count_of none = None
+count_of (some xs) = Some (length xs)
 
 module _ {A : Type 0} (same : A → A → Bool) where
   -- two that were read are the same
@@ -60,6 +59,10 @@ module _ {A : Type 0} (same : A → A → Bool) where
 unfoldable pub code_of : Option Datatype → ℕ
 code_of none = 0
 code_of (some d) = datatype_code d
+
+-- a code, none for 0
+unfoldable pub code_if : ℕ → Answer.Option ℕ
+code_if k = cond (eqb k 0) None (Some k)
 
 unfoldable pub schema_code : Option Schema → Option Text → ℕ
 schema_code none u = 0

@@ -1,11 +1,4 @@
-// Bytes and the numbers in them; how many records there are.
+// Bytes and the numbers in them.
 #![tactic(auto)]
 
 pub mod numbers;
-
-// How many there are.
-#[derive(Clone, Copy)]
-pub enum Counted {
-    Count(usize),
-    Malformed,
-}

@@ -27,11 +27,8 @@ pub fn entry_count(subjects: Subjects) -> usize
     ensures upper_bound { result ≤ subjects.count }
 {
     let mut entries = 0;
-    let mut i = 0;
-    while i < subjects.count {
-        let code = subjects.codes[i];
-        entries += one_for(code);
-        i += 1;
+    for i in 0..subjects.count {
+        entries += one_for(subjects.codes[i]);
     }
     entries
 }
@@ -59,11 +56,9 @@ pub fn put_entries(page: &[u8], subjects: Subjects, schema: &mut [u8])
     ensures { (all : List Asking) → Noted page.now all subjects → schema.new ≡ written (entries_of all) schema.old }
 {
     let mut at = 0;
-    let mut i = 0;
-    while i < subjects.count {
+    for i in 0..subjects.count {
         let code = subjects.codes[i];
         let field = number_index(subjects.offsets[i]);
         at = put_entry(page, field, code, schema, at);
-        i += 1;
     }
 }

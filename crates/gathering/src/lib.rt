@@ -7,9 +7,7 @@ ghost use Rattle.std.specs.Prelude.{◌≡◌};
 ghost use Rattle.definitions.specs.Calls.{schema_call};
 
 use crate::entries::{entry_count, put_entries};
-use definitions::{
-    BAD_PAGE, ENTRY_LIMIT, PAGE_LIMIT, SCHEMA_WIDTH, SchemaAnswer, TOO_MANY_ENTRIES, WRONG_LENGTH,
-};
+use definitions::{ENTRY_LIMIT, PAGE_LIMIT, Refusal, SCHEMA_WIDTH, SchemaAnswer, SchemaCounts};
 use subjects::subjects_of;
 
 // A schema out of a page, into a lent buffer: 1, 13, 19.
@@ -18,21 +16,24 @@ pub fn gather(page: &[u8], schema: &mut [u8]) -> SchemaAnswer
     ensures { schema_call page.now schema.old ≡ record { answer = result; schema = schema.new } }
 {
     if schema.len() != SCHEMA_WIDTH {
-        return SchemaAnswer::Refused(WRONG_LENGTH);
+        return Err(Refusal::WrongLength);
     }
     if PAGE_LIMIT < page.len() {
-        return SchemaAnswer::Refused(BAD_PAGE);
+        return Err(Refusal::BadPage);
     }
     let noting = subjects_of(page);
     if !noting.good {
-        return SchemaAnswer::Refused(BAD_PAGE);
+        return Err(Refusal::BadPage);
     }
     let subjects = noting.subjects;
     let entries = entry_count(subjects);
     if ENTRY_LIMIT < entries {
-        return SchemaAnswer::Refused(TOO_MANY_ENTRIES);
+        return Err(Refusal::TooManyEntries);
     }
     put_entries(page, subjects, schema);
     let left_out = subjects.count - entries;
-    SchemaAnswer::Gathered(entries as u32, left_out as u32)
+    Ok(SchemaCounts {
+        entries: entries as u32,
+        left_out: left_out as u32,
+    })
 }

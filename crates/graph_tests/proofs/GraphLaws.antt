@@ -1,17 +1,16 @@
 -- Graphs by the codes of their least types, and graphs in a list of terms in use.
-use Prim.Native.Nat.{ℕ, ◌≤◌, ◌<◌}
-use mathlib.Core.Path.{◌≡◌, refl, sym, ap, ◌∙◌}
+use Prim.Native.Nat.{ℕ, ◌≤◌}
+use mathlib.Core.Path.{◌≡◌, refl, sym, ◌∙◌}
 use mathlib.Core.List.{List}
-use mathlib.Core.Bool.{Bool, true, false, ◌&&◌}
+use mathlib.Core.Bool.{Bool, true, false}
 use mathlib.Core.Option.{Option, none, some}
-use lib.Dec.{ltb}
 use lib.ListN.{length, get_elem?}
 use Rattle.definitions.specs.Types.{Datatype, plain}
 use Rattle.definitions.specs.Terms.{Term, Schema, datatype_in, Sort, has, sort_of, has_type}
 use Rattle.definitions.specs.Evaluate.{is_uri}
 use Rattle.definitions.specs.Sound.{term_has}
 use Rattle.definitions.specs.Calls.{is_graph}
-use borrow.Author.Tests.{le-ltb, lt-ltb}
+use borrow.Author.Tests.{le-ltb}
 use Rattle.laws.specs.Sorts.{LeastOf}
 use Rattle.sound_quads.specs.TermNumbers.{uri_number}
 use Rattle.sound_quads.proofs.TermTests.{uri-number}
@@ -39,11 +38,3 @@ module _ (leasts : List ℕ) (count g : ℕ) where
   pub graph-past : count ≤ g → false ≡ uri_number leasts count g
   unfolding uri_number
   graph-past h = rw (le-ltb g count h) refl
-
--- ── within the terms in use ─────────────────────────────────────────────────────────────────
-
-pub past-count : (g count : ℕ) (b : Bool) → count ≤ g → false ≡ (ltb g count && b)
-past-count g count b h = sym (ap (λ t. t && b) (le-ltb g count h))
-
-pub within_count : (g count : ℕ) (b : Bool) {r : Bool} → g < count → r ≡ b → r ≡ (ltb g count && b)
-within_count g count b h e = e ∙ sym (ap (λ t. t && b) (lt-ltb g count h))

@@ -19,10 +19,7 @@ pub fn is_graph(leasts: &[u8], count: usize, graph: u64) -> bool
     requires count_le_term_limit { count ≤ term_limit }
     ensures { (S : Schema) (terms : List Term) → LeastOf S terms leasts.now → count ≡ length terms → result ≡ is_graph (get_elem? terms graph) }
 {
-    if (count as u64) <= graph {
-        return false;
-    }
-    is_uri(leasts, count, graph as u16)
+    graph < count as u64 && is_uri(leasts, count, graph as u16)
 }
 
 // Whether a number is that of a term in use and in the fetched list (22).
@@ -32,8 +29,5 @@ pub fn is_listed(store: SavedStore, count: usize, graph: u64) -> bool
     requires count_le_term_limit { count ≤ term_limit }
     ensures { result ≡ (ltb graph count && is_in graph (take store.graphs store.fetched)) }
 {
-    if (count as u64) <= graph {
-        return false;
-    }
-    is_fetched(store, graph as u16)
+    graph < count as u64 && is_fetched(store, graph as u16)
 }

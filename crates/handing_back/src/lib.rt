@@ -3,19 +3,15 @@
 
 ghost use Rattle.std.specs.Prelude.{◌≡◌, length};
 ghost use Rattle.definitions.specs.Limits.{saved_width, run_report_width, page_report_width, total_report_width, number_record_width, suggest_report_width, schema_report_width, publish_report_width};
-ghost use Rattle.definitions.specs.Numbers.{load_number, run_number, page_number, total_number, result_number, term_read, suggest_number, schema_number, publish_number};
-ghost use Rattle.definitions.specs.Exports.{saved_after, run_report, page_report, total_report, record_after, suggest_report, schema_report, publish_report};
+ghost use Rattle.definitions.specs.Numbers.{answer_number, result_number, term_read};
+ghost use Rattle.definitions.specs.Exports.{saved_after, run_report, count_report, record_after, suggest_report, schema_report};
 
 use definitions::{
     LoadAnswer, NumberAnswer, PageAnswer, PublishAnswer, RunAnswer, SavedRun, SchemaAnswer,
     SuggestAnswer, TotalAnswer,
 };
 use number_record::write_term;
-use reports::{
-    hand_back, load_number, page_number, publish_number, refusal_number, run_number, schema_number,
-    suggest_number, total_number, write_page_report, write_publish_report, write_schema_report,
-    write_total_report,
-};
+use reports::{answer_number, hand_back, write_count_report, write_schema_report};
 use run_report::write_run_report;
 use suggest_report::write_suggest_report;
 
@@ -23,10 +19,10 @@ use suggest_report::write_suggest_report;
 // Ruled out: a refused load that writes the saved run of zeros; one that returns 0 for a refused card.
 pub fn after_load(answer: LoadAnswer, first: SavedRun, saved: &mut [u8]) -> u32
     requires { length saved.old ≡ saved_width }
-    ensures value { result ≡ load_number answer }
+    ensures value { result ≡ answer_number answer }
     ensures saved_after { saved.new ≡ saved_after result first saved.old }
 {
-    let number = load_number(answer);
+    let number = answer_number(answer);
     hand_back(number, first, saved);
     number
 }
@@ -36,11 +32,11 @@ pub fn after_load(answer: LoadAnswer, first: SavedRun, saved: &mut [u8]) -> u32
 pub fn after_run(answer: RunAnswer, after: SavedRun, saved: &mut [u8], report: &mut [u8]) -> u32
     requires saved_len { length saved.old ≡ saved_width }
     requires report_len { length report.old ≡ run_report_width }
-    ensures value { result ≡ run_number answer }
+    ensures value { result ≡ answer_number answer }
     ensures saved_after { saved.new ≡ saved_after result after saved.old }
     ensures report_after { report.new ≡ run_report report.old answer }
 {
-    let number = run_number(answer);
+    let number = answer_number(answer);
     hand_back(number, after, saved);
     write_run_report(answer, report);
     number
@@ -51,25 +47,25 @@ pub fn after_run(answer: RunAnswer, after: SavedRun, saved: &mut [u8], report: &
 pub fn after_page(answer: PageAnswer, kept: SavedRun, saved: &mut [u8], report: &mut [u8]) -> u32
     requires saved_len { length saved.old ≡ saved_width }
     requires report_len { length report.old ≡ page_report_width }
-    ensures value { result ≡ page_number answer }
+    ensures value { result ≡ answer_number answer }
     ensures saved_after { saved.new ≡ saved_after result kept saved.old }
-    ensures report_after { report.new ≡ page_report report.old answer }
+    ensures report_after { report.new ≡ count_report report.old answer }
 {
-    let number = page_number(answer);
+    let number = answer_number(answer);
     hand_back(number, kept, saved);
-    write_page_report(answer, report);
+    write_count_report(answer, report);
     number
 }
 
 // After a total: its number and the report.
 // Ruled out: a total that returns 0 for a refused card; one that reports a refused card.
-pub fn after_total(answer: TotalAnswer, report: &mut [u8]) -> u32
+pub fn after_total(total: TotalAnswer, report: &mut [u8]) -> u32
     requires { length report.old ≡ total_report_width }
-    ensures value { result ≡ total_number answer }
-    ensures report_after { report.new ≡ total_report report.old answer }
+    ensures value { result ≡ answer_number total }
+    ensures report_after { report.new ≡ count_report report.old total }
 {
-    write_total_report(answer, report);
-    total_number(answer)
+    write_count_report(total, report);
+    answer_number(total)
 }
 
 // After a number: the refusal and the record.
@@ -80,38 +76,38 @@ pub fn after_number(answer: NumberAnswer, record: &mut [u8]) -> u32
     ensures record_after { «record».new ≡ record_after «record».old (term_read answer) }
 {
     write_term(answer, record);
-    refusal_number(answer)
+    answer_number(answer)
 }
 
 // After a suggestion: its number and the report.
 // Ruled out: a suggestion that returns 0 for a refused card; one that reports a refused card.
 pub fn after_suggest(answer: SuggestAnswer, report: &mut [u8]) -> u32
     requires { length report.old ≡ suggest_report_width }
-    ensures value { result ≡ suggest_number answer }
+    ensures value { result ≡ answer_number answer }
     ensures report_after { report.new ≡ suggest_report report.old answer }
 {
     write_suggest_report(answer, report);
-    suggest_number(answer)
+    answer_number(answer)
 }
 
 // After a schema out of a page: its number and the report.
 // Ruled out: a schema call that reports a refused page; one that returns 0 for such a page.
 pub fn after_schema(answer: SchemaAnswer, report: &mut [u8]) -> u32
     requires { length report.old ≡ schema_report_width }
-    ensures value { result ≡ schema_number answer }
+    ensures value { result ≡ answer_number answer }
     ensures report_after { report.new ≡ schema_report report.old answer }
 {
     write_schema_report(answer, report);
-    schema_number(answer)
+    answer_number(answer)
 }
 
 // After a publish: its number and the report.
 // Ruled out: a refused publish that returns 0; one that reports the length of a page that it does not write.
-pub fn after_publish(answer: PublishAnswer, report: &mut [u8]) -> u32
+pub fn after_publish(published: PublishAnswer, report: &mut [u8]) -> u32
     requires { length report.old ≡ publish_report_width }
-    ensures value { result ≡ publish_number answer }
-    ensures report_after { report.new ≡ publish_report report.old answer }
+    ensures value { result ≡ answer_number published }
+    ensures report_after { report.new ≡ count_report report.old published }
 {
-    write_publish_report(answer, report);
-    publish_number(answer)
+    write_count_report(published, report);
+    answer_number(published)
 }

@@ -1,11 +1,12 @@
 -- What holds of keys, said of quads: their order, their test, the quads of a table.
-use Prim.Native.Nat.{ℕ, zero, suc, ◌+◌, ◌<◌}
+use Prim.Native.Nat.{ℕ, zero, suc, ◌+◌, ◌≤◌, ◌<◌}
 use native.Mathlib.Omega.{arith}
 use mathlib.Core.Path.{◌≡◌, refl, sym, ◌∙◌, ap}
 use mathlib.Core.List.{List, [], ◌∷◌}
 use mathlib.Core.Bool.{Bool, true, false, ◌&&◌, true≢false}
 use lib.Dec.{eqb, ltb}
-use lib.ListN.{get_or}
+use lib.ListN.{length, get_or, take}
+use Rattle.std.proofs.lemmas.List.{length-take-le, get_or-take}
 use borrow.Author.Tests.{eq-eqb, ne_eqb}
 use Rattle.definitions.specs.Evaluate.{Quad, same_quad}
 use Rattle.definitions.specs.Machine.{in_order}
@@ -61,3 +62,16 @@ module _ (f : List ℕ) where
       let a : get_or f i 0 ≡ key_of q = cc in
       let b : keys_from n f (i + 1) ≡ keys_of qs = cc in
       λ t. (ap quad_of a ∙ parts q s.0) t ∷ rows_are n (i + 1) qs s.1 b t
+
+-- ── the first n as a list of their own ──────────────────────────────────────────────────────
+
+rows-same : (f g : List ℕ) (m i : ℕ) → ((j : ℕ) → i ≤ j → j < i + m → get_or g j 0 ≡ get_or f j 0) → rows_from m g i ≡ rows_from m f i
+unfolding rows_from
+rows-same f g zero i h = refl
+rows-same f g (suc m) i h =
+    let a : get_or g i 0 ≡ get_or f i 0 = h i (omega arith) (omega arith) in
+    let b : rows_from m g (i + 1) ≡ rows_from m f (i + 1) = rows-same f g m (i + 1) (λ j k l. h j (omega arith) (omega arith)) in
+    rw (a, b) refl
+
+pub rows-front : (f : List ℕ) (n : ℕ) → n ≤ length f → rows_from (length (take n f)) (take n f) 0 ≡ rows_from n f 0
+rows-front f n h = rw (length-take-le n f h) (rows-same f (take n f) n 0 (λ j a b. get_or-take n f j 0 (omega arith)))

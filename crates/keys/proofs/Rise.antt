@@ -1,13 +1,17 @@
 -- Rising keys: sorted and distinct; how many are below a number.
-use Prim.Native.Nat.{ℕ, zero, suc, ◌+◌, ◌-◌, ◌/◌, ◌≤◌, ◌<◌}
+use Prim.Native.Nat.{ℕ, zero, suc, ◌+◌, ◌-◌, ◌≤◌, ◌<◌}
 use native.Mathlib.Omega.{arith}
 use mathlib.Core.Path.{◌≡◌, refl, sym, ◌∙◌, ap}
 use mathlib.Core.List.{List, [], ◌∷◌, ◌++◌}
-use mathlib.Core.Bool.{Bool, true, false, cond, ◌&&◌}
+use mathlib.Core.Bool.{Bool, true, false, ◌&&◌}
 use lib.Dec.{ltb}
-use lib.ListN.{length, get_or, set}
+use lib.ListN.{length, get_or, set, take, drop}
 use lib.Seq.{get_or-set_same, get_or-set_other}
 use borrow.Author.Tests.{lt-ltb, le-ltb, ltb-true, ltb-false}
+use Rattle.std.proofs.Common.{drop-cons}
+use Rattle.std.proofs.lemmas.List.{take_all, length-take-le, get_or-take, get_or_default}
+use Rattle.std.specs.List.{IsAllAdjacentAnswer}
+use Rattle.std.specs.List.Sorted.{IsPartitionPoint, IsPartitionedBy}
 use Rattle.keys.specs.Keys.{keys_from, rising, count_below, Splits}
 
 -- ── a stretch of keys ───────────────────────────────────────────────────────────────────────
@@ -48,37 +52,6 @@ snoc g k x h =
   where
     same : keys_from k (set g k x) 0 ≡ keys_from k g 0
     same = keys-same g (set g k x) k 0 0 (λ q l. let z : 0 + q ≡ q = omega arith in rw z (get_or-set_other g k q x 0 (λ e. omega arith)))
-
--- ── the test ────────────────────────────────────────────────────────────────────────────────
-
--- `whole` is the test of all keys; those before i are passed
-module _ (f : List ℕ) (n : ℕ) where
-  pub rise-start : (n ≡ 0 → ⊥) → rising (keys_from n f 0) ≡ rising (get_or f 0 0 ∷ keys_from (n - 1) f 1)
-  unfolding keys_from
-  rise-start h = let e : n ≡ suc (n - 1) = omega arith in ap (λ m. rising (keys_from m f 0)) e
-
-  pub rise-none : n ≡ 0 → true ≡ rising (keys_from n f 0)
-  unfolding rising keys_from
-  rise-none e = rw e refl
-
-  module _ (whole : Bool) (last i : ℕ) (so_far : whole ≡ rising (last ∷ keys_from (n - i) f i)) where
-    pub rise-turn : i < n → last < get_or f i 0 → whole ≡ rising (get_or f i 0 ∷ keys_from (n - (i + 1)) f (i + 1))
-    unfolding rising keys_from
-    rise-turn h l = let e : n - i ≡ suc (n - (i + 1)) = omega arith in so_far ∙ rw (e, lt-ltb last (get_or f i 0) l) refl
-
-    pub rise-fails : i < n → get_or f i 0 ≤ last → false ≡ whole
-    unfolding rising keys_from
-    rise-fails h l = let e : n - i ≡ suc (n - (i + 1)) = omega arith in sym (so_far ∙ rw (e, le-ltb last (get_or f i 0) l) refl)
-
-    pub rise-ends : n ≤ i → true ≡ whole
-    unfolding rising keys_from
-    rise-ends h = let e : n - i ≡ 0 = omega arith in sym (so_far ∙ rw e refl)
-
--- halving: before low each key is below x, from size further on none is
-pub record Halving (f : List ℕ) (n x low size : ℕ) : Type 0 where
-  pub within : low + size ≤ n
-  pub below : (j : ℕ) → j < low → get_or f j 0 < x
-  pub above : (j : ℕ) → low + size ≤ j → j < n → x ≤ get_or f j 0
 
 -- ── sorted and distinct ─────────────────────────────────────────────────────────────────────
 
@@ -127,24 +100,6 @@ module _ (f : List ℕ) where
         go true e = omega (arith, later i j (ltb-true i j e) l)
         go false e = let z : i ≡ j = omega (arith, ltb-false i j e) in rw z (omega arith)
 
-    -- ── halving ───────────────────────────────────────────────────────────────────────────────
-
-    pub halved : (x low size half mid : ℕ) → Halving f n x low size → 0 < size → half ≡ size / 2 → mid ≡ low + (size - half)
-        → (next : ℕ) → next ≡ cond (ltb (get_or f (mid - 1) 0) x) mid low → Halving f n x next half
-    halved x low size half mid h some eh em next e = go (ltb (get_or f (mid - 1) 0) x) refl e
-      where
-        go : (b : Bool) → ltb (get_or f (mid - 1) 0) x ≡ b → next ≡ cond b mid low → Halving f n x next half
-        go true t d = record {
-          within = omega (arith, h.within);
-          below = λ j l. omega (arith, ltb-true (get_or f (mid - 1) 0) x t, from_on j (mid - 1) (omega arith) (omega (arith, h.within)));
-          above = λ j l k. h.above j (omega arith) k;
-        }
-        go false t d = record {
-          within = omega (arith, h.within);
-          below = λ j l. h.below j (omega arith);
-          above = λ j l k. omega (arith, ltb-false (get_or f (mid - 1) 0) x t, from_on (mid - 1) j (omega arith) k);
-        }
-
   module _ (x : ℕ) where
     count : (m i r : ℕ) → r ≤ m → ((j : ℕ) → i ≤ j → j < i + r → get_or f j 0 < x) → ((j : ℕ) → i + r ≤ j → j < i + m → x ≤ get_or f j 0)
         → r ≡ count_below x (keys_from m f i)
@@ -159,12 +114,6 @@ module _ (f : List ℕ) where
 
     counted : (n r : ℕ) → Splits f n x r → r ≡ count_below x (keys_from n f 0)
     counted n r s = count n 0 r s.within (λ j k l. s.below j (omega arith)) (λ j k l. s.above j (omega arith) (omega arith))
-
-    -- where none are left
-    pub met : (n low size : ℕ) → Halving f n x low size → size ≤ 0 → (low ≡ count_below x (keys_from n f 0)) × Splits f n x low
-    met n low size h e =
-        let s : Splits f n x low = record { within = omega (arith, h.within); below = h.below; above = λ j l m. h.above j (omega arith) m } in
-        (counted n low s, s)
 
     -- all are below
     pub all-below : (n : ℕ) → ((j : ℕ) → get_or f j 0 < x) → (n ≡ count_below x (keys_from n f 0)) × Splits f n x n
@@ -181,3 +130,68 @@ ordered f n low top from to a b h = go (ltb to from) refl
         let l = ltb-true to from e in
         absurd (omega (arith, a.within, a.below to l, b.above to (omega arith) (omega (arith, a.within))))
     go false e = ltb-false to from e
+
+-- ── the test over neighbours ────────────────────────────────────────────────────────────────
+
+rises : (f : List ℕ) → ((k d : ℕ) → k + 1 < length f → true ≡ ltb (get_or f k d) (get_or f (k + 1) d)) → true ≡ rising f
+unfolding rising
+rises [] h = refl
+rises (x ∷ []) h = refl
+rises (x ∷ (y ∷ ys)) h =
+    rw (sym (h 0 0 (omega arith))) (rises (y ∷ ys) (λ k d l. let e : suc k + 1 ≡ suc (k + 1) = omega arith in rw e at (h (suc k) d (omega arith))))
+
+falls : (k : ℕ) (f : List ℕ) → k + 1 < length f → ((d : ℕ) → false ≡ ltb (get_or f k d) (get_or f (k + 1) d)) → false ≡ rising f
+unfolding rising
+falls k [] l h = absurd (omega arith)
+falls k (x ∷ []) l h = absurd (omega arith)
+falls zero (x ∷ (y ∷ ys)) l h = rw (sym (h 0)) refl
+falls (suc k) (x ∷ (y ∷ ys)) l h = rw (sym (falls k (y ∷ ys) (omega arith) (λ d. let e : suc k + 1 ≡ suc (k + 1) = omega arith in rw e at (h d)))) (never (ltb x y))
+  where
+    never : (b : Bool) → false ≡ b && false
+    never true = refl
+    never false = refl
+
+-- what `is_sorted_by` answers
+pub rising_is : (f : List ℕ) (r : Bool) → IsAllAdjacentAnswer (λ x y b. b ≡ ltb x y) f r → r ≡ rising f
+rising_is f true h = rises f h
+rising_is f false h = falls h.0 f h.1 h.2
+
+-- ── the first n as a list of their own ──────────────────────────────────────────────────────
+
+pub keys-take : (f : List ℕ) (n i : ℕ) → i + n ≤ length f → keys_from n f i ≡ take n (drop i f)
+unfolding keys_from
+keys-take f zero i h = refl
+keys-take f (suc n) i h = rw (drop-cons f i 0 (omega arith)) (let e : i + 1 ≡ suc i = omega arith in rw e (ap (λ ks. get_or f i 0 ∷ ks) (keys-take f n (suc i) (omega arith))))
+
+pub keys-front : (f : List ℕ) (n : ℕ) → n ≤ length f → keys_from n f 0 ≡ take n f
+keys-front f n h = keys-take f n 0 (omega arith)
+
+pub keys-all : (f : List ℕ) → keys_from (length f) f 0 ≡ f
+keys-all f = keys-front f (length f) (omega arith) ∙ take_all (length f) f (omega arith)
+
+-- what `partition_point` answers
+pub split_at : (f : List ℕ) (n x r : ℕ) → n ≤ length f → r ≤ length (take n f)
+    → IsPartitionPoint (λ y. ltb y x ≡ true) (λ y. ltb y x ≡ false) (take n f) r → Splits f n x r
+split_at f n x r h w p =
+    let l = length-take-le n f h in
+    record {
+      within = omega arith;
+      below = λ j k. ltb-true (get_or f j 0) x (rw (get_or-take n f j 0 (omega arith)) at (p.0 j 0 (omega arith) k));
+      above = λ j k m. ltb-false (get_or f j 0) x (rw (get_or-take n f j 0 m) at (p.1 j 0 k (omega arith)));
+    }
+
+-- no key below x comes after one that is not
+pub parted : (f : List ℕ) (n x : ℕ) → n ≤ length f → rising (keys_from n f 0) ≡ true → IsPartitionedBy (λ y. ltb y x) (take n f)
+parted f n x h r i j d a b e =
+    let l = length-take-le n f h in
+    let k : j < n = omega arith in
+    let at_j : get_or (take n f) j d ≡ get_or f j 0 = get_or-take n f j d k ∙ get_or_default f j d 0 (omega arith) in
+    let at_i : get_or (take n f) i d ≡ get_or f i 0 = get_or-take n f i d (omega arith) ∙ get_or_default f i d 0 (omega arith) in
+    lt-ltb _ x (omega (arith, at_i, at_j, ltb-true _ x e, from_on f n r i j a k))
+
+pub lower_is : (f : List ℕ) (n x r : ℕ) (part : List ℕ) → part ≡ take n f → n ≤ length f → rising (keys_from n f 0) ≡ true → r ≤ length part
+    → (IsPartitionedBy (λ y. ltb y x) part → IsPartitionPoint (λ y. ltb y x ≡ true) (λ y. ltb y x ≡ false) part r)
+    → (r ≡ count_below x (keys_from n f 0)) × Splits f n x r
+lower_is f n x r part e h up w p =
+    let s : Splits f n x r = split_at f n x r h (rw e at w) ((rw e at p) (parted f n x h up)) in
+    (counted f x n r s, s)

@@ -34,7 +34,7 @@ pub fn pack(graph: u64, subject: u64, property: u64, object: u64) -> u64
     b * PLACE_LIMIT + object
 }
 
-// The number of a key's graph.
+// The number of a key's graph. Four functions of a line each: one over the weight would still need these four names, one for each field of a quad.
 // Ruled out: a number in which the subject's is left; the subject's number.
 pub fn graph_of(key: u64) -> usize
     ensures { (result ≡ (quad_of key).graph) × (result < place_limit) }
@@ -66,26 +66,12 @@ pub fn object_of(key: u64) -> usize
     (key % PLACE_LIMIT) as usize
 }
 
-// Whether the first n keys rise strictly.
+// Whether keys rise strictly.
 // Ruled out: equal neighbours that pass; a last key that is not looked at.
-pub fn rising(keys: &[u64], n: usize) -> bool
-    requires { n ≤ length keys.now }
-    ensures { result ≡ is_rising (keys_from n keys.now 0) }
+pub fn rising(keys: &[u64]) -> bool
+    ensures { result ≡ is_rising keys.now }
 {
-    if n == 0 {
-        return true;
-    }
-    let mut last = keys[0];
-    let mut i = 1;
-    while i < n {
-        let key = keys[i];
-        if key <= last {
-            return false;
-        }
-        last = key;
-        i += 1;
-    }
-    true
+    keys.is_sorted_by(|a, b| a < b)
 }
 
 // One of two, by a test.
@@ -95,7 +81,7 @@ pub fn either(first: bool, a: usize, b: usize) -> usize
     if first { a } else { b }
 }
 
-// How many of the first n keys, which rise, are below x: by halves. How many are left does not depend on what is found, so that there is no branch to guess.
+// How many of the first n keys, which rise, are below x.
 // Ruled out: a key equal to x counted; the last key left out.
 pub fn lower(keys: &[u64], n: usize, x: u64) -> usize
     requires n_in_bounds { n ≤ length keys.now }
@@ -103,15 +89,7 @@ pub fn lower(keys: &[u64], n: usize, x: u64) -> usize
     ensures value { result ≡ count_below x (keys_from n keys.now 0) }
     ensures splits { Splits keys.now n x result }
 {
-    let mut low = 0;
-    let mut size = n;
-    while 0 < size {
-        let half = size / 2;
-        let mid = low + (size - half);
-        low = either(keys[mid - 1] < x, mid, low);
-        size = half;
-    }
-    low
+    keys[..n].partition_point(|&key| key < x)
 }
 
 // How many of the first n keys, which rise, are at most x.

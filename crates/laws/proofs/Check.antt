@@ -1,4 +1,5 @@
 -- What the checks of terms, schema and script (refusals 2 to 9) find where nothing is refused.
+use Rattle.definitions.specs.declared.Refusal.TheVariants.{BadTerm, TermTwice, BadEntry, PropertyTwice, BadScript, OutOfScope}
 use Prim.Native.Nat.{ℕ, suc, ◌≤◌, ◌<◌}
 use mathlib.Core.Bool.{Bool, not, ◌&&◌, ◌||◌}
 use mathlib.Core.List.{List, [], ◌∷◌}
@@ -63,12 +64,12 @@ pub records-inv : (terms schema : List ℕ) (l : Listed) → record_tests terms 
 unfolding record_tests
 records-inv terms schema l e =
     let last : List Term → Schema → Result Listed = λ listed S. passed (record { terms = listed; schema = S }) in
-    let five : List Term → Schema → Result Listed = λ listed S. require 5 (distinct same_property S) >> last listed S in
-    let three : List Term → Result Listed = λ listed. require 3 (distinct same_term listed) >> (given 4 (read_schema schema) >>= five listed) in
-    let i₂ = given-bind-inv 2 (read_terms terms) three e in
-    let i₃ = require-after-inv 3 (distinct same_term i₂.0) (given 4 (read_schema schema) >>= five i₂.0) i₂.2 in
-    let i₄ = given-bind-inv 4 (read_schema schema) (five i₂.0) i₃.1 in
-    let i₅ = require-after-inv 5 (distinct same_property i₄.0) (last i₂.0 i₄.0) i₄.2 in
+    let five : List Term → Schema → Result Listed = λ listed S. require PropertyTwice (distinct same_property S) >> last listed S in
+    let three : List Term → Result Listed = λ listed. require TermTwice (distinct same_term listed) >> (given BadEntry (read_schema schema) >>= five listed) in
+    let i₂ = given-bind-inv BadTerm (read_terms terms) three e in
+    let i₃ = require-after-inv TermTwice (distinct same_term i₂.0) (given BadEntry (read_schema schema) >>= five i₂.0) i₂.2 in
+    let i₄ = given-bind-inv BadEntry (read_schema schema) (five i₂.0) i₃.1 in
+    let i₅ = require-after-inv PropertyTwice (distinct same_property i₄.0) (last i₂.0 i₄.0) i₄.2 in
     let found : Listed = record { terms = i₂.0; schema = i₄.0 } in
     subst
     (λ (l : Listed). (read_terms terms ≡ some l.terms) × T (distinct same_term l.terms) × (read_schema schema ≡ some l.schema) × T (distinct same_property l.schema))
@@ -78,10 +79,10 @@ script-inv : (terms : List Term) (S : Schema) (script : List ℕ) (root : Script
     → T (sizes_fit terms S script) × (parsed (length terms) script ≡ some root) × T (in_scope root)
 unfolding script_tests
 script-inv terms S script root e =
-    let seven : Script → Result Script = λ c. require 7 (in_scope c) >> passed c in
-    let i₆ = require-after-inv 6 (sizes_fit terms S script) (given 6 (parsed (length terms) script) >>= seven) e in
-    let i₇ = given-bind-inv 6 (parsed (length terms) script) seven i₆.1 in
-    let i₈ = require-after-inv 7 (in_scope i₇.0) (passed i₇.0) i₇.2 in
+    let seven : Script → Result Script = λ c. require OutOfScope (in_scope c) >> passed c in
+    let i₆ = require-after-inv BadScript (sizes_fit terms S script) (given BadScript (parsed (length terms) script) >>= seven) e in
+    let i₇ = given-bind-inv BadScript (parsed (length terms) script) seven i₆.1 in
+    let i₈ = require-after-inv OutOfScope (in_scope i₇.0) (passed i₇.0) i₇.2 in
     let same = passed_is i₈.1 in
     (i₆.0, i₇.1 ∙ ap some same, subst (λ (c : Script). T (in_scope c)) same i₈.0)
 

@@ -1,4 +1,5 @@
 -- Refusal 10: what has passed it, and that what a call hands back passes it again.
+use Rattle.definitions.specs.declared.Refusal.TheVariants.{WrongLength, Unsound, BadRanks}
 use Prim.Native.Nat.{ℕ}
 use mathlib.Core.List.{List}
 use mathlib.Core.Option.{Option, some}
@@ -41,26 +42,26 @@ checked-of e = rw e
 module _ (l : Lent) (saved : SavedRun) where
   -- the tests after the lengths
   abbrev ranks_on : Result Calls.Sound
-  ranks_on = require 21 (is_alphabet l.ranks) >> given 10 (sound_in l saved)
+  ranks_on = require BadRanks (is_alphabet l.ranks) >> given Unsound (sound_in l saved)
 
   pub entry-inv : {x : Calls.Sound} → entry_tests l saved ≡ passed x → T (lengths_fit l) × T (is_alphabet l.ranks) × (sound_in l saved ≡ some x)
   unfolding entry_tests
   entry-inv e =
-      let i = require-after-inv 1 (lengths_fit l) ranks_on e in
-      let j = require-after-inv 21 (is_alphabet l.ranks) (given 10 (sound_in l saved)) i.1 in
-      (i.0, j.0, given-inv 10 (sound_in l saved) j.1)
+      let i = require-after-inv WrongLength (lengths_fit l) ranks_on e in
+      let j = require-after-inv BadRanks (is_alphabet l.ranks) (given Unsound (sound_in l saved)) i.1 in
+      (i.0, j.0, given-inv Unsound (sound_in l saved) j.1)
 
   pub entry_of : {x : Calls.Sound} → T (lengths_fit l) → T (is_alphabet l.ranks) → sound_in l saved ≡ some x → entry_tests l saved ≡ passed x
   unfolding entry_tests given
-  entry_of fit good e = require-after 1 (lengths_fit l) ranks_on fit ∙ (require-after 21 (is_alphabet l.ranks) (given 10 (sound_in l saved)) good ∙ rw e)
+  entry_of fit good e = require-after WrongLength (lengths_fit l) ranks_on fit ∙ (require-after BadRanks (is_alphabet l.ranks) (given Unsound (sound_in l saved)) good ∙ rw e)
 
-  pub entry-one : lengths_fit l ≡ false → entry_tests l saved ≡ refused 1
+  pub entry-one : lengths_fit l ≡ false → entry_tests l saved ≡ refused WrongLength
   unfolding entry_tests
-  entry-one e = require-refused 1 ranks_on e
+  entry-one e = require-refused WrongLength ranks_on e
 
-  pub entry-ranks : T (lengths_fit l) → is_alphabet l.ranks ≡ false → entry_tests l saved ≡ refused 21
+  pub entry-ranks : T (lengths_fit l) → is_alphabet l.ranks ≡ false → entry_tests l saved ≡ refused BadRanks
   unfolding entry_tests
-  entry-ranks fit e = require-after 1 (lengths_fit l) ranks_on fit ∙ require-refused 21 (given 10 (sound_in l saved)) e
+  entry-ranks fit e = require-after WrongLength (lengths_fit l) ranks_on fit ∙ require-refused BadRanks (given Unsound (sound_in l saved)) e
 
 -- ── what has passed ─────────────────────────────────────────────────────────────────────────
 

@@ -1,8 +1,8 @@
 -- What the code answers of what the definitions give: whether there is something, and the offset after what was read.
 use Rattle.std.specs.Prelude.{ℕ, Bool, true, false}
 use Rattle.std.proofs.Math.Option.{Option, none, some}
-use Rattle.definitions.specs.declared.Read.{Read}
-use Rattle.definitions.specs.declared.Read.TheVariants.{Next, Malformed}
+use Rattle.std.specs.declared.option.Option as Answer
+use Rattle.std.specs.Prelude.{Some, None}
 use Rattle.definitions.specs.Bytes.{Got}
 use Rattle.laws.specs.Walks.{Walked}
 
@@ -17,9 +17,9 @@ passes test none = false
 passes test (some a) = test a
 
 -- the offset after what was read
-unfoldable pub next_of : {A : Type 0} → Got A → Read
-next_of none = Malformed
-next_of (some p) = Next p.1
+unfoldable pub next_of : {A : Type 0} → Got A → Answer.Option ℕ
+next_of none = None
+next_of (some p) = Some p.1
 
 -- there is something to read, and n is the offset after it
 abbrev pub Ends : {A : Type 0} → Got A → ℕ → Type 0

@@ -1,11 +1,12 @@
 -- The tests that a saved run's bytes have to pass, one after the other.
 use Prim.Native.Nat.{ℕ, ◌≤◌, ◌<◌}
-use mathlib.Core.Path.{◌≡◌, ap, sym, ◌∙◌}
-use mathlib.Core.List.{List}
+use mathlib.Core.Path.{◌≡◌, refl, ap, sym, ◌∙◌}
+use mathlib.Core.List.{List, [], ◌∷◌}
 use mathlib.Core.Bool.{Bool, true, false, ◌&&◌}
 use mathlib.Core.Option.{none, some}
 use lib.Dec.{leb}
 use borrow.Author.Tests.{le-leb, lt-leb}
+use Rattle.std.specs.List.{list_all}
 use Rattle.definitions.specs.Limits.{variable_limit, depth_limit}
 use Rattle.definitions.specs.Lists.{every}
 use Rattle.definitions.specs.Bytes.{word, part, provided}
@@ -13,6 +14,11 @@ use Rattle.definitions.specs.Limits.{bound_offset, items_offset}
 use Rattle.definitions.specs.Exports.{items_good, saved_from}
 use Rattle.definitions.specs.declared.SavedRun.{SavedRun}
 use Rattle.layout.specs.ReadSaved.{control_in, store_in}
+
+-- std's word for a test of each element is the definitions'
+pub all-every : {A : Type 0} (p : A → Bool) (l : List A) → list_all p l ≡ every p l
+all-every p [] = refl
+all-every p (x ∷ l) = ap (λ (b : Bool). p x && b) (all-every p l)
 
 module _ (b : List ℕ) (height : ℕ) (e : height ≡ word b 0) where
   abbrev pub whole : SavedRun

@@ -6,7 +6,7 @@ pub mod writing;
 
 use definitions::SavedRun;
 
-// What reading a saved run's bytes gives; an enum holds no array.
+// What reading a saved run's bytes gives.
 #[derive(Clone, Copy)]
 pub struct SavedRead {
     pub ok: bool,

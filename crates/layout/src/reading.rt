@@ -1,6 +1,6 @@
 // The saved run from its bytes.
 ghost use Rattle.std.specs.Prelude.{◌≡◌, map, eqb, leb, length, ◌+◌, ◌*◌, ◌≤◌};
-ghost use Rattle.definitions.specs.Lists.{every};
+ghost use Rattle.std.specs.List.{list_all};
 ghost use Rattle.definitions.specs.Bytes.{word};
 ghost use Rattle.std.proofs.Math.Option.{none};
 ghost use Rattle.definitions.specs.Limits.{saved_width, items_offset, item_width, depth_limit};
@@ -21,36 +21,24 @@ fn read_words(b: &[u8], at: usize, out: &mut [u16])
     requires { at + 2 * length out.old ≤ length b.now }
     ensures { out.new ≡ words_from (length out.old) b.now at }
 {
-    let mut i = 0;
-    while i < out.len() {
-        let from = at + 2 * i;
-        out[i] = number_at(b, from);
-        i += 1;
+    for i in 0..out.len() {
+        out[i] = number_at(b, at + 2 * i);
     }
 }
 
 // A mark is 0 or 1.
 fn marks_good(marks: &[u8]) -> bool
-    ensures { result ≡ every (λ m. leb m 1) marks.now }
+    ensures { result ≡ list_all (λ m. leb m 1) marks.now }
 {
-    let mut i = 0;
-    while i < marks.len() {
-        if 1 < marks[i] {
-            return false;
-        }
-        i += 1;
-    }
-    true
+    marks.iter().all(|&mark| mark <= 1)
 }
 
 fn read_marks(marks: &[u8], out: &mut [bool])
     requires { length out.old ≡ length marks.now }
     ensures { out.new ≡ map (eqb 1) marks.now }
 {
-    let mut i = 0;
-    while i < marks.len() {
-        out[i] = 1 == marks[i];
-        i += 1;
+    for (i, &mark) in marks.iter().enumerate() {
+        out[i] = 1 == mark;
     }
 }
 
@@ -73,8 +61,7 @@ fn items_good(b: &[u8], height: usize) -> bool
     requires { items_offset + item_width * height ≤ length b.now }
     ensures { result ≡ items_good height b.now items_offset }
 {
-    let mut i = 0;
-    while i < height {
+    for i in 0..height {
         let at = ITEMS_OFFSET + ITEM_WIDTH * i;
         if 1 < b[at + 2] {
             return false;
@@ -82,7 +69,6 @@ fn items_good(b: &[u8], height: usize) -> bool
         if b[at + 3] != 0 {
             return false;
         }
-        i += 1;
     }
     true
 }
@@ -95,11 +81,8 @@ fn read_items(b: &[u8], height: usize) -> [SavedItem; ITEM_LIMIT]
 {
     let empty = zero_item();
     let mut items = [empty; ITEM_LIMIT];
-    let mut i = 0;
-    while i < height {
-        let at = ITEMS_OFFSET + ITEM_WIDTH * i;
-        items[i] = read_item(b, at);
-        i += 1;
+    for i in 0..height {
+        items[i] = read_item(b, ITEMS_OFFSET + ITEM_WIDTH * i);
     }
     items
 }

@@ -14,12 +14,10 @@ pub fn write_number(n: u64, out: &mut [u8])
     ensures { out.new ≡ little_bytes (length out.old) n }
 {
     let mut rest = n;
-    let mut i = 0;
-    while i < out.len() {
+    for i in 0..out.len() {
         let low = rest % 256;
         out[i] = low as u8;
-        rest = rest / 256;
-        i += 1;
+        rest /= 256;
     }
 }
 
@@ -37,29 +35,19 @@ fn write_words(numbers: &[u16], out: &mut [u8])
     ensures { out.new ≡ words numbers.now }
 {
     let mut at = 0;
-    let mut i = 0;
-    while i < numbers.len() {
+    for &number in numbers {
         let end = at + 2;
-        write_word(numbers[i], &mut out[at..end]);
+        write_word(number, &mut out[at..end]);
         at = end;
-        i += 1;
     }
-}
-
-fn mark(b: bool) -> u8
-    ensures { result ≡ mark_of b }
-{
-    if b { 1 } else { 0 }
 }
 
 fn write_marks(marks: &[bool], out: &mut [u8])
     requires { length out.old ≡ length marks.now }
     ensures { out.new ≡ map mark_of marks.now }
 {
-    let mut i = 0;
-    while i < marks.len() {
-        out[i] = mark(marks[i]);
-        i += 1;
+    for (i, &mark) in marks.iter().enumerate() {
+        out[i] = u8::from(mark);
     }
 }
 
@@ -69,7 +57,7 @@ fn write_item(item: SavedItem, out: &mut [u8])
 {
     let last = item.last;
     write_word(item.at, &mut out[0..2]);
-    out[2] = mark(item.started);
+    out[2] = u8::from(item.started);
     out[3] = 0;
     write_words(&last, &mut out[4..ITEM_WIDTH]);
 }
@@ -79,12 +67,10 @@ fn write_items(items: [SavedItem; ITEM_LIMIT], out: &mut [u8])
     ensures { out.new ≡ items_bytes items }
 {
     let mut at = 0;
-    let mut i = 0;
-    while i < ITEM_LIMIT {
+    for item in items {
         let end = at + ITEM_WIDTH;
-        write_item(items[i], &mut out[at..end]);
+        write_item(item, &mut out[at..end]);
         at = end;
-        i += 1;
     }
 }
 

@@ -1,4 +1,6 @@
 -- The load call: the length of each table, the check, and a saved run with the root alone on its stack.
+use Rattle.definitions.specs.declared.Refusal.TheVariants.{WrongLength, BadRanks}
+use Rattle.std.specs.Prelude.{Ok, Err}
 use Prim.Native.Nat.{ℕ, suc}
 use native.Mathlib.Omega.{arith}
 use mathlib.Core.Path.{◌≡◌, sym, ap, ◌∙◌}
@@ -14,13 +16,13 @@ use Rattle.definitions.specs.Tree.{Script, success, from_named, block, sequence}
 use Rattle.definitions.specs.Reading.{read_script, parsed}
 use Rattle.definitions.specs.Machine.{loaded}
 use Rattle.definitions.specs.Saved.{term_table, quad_table, quad_bytes, offset_of, saved_item, saved_items, saved_control, saved_store, saved_of}
-use Rattle.definitions.specs.Result.{Result, refused, passed}
+use Rattle.definitions.specs.declared.Refusal.{Refusal}
+use Rattle.definitions.specs.Result.{OrRefusal, Result, refused, passed}
 use Rattle.definitions.specs.Calls.{Checked, Lent, LoadResult, tables_fit, load_tests, load_result, check, sizes_fit, reported, lengths_of}
 use Rattle.definitions.specs.Alphabet.{is_alphabet}
 use Rattle.definitions.specs.Calls as Calls
 use Rattle.definitions.specs.declared.Loaded.{Loaded}
 use Rattle.definitions.specs.declared.SavedRun.{SavedRun}
-use Rattle.definitions.specs.declared.LoadAnswer.TheVariants as LoadAnswers
 use Rattle.laws.proofs.Options.{some_is, provided-inv, onward-inv}
 use Rattle.laws.proofs.Check.{check-passed}
 use Rattle.laws.proofs.Results.{require-after, require-refused}
@@ -28,13 +30,11 @@ use Rattle.laws.proofs.ScriptReads.{script-reads}
 use Rattle.laws.proofs.Tables.{term-table-length, quad-table-length}
 use Rattle.laws.proofs.Tests.{and_left, true_is}
 use Rattle.laws.proofs.Valid.{check-valid}
-use Rattle.card.specs.Check.{number_of, card_of, TablesOf}
+use Rattle.card.specs.Check.{CardOf}
 use Rattle.store.specs.Bare.{bare_run}
-use Rattle.loading.specs.Loaded.{refused_load, accepted_load}
+use Rattle.loading.specs.Loaded.{handed_back}
 use Rattle.card.specs.declared.refusals.Card.{Card}
 use Rattle.lengths.proofs.TableLaws.{fit-both}
-use Rattle.card.proofs.RefusalNumbers.{refused-number, passed-number}
-use Rattle.card.proofs.CheckLaws.{card-number, check-not-zero}
 
 -- ── the root stands at offset 0 ─────────────────────────────────────────────────────────────
 
@@ -67,62 +67,52 @@ module _ (l : Lent) where
   load_is e = ap (load_result l) e
 
   -- a refusal leaves both tables
-  pub load-refused : {n : ℕ} {r : Loaded} → load_tests l ≡ refused n → r ≡ refused_load n → LoadDone l r l.term_table l.quad_table
+  pub load-refused : {n : Refusal} {r : OrRefusal (List ℕ)} → load_tests l ≡ refused n → r ≡ Err n → LoadDone l (handed_back r) l.term_table l.quad_table
   unfolding load_result
   load-refused e f =
       let k = load_is e in
-      (f ∙ sym (ap (λ (x : LoadResult). x.returned) k), sym (ap (λ (x : LoadResult). x.term_table) k), sym (ap (λ (x : LoadResult). x.quad_table) k))
+      (ap handed_back f ∙ sym (ap (λ (x : LoadResult). x.returned) k), sym (ap (λ (x : LoadResult). x.term_table) k), sym (ap (λ (x : LoadResult). x.quad_table) k))
 
   module _ {a : Bool} (ea : a ≡ tables_fit (lengths_of l)) where
-    pub other_length : a ≡ false → load_tests l ≡ refused 1
+    pub other_length : a ≡ false → load_tests l ≡ refused WrongLength
     unfolding load_tests
-    other_length e = require-refused 1 _ (sym ea ∙ e)
+    other_length e = require-refused WrongLength _ (sym ea ∙ e)
 
     module _ (fit : a ≡ true) {b : Bool} (eb : b ≡ is_alphabet l.ranks) where
-      pub other-ranks : b ≡ false → load_tests l ≡ refused 21
+      pub other-ranks : b ≡ false → load_tests l ≡ refused BadRanks
       unfolding load_tests
-      other-ranks e = require-after 1 _ _ (true_is _ (sym ea ∙ fit)) ∙ require-refused 21 _ (sym eb ∙ e)
+      other-ranks e = require-after WrongLength _ _ (true_is _ (sym ea ∙ fit)) ∙ require-refused BadRanks _ (sym eb ∙ e)
 
-    module _ (fit : a ≡ true) {b : Bool} (eb : b ≡ is_alphabet l.ranks) (good : b ≡ true) {card : Card} (ec : card ≡ card_of (check l.terms l.schema l.script) card.entries) where
+    module _ (fit : a ≡ true) {b : Bool} (eb : b ≡ is_alphabet l.ranks) (good : b ≡ true) where
       only-check : load_tests l ≡ check l.terms l.schema l.script
       unfolding load_tests
-      only-check = require-after 1 _ _ (true_is _ (sym ea ∙ fit)) ∙ require-after 21 _ _ (true_is _ (sym eb ∙ good))
+      only-check = require-after WrongLength _ _ (true_is _ (sym ea ∙ fit)) ∙ require-after BadRanks _ _ (true_is _ (sym eb ∙ good))
 
-      number : card.refusal ≡ number_of (check l.terms l.schema l.script)
-      number = ap (λ (k : Card). k.refusal) ec ∙ card-number (check l.terms l.schema l.script) card.entries
+      pub check-refused : {n : Refusal} → check l.terms l.schema l.script ≡ refused n → load_tests l ≡ refused n
+      check-refused e = only-check ∙ e
 
-      pub check-refused : (card.refusal ≡ 0 → ⊥) → load_tests l ≡ refused card.refusal
-      check-refused h = only-check ∙ refused-number (check l.terms l.schema l.script) number h
-
-      module _ (z : card.refusal ≡ 0) {table leasts : List ℕ}
-          (hc : (c : Checked) → check l.terms l.schema l.script ≡ passed c → TablesOf c l.schema table leasts card.entries) where
-        found : (c : Checked) × (check l.terms l.schema l.script ≡ passed c)
-        found = passed-number (check l.terms l.schema l.script) (check-not-zero l.terms l.schema l.script) number z
-
-        slots : table ≡ term_table found.0.terms
-        slots = (hc found.0 found.1).slots
+      module _ {card : Card} {table leasts : List ℕ} (told : (c : Checked) × (check l.terms l.schema l.script ≡ passed c) × CardOf l.schema table leasts c card) where
+        abbrev c : Checked
+        c = told.0
 
         pub table-width : length table ≡ term_table_width
         unfolding sizes_fit
         table-width =
-            let c = found.0 in
-            let p = check-passed l.terms l.schema l.script c found.1 in
+            let p = check-passed l.terms l.schema l.script c told.1 in
             let few = leb→le (length c.terms) term_limit
             (and_left (leb (length c.terms) term_limit) (leb (length c.schema) entry_limit && leb (length l.script) script_limit) p.reads.sizes) in
-            ap length slots ∙ term-table-length c.terms (check-valid l.terms l.schema l.script c found.1) few
+            ap length told.2.slots ∙ term-table-length c.terms (check-valid l.terms l.schema l.script c told.1) few
 
-        pub load-accepted : {r : Loaded} {term_bytes quad_bytes : List ℕ} (empty : List ℕ) → r ≡ accepted_load card.types → empty ≡ replicate quad_table_width 0
-            → term_bytes ≡ table → quad_bytes ≡ empty → LoadDone l r term_bytes quad_bytes
-        unfolding load_result loaded card_of quad_table quad_bytes filled
-        load-accepted empty f fe ft fq =
-            let c = found.0 in
-            let k = load_is (only-check ∙ found.1) in
-            let p = check-passed l.terms l.schema l.script c found.1 in
-            let types : card.types ≡ reported c = ap (λ (k : Card). k.types) (ec ∙ ap (λ (m : Result Checked). card_of m card.entries) found.1) in
+        pub load-accepted : {term_bytes quad_bytes : List ℕ} (empty : List ℕ) → empty ≡ replicate quad_table_width 0
+            → term_bytes ≡ table → quad_bytes ≡ empty → LoadDone l (handed_back (Ok card.types)) term_bytes quad_bytes
+        unfolding load_result loaded quad_table quad_bytes filled
+        load-accepted empty fe ft fq =
+            let k = load_is (only-check ∙ told.1) in
+            let p = check-passed l.terms l.schema l.script c told.1 in
             let root = parsed-offset (length c.terms) l.script c.root p.reads.parses in (
-              f ∙ ap accepted_load types
-                  ∙ ap (λ (s : SavedRun). record { answer = LoadAnswers.Accepted; saved = s }) (saved-fresh (reported c) c.terms c.root root)
+              ap (λ (types : List ℕ). handed_back (Ok types)) told.2.types
+                  ∙ ap (λ (s : SavedRun). record { answer = Ok tt; saved = s }) (saved-fresh (reported c) c.terms c.root root)
                   ∙ sym (ap (λ (x : LoadResult). x.returned) k),
-              ft ∙ slots ∙ sym (ap (λ (x : LoadResult). x.term_table) k),
+              ft ∙ told.2.slots ∙ sym (ap (λ (x : LoadResult). x.term_table) k),
               fq ∙ fe ∙ sym (ap (λ (x : LoadResult). x.quad_table) k),
             )

@@ -12,7 +12,7 @@ ghost use Rattle.facts.specs.Codes.{all_written};
 ghost use Rattle.facts.specs.Walk.{Joined};
 ghost use Rattle.lowest_type.specs.Does.{does_in, code_of};
 
-use definitions::{SuggestAnswer, VARIABLE_LIMIT};
+use definitions::{Suggested, VARIABLE_LIMIT};
 use facts::noting::Tables;
 use readoff::read_off;
 use with_type::with_type;
@@ -34,43 +34,36 @@ fn does(t: Tables, written: &[u8], x: usize, code: u8) -> bool
     requires { Joined t × (x < variable_limit) × (length written.now ≡ variable_limit) }
     ensures { result ≡ does_in t (all_written written.now) x (type_of code) }
 {
-    let answer = read_off(with_type(t, x, code), written);
-    answer.refusal == 0
+    read_off(with_type(t, x, code), written).is_ok()
 }
 
-// The code of the lowest type that does at a variable, 0 where it is not open or none does.
-fn lowest_type(t: Tables, written: &[u8], x: usize) -> u8
+// The code of the lowest type that does at a variable, none where it is not open or none does.
+fn lowest_type(t: Tables, written: &[u8], x: usize) -> Option<u8>
     requires { Joined t × (x < variable_limit) × (length written.now ≡ variable_limit) }
     ensures { result ≡ code_of (lowest_type (all_written written.now) (does_in t (all_written written.now)) x) }
 {
     if written[x] != 0 {
-        return 0;
+        return None;
     }
-    let mut i = 0;
-    while i < TYPES {
+    for i in 0..TYPES {
         let code = code_at(i);
         if does(t, written, x, code) {
-            return code;
+            return Some(code);
         }
-        i += 1;
     }
-    0
+    None
 }
 
 // The lowest open variable at which a type does, with the lowest that does there.
 // Ruled out: codes tried from the top; a variable with a written type named.
-pub fn lowest(t: Tables, written: &[u8]) -> SuggestAnswer
+pub fn lowest(t: Tables, written: &[u8]) -> Suggested
     requires { Joined t × (length written.now ≡ variable_limit) }
-    ensures { result ≡ suggest_answer (lowest_in (all_written written.now) (does_in t (all_written written.now)) variables) }
+    ensures { Ok result ≡ suggest_answer (lowest_in (all_written written.now) (does_in t (all_written written.now)) variables) }
 {
-    let mut x = 0;
-    while x < VARIABLE_LIMIT {
-        let code = lowest_type(t, written, x);
-        if code != 0 {
-            let variable = x as u8;
-            return SuggestAnswer::Named(variable, code);
+    for x in 0..VARIABLE_LIMIT {
+        if let Some(code) = lowest_type(t, written, x) {
+            return Suggested::Named(x as u8, code);
         }
-        x += 1;
     }
-    SuggestAnswer::NoSingle
+    Suggested::NoSingle
 }

@@ -30,9 +30,8 @@ use Rattle.laws.proofs.Saved.{graphs-few}
 use Rattle.laws.specs.ScriptReads.{ReadsAs}
 use Rattle.laws.specs.Sound.{Sound}
 use Rattle.safety.proofs.StepSound.{NextSound, next-sound}
-use Rattle.acts.specs.declared.Stepped.{Stepped}
-use Rattle.machine.specs.declared.Stopped.{Stopped}
-use Rattle.acts.specs.Steps.{Standing, Top, on_top, answer_of, stands_at, stepped_of, EntersOnce, EntersEach}
+use Rattle.std.specs.Prelude.{Option as Maybe, Ok, Err}
+use Rattle.acts.specs.Steps.{Stepped, Standing, Top, on_top, answer_of, stepped_of, EntersOnce, EntersEach}
 use Rattle.query.specs.declared.Context.{Context}
 use Rattle.query.specs.StoreLent.{StoreLent}
 use Rattle.answers.specs.Lends.{Lends, LendsStore, setting, typing, AnswersNow}
@@ -74,10 +73,10 @@ module _ {script : List ℕ} {loaded : ℕ} {run : SavedControl} (h : Standing s
 -- ── a block ─────────────────────────────────────────────────────────────────────────────────
 
 module _ {script ranks table quads leasts : List ℕ} {x : Context} {run : SavedControl} {at : ℕ} (w : Lends script ranks table quads leasts x run) (t : Top w.here at)
-    (kind : byte script at ≡ 0x73) (found : Bool) (tuple : List ℕ)
-    (answers : AnswersNow w t found tuple) (r : Stepped) where
+    (kind : byte script at ≡ 0x73) (answer : Maybe (List ℕ))
+    (answers : AnswersNow w t answer) (r : Stepped) where
   abbrev o : Option Tuple
-  o = answer_of found (byte script (at + 2)) tuple
+  o = answer_of answer (byte script (at + 2))
 
   abbrev b : Blocked (on_top w.here t)
   b = blocked (on_top w.here t) kind
@@ -166,24 +165,29 @@ module _ {script ranks table quads leasts : List ℕ} {x : Context} {run : Saved
       let n = fine-ok (next-sound c w.here.accepted ranks (signed x.clock) current w.here.sound) in
       record { after = n.0; no_fault = n.1; result = h n.0 (ap (next_of (setting w) (typing w) current) (sym t.stack) ∙ n.1) }
 
-  pub step-ends : run.height ≡ 0 → (r : Stepped) → r ≡ stands_at run Ended → StepOf w r
+  pub step-ends : run.height ≡ 0 → StepOf w (Err Ended)
   unfolding next_of stepped_of
-  step-ends e r f =
-      record { after = stand Ended; no_fault = ap (next_of (setting w) (typing w) current) (no_item w.here e); result = f }
+  step-ends e =
+      record { after = stand Ended; no_fault = ap (next_of (setting w) (typing w) current) (no_item w.here e); result = refl }
 
   -- with no budget left
   pub look-each : each_on current.control.stack ≡ true → LookOf w Spent
   look-each e = each-look (setting w) (typing w) current current.control.stack e
 
-  ending_of_lem : (n : Next) → (stepped_of run n).ending ≡ ending_of n
-  unfolding stepped_of
-  ending_of_lem (step s) = refl
-  ending_of_lem (stand q) = refl
+  -- why a step is none; a step that there is would be taken
+  abbrev pub ending_in : Stepped → RunState
+  ending_in (Ok control) = Spent
+  ending_in (Err ending) = ending
 
-  pub look-steps : each_on current.control.stack ≡ false → (r : Stepped) → StepOf w r → LookOf w r.ending
+  pub look-steps : each_on current.control.stack ≡ false → (r : Stepped) → StepOf w r → LookOf w (ending_in r)
+  unfolding stepped_of
   look-steps e r h =
       look-next (setting w) (typing w) current current.control.stack e h.after h.no_fault
-      ∙ ap ok (sym (ending_of_lem h.after) ∙ ap (λ (y : Stepped). y.ending) (sym h.result))
+      ∙ ap ok (sym (ending_of_lem h.after) ∙ ap ending_in (sym h.result))
+    where
+      ending_of_lem : (n : Next) → ending_in (stepped_of run n) ≡ ending_of n
+      ending_of_lem (step s) = refl
+      ending_of_lem (stand q) = refl
 
 pub graphs-low : {script ranks table quads leasts : List ℕ} {x : Context} {run : SavedControl} {store : SavedStore}
     → LendsStore script ranks table quads leasts x run store → store.graphs ≤ graph_limit
@@ -263,7 +267,7 @@ module _ {script ranks table quads leasts : List ℕ} {x : Context} {run : Saved
     abbrev pub stored-now : {store : SavedStore} → store ≡ saved_store w.here.state.store → LendsStore script ranks table quads leasts x now store
     stored-now e = record { lends = lends-now; stored = e ∙ ap saved_store (sym g.stored) }
 
-    module _ (more : steps < budget) (r : Stepped) (h : StepOf lends-now r) where
+    module _ (more : steps < budget) where
       abbrev left : ℕ
       left = budget - (steps + 1)
 
@@ -277,50 +281,52 @@ module _ {script ranks table quads leasts : List ℕ} {x : Context} {run : Saved
       run_on_lem n e q f =
           g.goes q (ap (λ (b : ℕ). Machine.run (setting w) (typing w) b g.state) left_is ∙ (bind_ok e (go_on (Machine.run (setting w) (typing w) left)) ∙ f))
 
-      pub steps_on : r.moved ≡ true → Going w budget (steps + 1) r.control
+      pub steps_on : (after : SavedControl) → StepOf lends-now (Ok after) → Going w budget (steps + 1) after
       unfolding go_on stepped_of
-      steps_on m = go h.after h.no_fault h.result
+      steps_on after h = go h.after h.no_fault h.result
         where
-          go : (n : Next) → next (setting w) (typing w) g.state ≡ ok n → r ≡ stepped_of now n → Going w budget (steps + 1) r.control
-          go (stand q) e f = absurd (false-not-true (sym (ap (λ (y : Stepped). y.moved) f) ∙ m))
+          go : (n : Next) → next (setting w) (typing w) g.state ≡ ok n → Ok after ≡ stepped_of now n → Going w budget (steps + 1) after
+          go (stand q) e f = absurd cc
           go (step n) e f =
               let sure = fine-ok (next-sound C w.here.accepted ranks (signed x.clock) g.state g.sound) in
+              let is : after ≡ saved_control now.types n.control = cc in
               record {
                 state = n;
                 sound = subst (NextSound C) (ok-is (sym sure.1 ∙ e)) sure.2;
                 stored = next-keeps (setting w) (typing w) g.state (step n) e ∙ g.stored;
-                is = ap (λ (y : Stepped). y.control) f ∙ ap (λ (ts : List ℕ). saved_control ts n.control) types_are;
+                is = is ∙ ap (λ (ts : List ℕ). saved_control ts n.control) types_are;
                 few = omega arith;
                 goes = λ q k.
                     let y = run_on_lem (step n) e (preceded n q) (bind_ok k (λ q. ok (preceded n q))) in
                     record { whole = y.whole; is = y.is; counts = omega (arith, y.counts); ends = y.ends; last = y.last };
               }
 
-      pub stops-here : r.moved ≡ false → (z : Stopped) → z ≡ record { steps = steps; ending = r.ending; control = now } → RunOf w budget z
+      pub stops-here : (ending : RunState) → StepOf lends-now (Err ending) → RunOf w budget (record { steps = steps; ending = ending; control = now })
       unfolding go_on stepped_of
-      stops-here m z v = go h.after h.no_fault h.result
+      stops-here ending h = go h.after h.no_fault h.result
         where
-          go : (n : Next) → next (setting w) (typing w) g.state ≡ ok n → r ≡ stepped_of now n → RunOf w budget z
-          go (step n) e f = absurd (false-not-true (sym m ∙ ap (λ (y : Stepped). y.moved) f))
+          go : (n : Next) → next (setting w) (typing w) g.state ≡ ok n → Err ending ≡ stepped_of now n → RunOf w budget (record { steps = steps; ending = ending; control = now })
+          go (step n) e f = absurd cc
           go (stand q) e f =
               let y = run_on_lem (stand q) e (still q) refl in
+              let is : ending ≡ q = cc in
               record {
                 ran = y.whole;
                 no_fault = y.is;
-                steps = ap (λ (u : Stopped). u.steps) v ∙ omega (arith, y.counts);
-                ending = ap (λ (u : Stopped). u.ending) v ∙ (ap (λ (y : Stepped). y.ending) f ∙ sym y.ends);
-                control = ap (λ (u : Stopped). u.control) v ∙ (g.is ∙ ap (λ (s : State). saved_control run.types s.control) (sym y.last));
+                steps = omega (arith, y.counts);
+                ending = is ∙ sym y.ends;
+                control = g.is ∙ ap (λ (s : State). saved_control run.types s.control) (sym y.last);
               }
 
-    pub spent-here : budget ≤ steps → (q : RunState) → LookOf lends-now q → (z : Stopped) → z ≡ record { steps = steps; ending = q; control = now } → RunOf w budget z
+    pub spent-here : budget ≤ steps → (q : RunState) → LookOf lends-now q → RunOf w budget (record { steps = budget; ending = q; control = now })
     unfolding Machine.run
-    spent-here l q e z v =
+    spent-here l q e =
         let none_left : budget - steps ≡ 0 = omega (arith, g.few) in
         let y = g.goes (still q) (ap (λ (b : ℕ). Machine.run (setting w) (typing w) b g.state) none_left ∙ bind_ok e (λ q. ok (still q))) in
         record {
           ran = y.whole;
           no_fault = y.is;
-          steps = ap (λ (u : Stopped). u.steps) v ∙ omega (arith, y.counts);
-          ending = ap (λ (u : Stopped). u.ending) v ∙ sym y.ends;
-          control = ap (λ (u : Stopped). u.control) v ∙ (g.is ∙ ap (λ (s : State). saved_control run.types s.control) (sym y.last));
+          steps = omega (arith, y.counts, l, g.few);
+          ending = sym y.ends;
+          control = g.is ∙ ap (λ (s : State). saved_control run.types s.control) (sym y.last);
         }

@@ -7,9 +7,8 @@ use Rattle.definitions.specs.Saved.{saved_control}
 use Rattle.definitions.specs.declared.RunState.{RunState}
 use Rattle.definitions.specs.declared.SavedControl.{SavedControl}
 use Rattle.query.specs.declared.Context.{Context}
-use Rattle.acts.specs.declared.Stepped.{Stepped}
 use Rattle.machine.specs.declared.Stopped.{Stopped}
-use Rattle.acts.specs.Steps.{Top, stepped_of}
+use Rattle.acts.specs.Steps.{Stepped, Top, stepped_of}
 use Rattle.answers.specs.Lends.{Lends, setting, typing}
 
 -- an each block is on top

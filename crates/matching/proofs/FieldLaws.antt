@@ -22,13 +22,14 @@ use Rattle.laws.proofs.Tests.{and_left, and_right, and_make, or_cases}
 abbrev pub rest : List ℕ → ℕ → List ℕ
 rest s i = unfilled (drop i s)
 
-ends : (b : ℕ) (s : List ℕ) → b ≡ 0 → unfilled (b ∷ s) ≡ []
+-- a field from its first byte on
+pub unfilled-end : (b : ℕ) (s : List ℕ) → b ≡ 0 → unfilled (b ∷ s) ≡ []
 unfolding unfilled
-ends b s e = rw (eq-eqb b 0 e, unfilled)
+unfilled-end b s e = rw (eq-eqb b 0 e, unfilled)
 
-goes_on : (b : ℕ) (s : List ℕ) → (b ≡ 0 → ⊥) → unfilled (b ∷ s) ≡ b ∷ unfilled s
+pub unfilled-more : (b : ℕ) (s : List ℕ) → (b ≡ 0 → ⊥) → unfilled (b ∷ s) ≡ b ∷ unfilled s
 unfolding unfilled
-goes_on b s n = rw (ne_eqb b 0 n, unfilled)
+unfilled-more b s n = rw (ne_eqb b 0 n, unfilled)
 
 module _ (s : List ℕ) (i : ℕ) where
   pub rest_out : length s ≤ i → rest s i ≡ []
@@ -36,10 +37,10 @@ module _ (s : List ℕ) (i : ℕ) where
   rest_out h = ap unfilled (drop_of_length-le s h)
 
   pub rest_end : i < length s → byte s i ≡ 0 → rest s i ≡ []
-  rest_end h e = ap unfilled (drop-cons s i 0 h) ∙ ends (byte s i) (drop (suc i) s) e
+  rest_end h e = ap unfilled (drop-cons s i 0 h) ∙ unfilled-end (byte s i) (drop (suc i) s) e
 
   pub rest_more : i < length s → (byte s i ≡ 0 → ⊥) → rest s i ≡ byte s i ∷ rest s (i + 1)
-  rest_more h n = ap unfilled (drop-cons s i 0 h) ∙ (goes_on (byte s i) (drop (suc i) s) n ∙ rw (add-one i))
+  rest_more h n = ap unfilled (drop-cons s i 0 h) ∙ (unfilled-more (byte s i) (drop (suc i) s) n ∙ rw (add-one i))
 
   -- at the end, or a byte and what follows it
   pub rest-cases : (rest s i ≡ []) ⊎ (rest s i ≡ byte s i ∷ rest s (i + 1))
@@ -100,7 +101,7 @@ text-end [] = refl
 text-end (b ∷ s) = go (eqb b 0) refl (text-end s)
   where
     go : (t : Bool) → eqb b 0 ≡ t → rest s (length (unfilled s)) ≡ [] → rest (b ∷ s) (length {A = ℕ} (elim t as (λ c. List ℕ) [ true ↦ [] | false ↦ b ∷ unfilled s ])) ≡ []
-    go true z ih = ends b s (eqb-true b 0 z)
+    go true z ih = unfilled-end b s (eqb-true b 0 z)
     go false z ih = ih
 
 -- a loop that counts a text's bytes

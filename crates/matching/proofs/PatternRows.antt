@@ -20,6 +20,7 @@ use Rattle.laws.proofs.Options.{some_is, provided-inv, onward-inv}
 use Rattle.laws.proofs.Bytes.{byte-within}
 use Rattle.matching.specs.Matching.{fits, anywhere, ahead, hits, RowFrom, Finds}
 use Rattle.matching.proofs.FieldLaws.{rest, rest_more, first-is, field-text, text-fits, text-byte, text-end}
+use Rattle.matching.proofs.Booleans.{or-swap}
 use Rattle.matching.proofs.PatternLaws.{accepts-front, accepts-anywhere}
 
 -- ── pieces of a pattern's text ──────────────────────────────────────────────────────────────
@@ -201,7 +202,7 @@ module _ (f : List ℕ) (start : ℕ) (low : start ≤ length (unfilled f)) (g :
         record { start = s.rows start (omega arith) low r p ∙ ap (fits r.0 r.1) whole; any = s.any r p ∙ ap (anywhere (fits r.0 r.1)) whole }
 
     pub sweep-more : 0 < i → (new : List Bool) → ((t : Text) → ((byte g (i - 1) ≡ 0 → ⊥) → RowFrom f 0 t row) → RowFrom f 0 (ahead (byte g (i - 1)) t) new)
-        → Swept f start g (i - 1) new (get_or new start false || found)
+        → Swept f start g (i - 1) new (found || get_or new start false)
     unfolding anywhere
     sweep-more h new step =
         let nonzero = text-byte g (i - 1) (omega (arith, s.within)) in
@@ -212,7 +213,7 @@ module _ (f : List ℕ) (start : ℕ) (low : start ≤ length (unfilled f)) (g :
         record {
           within = omega (arith, s.within);
           rows = subst (λ u. RowFrom f 0 u new) (sym next) fresh;
-          any = λ r p. ap₂ ◌||◌ (fresh start (omega arith) low r p) (s.any r p) ∙ sym (ap (anywhere (fits r.0 r.1)) next);
+          any = λ r p. or-swap found (get_or new start false) ∙ (ap₂ ◌||◌ (fresh start (omega arith) low r p) (s.any r p) ∙ sym (ap (anywhere (fits r.0 r.1)) next));
         }
 
 -- ── a pattern in its field ──────────────────────────────────────────────────────────────────

@@ -25,24 +25,19 @@ const PLACES: usize = PATTERN_WIDTH + 1;
 pub fn text_length(field: &[u8]) -> usize
     ensures { result ≡ length (unfilled field.now) }
 {
-    let mut i = 0;
-    while i < field.len() {
-        if field[i] == 0 {
+    for (i, &b) in field.iter().enumerate() {
+        if b == 0 {
             return i;
         }
-        i += 1;
     }
-    i
+    field.len()
 }
 
 // Whether a byte of a pattern stands for a byte of a text; 0 is the text's end.
 fn hit(a: u8, b: u8) -> bool
     ensures { result ≡ hits a b }
 {
-    let there = b != 0;
-    let any = a == DOT;
-    let same = a == b;
-    there & (any | same)
+    b != 0 && (a == DOT || a == b)
 }
 
 // One place of a row: whether the pattern from k on fits the text that begins with b, from the row of the text after b
@@ -87,9 +82,7 @@ fn next_row(pattern: &[u8], size: usize, b: u8, later: [bool; PLACES]) -> [bool;
 {
     let mut row = [false; PLACES];
     row[size] = true;
-    let mut k = size;
-    while 0 < k {
-        k -= 1;
+    for k in (0..size).rev() {
         row[k] = cell(pattern, size, k, b, later, row);
     }
     row
@@ -111,12 +104,9 @@ fn search(pattern: &[u8], start: usize, field: &[u8]) -> Found
     let size = text_length(pattern);
     let mut row = next_row(pattern, size, 0, [false; PLACES]);
     let mut found = row[start];
-    let mut i = text_length(field);
-    while 0 < i {
-        i -= 1;
-        let b = field[i];
-        row = next_row(pattern, size, b, row);
-        found = row[start] | found;
+    for i in (0..text_length(field)).rev() {
+        row = next_row(pattern, size, field[i], row);
+        found |= row[start];
     }
     Found {
         front: row[start],
@@ -131,9 +121,8 @@ pub fn accepts(pattern: &[u8], field: &[u8]) -> bool
     ensures { (p : Pattern) → pattern_of pattern.now ≡ some p → result ≡ text.accepts p (unfilled field.now) }
 {
     if pattern[0] == CARET {
-        let found = search(pattern, 1, field);
-        return found.front;
+        search(pattern, 1, field).front
+    } else {
+        search(pattern, 0, field).anywhere
     }
-    let found = search(pattern, 0, field);
-    found.anywhere
 }

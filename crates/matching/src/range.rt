@@ -20,18 +20,11 @@ fn ends(range: &[u8], i: usize) -> bool
     requires i_lt_language_range_width { i < language_range_width }
     ensures { result ≡ ends_at range.now i }
 {
-    let a = range[i];
-    if a == 0 {
-        return true;
+    match range[i] {
+        0 => true,
+        HYPHEN => i + 1 < LANGUAGE_RANGE_WIDTH && range[i + 1] == STAR,
+        _ => false,
     }
-    if a != HYPHEN {
-        return false;
-    }
-    let next = i + 1;
-    if LANGUAGE_RANGE_WIDTH <= next {
-        return false;
-    }
-    range[next] == STAR
 }
 
 // Whether a tag is a range's own, or goes on with a hyphen; a `-*` at the range's end counts for nothing.
@@ -40,18 +33,14 @@ fn goes_on(range: &[u8], tag: &[u8]) -> bool
     requires tag_len { length tag.now ≡ tag_width }
     ensures { T (every tag_byte (without_star (unfilled range.now))) → result ≡ goes_on (without_star (unfilled range.now)) (unfilled tag.now) }
 {
-    let mut i = 0;
-    while i < LANGUAGE_RANGE_WIDTH {
+    for i in 0..LANGUAGE_RANGE_WIDTH {
         let b = tag[i];
         if ends(range, i) {
-            let over = b == 0;
-            let more = b == HYPHEN;
-            return over | more;
+            return b == 0 || b == HYPHEN;
         }
         if range[i] != b {
             return false;
         }
-        i += 1;
     }
     true
 }

@@ -7,7 +7,7 @@ ghost use Rattle.definitions.specs.Numbers.{term_read};
 ghost use Rattle.definitions.specs.Limits.{number_width, number_record_width};
 ghost use Rattle.definitions.specs.Exports.{record_after};
 
-use definitions::{NUMBER_RECORD_WIDTH, NumberAnswer};
+use definitions::{NUMBER_RECORD_WIDTH, Number, NumberAnswer};
 use layout::writing;
 
 // A number's record.
@@ -24,9 +24,11 @@ pub fn write_term(answer: NumberAnswer, out: &mut [u8])
     requires { length out.old ≡ number_record_width }
     ensures { out.new ≡ record_after out.old (term_read answer) }
 {
-    match answer {
-        NumberAnswer::Integer(n) => write_record(0x13, n, out),
-        NumberAnswer::Decimal(n) => write_record(0x14, n, out),
-        NumberAnswer::Refused(_) => {}
+    let Ok(number) = answer else {
+        return;
+    };
+    match number {
+        Number::Integer(n) => write_record(0x13, n, out),
+        Number::Decimal(n) => write_record(0x14, n, out),
     }
 }

@@ -1,4 +1,5 @@
 -- Laws of the number that the first digits of a text write, zeros past its end.
+use Rattle.std.specs.Prelude.{Some, None}
 use Prim.Native.Nat.{ℕ, zero, suc, ◌+◌, ◌*◌, ◌-◌, ◌^◌, ◌≤◌, ◌<◌}
 use native.Mathlib.Nat.{add-zero, add-suc, zero-mul, pow-suc, pow-le-pow_right, mul-le-mul_right, mul-pos}
 use native.Mathlib.Numerals.{add-one}
@@ -19,7 +20,6 @@ use Rattle.laws.proofs.Tests.{and_left, and_right, is_true, true_is}
 use Rattle.laws.proofs.Lists.{every_append, every-left, every-right, get_d-inside}
 use Rattle.laws.proofs.Ranges.{split}
 use Rattle.laws.proofs.Numerals.{digit-range, ten-pos, natural-append}
-use Rattle.number_terms.specs.declared.Amount.TheVariants.{Within, Outside}
 use Rattle.number_terms.specs.Amounts.{digit_of, front, rest_zero, amount_of}
 use Rattle.number_parts.proofs.PartLaws.{digit-in}
 
@@ -46,11 +46,11 @@ module _ (w f : Text) (i : ℕ) where
 
 -- ── the first digits, one by one ────────────────────────────────────────────────────────────
 
-pub over : (limit n : ℕ) → limit < n → Outside ≡ amount_of limit n
+pub over : (limit n : ℕ) → limit < n → None ≡ amount_of limit n
 unfolding amount_of
 over limit n h = rw (lt-leb n limit h)
 
-pub under : (limit n : ℕ) → n ≤ limit → Within n ≡ amount_of limit n
+pub under : (limit n : ℕ) → n ≤ limit → Some n ≡ amount_of limit n
 unfolding amount_of
 under limit n h = rw (le-leb n limit h)
 
@@ -66,16 +66,16 @@ module _ (ds : Text) where
     unfolding front
     front-next f = rw (add-one i) (omega arith)
 
-    pub front-over : (limit keep d : ℕ) → d ≡ digit_of ds i → i < keep → limit < n * 10 + d → Outside ≡ amount_of limit (front ds keep)
+    pub front-over : (limit keep d : ℕ) → d ≡ digit_of ds i → i < keep → limit < n * 10 + d → None ≡ amount_of limit (front ds keep)
     front-over limit keep d f l o =
         let k : i + 1 + (keep - (i + 1)) ≡ keep = omega arith in
         over limit (front ds keep) (omega (arith, front-next f, ap (front ds) k, more (i + 1) (keep - (i + 1))))
 
-    pub front-end : (limit keep : ℕ) → n ≤ limit → i ≤ keep → keep ≤ i → Within n ≡ amount_of limit (front ds keep)
+    pub front-end : (limit keep : ℕ) → n ≤ limit → i ≤ keep → keep ≤ i → Some n ≡ amount_of limit (front ds keep)
     front-end limit keep l a b =
         let s : i ≡ keep = omega arith in
         let q : n ≡ front ds keep = e ∙ ap (front ds) s in
-        ap Within q ∙ under limit (front ds keep) (omega arith)
+        ap Some q ∙ under limit (front ds keep) (omega arith)
 
 -- ── the other digits, one by one ────────────────────────────────────────────────────────────
 

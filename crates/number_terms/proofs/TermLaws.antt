@@ -1,4 +1,7 @@
 -- Laws of the term of a numeral: signs, and the numbers that are within their kind's limits.
+use Rattle.definitions.specs.declared.Refusal.TheVariants.{NoSuchNumber}
+use Rattle.std.specs.Prelude.{Some, None}
+use Rattle.std.specs.declared.option.Option as Answer
 use Prim.Native.Nat.{ℕ, zero, suc, ◌+◌, ◌*◌, ◌-◌, ◌%◌, ◌^◌, ◌≤◌, ◌<◌}
 use native.Mathlib.Nat.{mul_assoc, mul-add-mod_self_right, mod-eq_of_lt}
 use native.Mathlib.Omega.{arith}
@@ -22,8 +25,6 @@ use Rattle.definitions.specs.Result.{refused, passed, given}
 use Rattle.laws.proofs.Tests.{and_make, by-test}
 use Rattle.laws.proofs.Lists.{every_append}
 use Rattle.laws.proofs.Numerals.{decimal-is}
-use Rattle.number_terms.specs.declared.Amount.{Amount}
-use Rattle.number_terms.specs.declared.Amount.TheVariants.{Within, Outside}
 use Rattle.number_parts.specs.Parts.{Digits}
 use Rattle.number_terms.specs.Amounts.{front, rest_zero, amount_of, whole_amount, term_with}
 use Rattle.number_terms.proofs.AmountLaws.{zeros, zeros-digits, zeros-natural, some-natural, rest_end, padded-rest, padded-natural, front-take, drop-digits, cut, cut-less}
@@ -57,9 +58,9 @@ sign-within l true (suc n) = rw (and-true, leb-suc-suc)
 sign-within l false n = refl
 
 -- the term that an amount is
-unfoldable pub amount_term : (ℤ → Term) → (minus : Bool) → Amount → Option Term
-amount_term make minus (Within n) = some (make (with_sign minus n))
-amount_term make minus Outside = none
+unfoldable pub amount_term : (ℤ → Term) → (minus : Bool) → Answer.Option ℕ → Option Term
+amount_term make minus (Some n) = some (make (with_sign minus n))
+amount_term make minus None = none
 
 limited : (l : ℕ) (make : ℤ → Term) (minus : Bool) (n : ℕ)
     → amount_term make minus (amount_of (suc l) n) ≡ limited_term (within_limits (suc l) (suc l)) make (with_sign minus n)
@@ -67,7 +68,7 @@ unfolding amount_of amount_term provided
 limited l make minus n = go (leb n (suc l)) (sign-within l minus n)
   where
     go : (b : Bool) → within_limits (suc l) (suc l) (with_sign minus n) ≡ b
-        → amount_term make minus (cond b (Within n) Outside) ≡ limited_term (within_limits (suc l) (suc l)) make (with_sign minus n)
+        → amount_term make minus (cond b (Some n) None) ≡ limited_term (within_limits (suc l) (suc l)) make (with_sign minus n)
     go true e = rw e
     go false e = rw e
 
@@ -118,7 +119,7 @@ module _ (minus : Bool) (ds : Text) (h : T (every is_digit ds)) where
     decimal-amount = go (rest_zero ds keep) rest
       where
         go : (b : Bool) → rest_zero padded (length padded - down) ≡ b
-            → amount_term Term.decimal minus (cond b (amount_of decimal_limit (front ds keep)) Outside) ≡ decimal_term minus (natural_of ds) up down
+            → amount_term Term.decimal minus (cond b (amount_of decimal_limit (front ds keep)) None) ≡ decimal_term minus (natural_of ds) up down
         go true e =
             let z = zeros-natural (drop (length padded - down) padded) e in
             limited 999999999999999999 Term.decimal minus (front ds keep)
@@ -129,26 +130,26 @@ module _ (minus : Bool) (ds : Text) (h : T (every is_digit ds)) where
 
 -- ── as the code answers ─────────────────────────────────────────────────────────────────────
 
-small : (limit : ℕ) (ds : Text) (keep n : ℕ) → whole_amount limit ds keep ≡ Within n → n ≤ limit
+small : (limit : ℕ) (ds : Text) (keep n : ℕ) → whole_amount limit ds keep ≡ Some n → n ≤ limit
 unfolding whole_amount amount_of
 small limit ds keep n =
-    by-test Small (rest_zero ds keep) (amount_of limit (front ds keep)) Outside
-    (λ t. by-test Small (leb (front ds keep) limit) (Within (front ds keep)) Outside (λ u e. let q : front ds keep ≡ n = cc in omega (arith, leb→le (front ds keep) limit u)) (λ u. none))
+    by-test Small (rest_zero ds keep) (amount_of limit (front ds keep)) None
+    (λ t. by-test Small (leb (front ds keep) limit) (Some (front ds keep)) None (λ u e. let q : front ds keep ≡ n = cc in omega (arith, leb→le (front ds keep) limit u)) (λ u. none))
     (λ t. none)
   where
-    Small : Amount → Type 0
-    Small a = a ≡ Within n → n ≤ limit
+    Small : Answer.Option ℕ → Type 0
+    Small a = a ≡ Some n → n ≤ limit
 
-    none : Small Outside
+    none : Small None
     none e = let z : ◌≡◌ {A = ℕ} 0 1 = cc in absurd (omega arith)
 
 -- what to answer where a term is asked for
-pub record Asked (r : Amount) (make : ℤ → Term) (minus : Bool) (o : Option Term) : Type 0 where
-  pub outside : r ≡ Outside → refused 17 ≡ given 17 o
-  pub fits : {n : ℕ} → r ≡ Within n → n ≤ decimal_limit
-  pub within : {n : ℕ} {z : ℤ} → r ≡ Within n → z ≡ with_sign minus n → passed (make z) ≡ given 17 o
+pub record Asked (r : Answer.Option ℕ) (make : ℤ → Term) (minus : Bool) (o : Option Term) : Type 0 where
+  pub outside : r ≡ None → refused NoSuchNumber ≡ given NoSuchNumber o
+  pub fits : {n : ℕ} → r ≡ Some n → n ≤ decimal_limit
+  pub within : {n : ℕ} {z : ℤ} → r ≡ Some n → z ≡ with_sign minus n → passed (make z) ≡ given NoSuchNumber o
 
-asked : (make : ℤ → Term) (minus : Bool) (limit : ℕ) (ds : Text) (keep : ℕ) {r : Amount} {o : Option Term} → limit ≤ decimal_limit → r ≡ whole_amount limit ds keep
+asked : (make : ℤ → Term) (minus : Bool) (limit : ℕ) (ds : Text) (keep : ℕ) {r : Answer.Option ℕ} {o : Option Term} → limit ≤ decimal_limit → r ≡ whole_amount limit ds keep
     → amount_term make minus (whole_amount limit ds keep) ≡ o → Asked r make minus o
 unfolding given amount_term
 asked make minus limit ds keep {r = r} l e is =
@@ -158,10 +159,10 @@ asked make minus limit ds keep {r = r} l e is =
       within = λ k s. rw (s, ← is, ← e, k);
     }
   where
-    fits : {n : ℕ} → r ≡ Within n → n ≤ decimal_limit
+    fits : {n : ℕ} → r ≡ Some n → n ≤ decimal_limit
     fits {n} k = omega (arith, small limit ds keep n (sym e ∙ k))
 
-module _ (w f : Text) (h : Digits (w ++ f)) (minus : Bool) (up down : ℕ) {plain : Bool} {r : Amount} where
+module _ (w f : Text) (h : Digits (w ++ f)) (minus : Bool) (up down : ℕ) {plain : Bool} {r : Answer.Option ℕ} where
   pub integer-asked : plain ≡ true → r ≡ whole_amount integer_limit (w ++ f) (length w + length f)
       → Asked r Term.integer minus (term_with plain minus (natural_of (w ++ f)) up (length f + down))
   unfolding term_with

@@ -1,11 +1,11 @@
 -- The number that some of a text's digits write, and the term of a numeral by its parts.
 use Rattle.std.specs.Prelude.{ℕ, zero, suc, ◌+◌, ◌*◌, ◌-◌, Bool, cond, eqb, leb, drop, get_or}
+use Rattle.std.specs.Prelude.{Some, None}
+use Rattle.std.specs.declared.option.Option as Answer
 use Rattle.std.proofs.Math.Option.{Option}
 use Rattle.definitions.specs.Lists.{every}
 use Rattle.definitions.specs.Terms.{Text, Term}
 use Rattle.definitions.specs.Numerals.{integer_term, decimal_term}
-use Rattle.number_terms.specs.declared.Amount.{Amount}
-use Rattle.number_terms.specs.declared.Amount.TheVariants.{Within, Outside}
 
 -- the digit at a place, 0 past the last
 abbrev pub digit_of : Text → ℕ → ℕ
@@ -20,12 +20,13 @@ front ds (suc i) = front ds i * 10 + digit_of ds i
 abbrev pub rest_zero : Text → (keep : ℕ) → Bool
 rest_zero ds keep = every (eqb 0x30) (drop keep ds)
 
-unfoldable pub amount_of : (limit n : ℕ) → Amount
-amount_of limit n = cond (leb n limit) (Within n) Outside
+-- a number, if it is within a limit
+unfoldable pub amount_of : (limit n : ℕ) → Answer.Option ℕ
+amount_of limit n = cond (leb n limit) (Some n) None
 
 -- the number that the first digits write, where no other digit counts
-unfoldable pub whole_amount : (limit : ℕ) → Text → (keep : ℕ) → Amount
-whole_amount limit ds keep = cond (rest_zero ds keep) (amount_of limit (front ds keep)) Outside
+unfoldable pub whole_amount : (limit : ℕ) → Text → (keep : ℕ) → Answer.Option ℕ
+whole_amount limit ds keep = cond (rest_zero ds keep) (amount_of limit (front ds keep)) None
 
 -- the term of a mantissa times a power of ten
 unfoldable pub term_with : (plain minus : Bool) → (m up down : ℕ) → Option Term

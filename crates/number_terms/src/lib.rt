@@ -2,6 +2,7 @@
 // is multiplied by ten.
 #![tactic(auto)]
 
+ghost use Rattle.definitions.specs.declared.Refusal.TheVariants.{NoSuchNumber};
 ghost use Rattle.std.specs.Prelude.{◌≡◌, ◌++◌, ◌+◌, ◌-◌, ◌≤◌, ◌<◌, length};
 ghost use Rattle.definitions.specs.Limits.{number_text_limit, decimal_limit};
 ghost use Rattle.definitions.specs.Bytes.{signed};
@@ -11,15 +12,8 @@ ghost use Rattle.definitions.specs.Result.{given};
 ghost use Rattle.number_parts.specs.Parts.{Digits, places_limit};
 ghost use Rattle.number_terms.specs.Amounts.{digit_of, front, rest_zero, amount_of, whole_amount, term_with};
 
-use definitions::{DECIMAL_LIMIT, INTEGER_LIMIT, NO_SUCH_NUMBER, NumberAnswer};
+use definitions::{DECIMAL_LIMIT, INTEGER_LIMIT, Number, NumberAnswer, Refusal};
 use number_parts::digit;
-
-// A number, if it is within a limit.
-#[derive(Clone, Copy)]
-pub enum Amount {
-    Within(u64),
-    Outside,
-}
 
 // A decimal counts millionths, the sixth digit after the point.
 const FRACTION_DIGITS: usize = 6;
@@ -40,23 +34,19 @@ fn digit_at(whole: &[u8], fraction: &[u8], i: usize) -> u64
 }
 
 // The number that the first digits write, if it is within a limit. Ruled out: a number that wraps; the digits past the last left out.
-fn first_digits(whole: &[u8], fraction: &[u8], keep: usize, limit: u64) -> Amount
+fn first_digits(whole: &[u8], fraction: &[u8], keep: usize, limit: u64) -> Option<u64>
     requires digits { Digits (whole.now ++ fraction.now) }
     requires limit_le_decimal_limit { limit ≤ decimal_limit }
     ensures { result ≡ amount_of limit (front (whole.now ++ fraction.now) keep) }
 {
-    let mut n: u64 = 0;
-    let mut i: usize = 0;
-    while i < keep {
-        let d = digit_at(whole, fraction, i);
-        let next = n * 10 + d;
-        if limit < next {
-            return Amount::Outside;
+    let mut n = 0;
+    for i in 0..keep {
+        n = n * 10 + digit_at(whole, fraction, i);
+        if limit < n {
+            return None;
         }
-        n = next;
-        i += 1;
     }
-    Amount::Within(n)
+    Some(n)
 }
 
 // Whether the digits after the first are all 0. Ruled out: 1e-7 read as 0; the last digit left out.
@@ -65,26 +55,24 @@ fn rest_is_zero(whole: &[u8], fraction: &[u8], keep: usize) -> bool
     ensures { result ≡ rest_zero (whole.now ++ fraction.now) keep }
 {
     let count = whole.len() + fraction.len();
-    let mut i = keep;
-    while i < count {
+    for i in keep..count {
         if digit_at(whole, fraction, i) != 0 {
             return false;
         }
-        i += 1;
     }
     true
 }
 
 // The number that the first digits write, where no other digit counts.
-fn whole_amount(whole: &[u8], fraction: &[u8], keep: usize, limit: u64) -> Amount
+fn whole_amount(whole: &[u8], fraction: &[u8], keep: usize, limit: u64) -> Option<u64>
     requires digits { Digits (whole.now ++ fraction.now) }
     requires limit_le_decimal_limit { limit ≤ decimal_limit }
     ensures { result ≡ whole_amount limit (whole.now ++ fraction.now) keep }
 {
-    if rest_is_zero(whole, fraction, keep) {
-        return first_digits(whole, fraction, keep, limit);
+    if !rest_is_zero(whole, fraction, keep) {
+        return None;
     }
-    Amount::Outside
+    first_digits(whole, fraction, keep, limit)
 }
 
 // How many digits write the millionths: those before the point as the exponent moves it, and six more.
@@ -92,8 +80,7 @@ fn kept(before: usize, up: usize, down: usize) -> usize
     requires { (before ≤ number_text_limit) × (up < places_limit) × (down < places_limit) }
     ensures { result ≡ before + (6 + up) - down }
 {
-    let most = before + (FRACTION_DIGITS + up);
-    if most < down { 0 } else { most - down }
+    (before + FRACTION_DIGITS + up).saturating_sub(down)
 }
 
 // A number with its sign, in two's complement. Ruled out: minus zero below zero; the sign left out.
@@ -105,7 +92,7 @@ fn with_sign(minus: bool, n: u64) -> u64
         return 0;
     }
     if minus {
-        return 18446744073709551615 - (n - 1);
+        return u64::MAX - (n - 1);
     }
     n
 }
@@ -122,18 +109,18 @@ pub fn term_of(
 ) -> NumberAnswer
     requires digits { Digits (whole.now ++ fraction.now) }
     requires up_lt_places_limit { (up < places_limit) × (down < places_limit) }
-    ensures { term_read result ≡ given 17 (term_with plain minus (natural_of (whole.now ++ fraction.now)) up (length fraction.now + down)) }
+    ensures { term_read result ≡ given NoSuchNumber (term_with plain minus (natural_of (whole.now ++ fraction.now)) up (length fraction.now + down)) }
 {
     if plain {
         let count = whole.len() + fraction.len();
-        let Amount::Within(n) = whole_amount(whole, fraction, count, INTEGER_LIMIT) else {
-            return NumberAnswer::Refused(NO_SUCH_NUMBER);
+        let Some(n) = whole_amount(whole, fraction, count, INTEGER_LIMIT) else {
+            return Err(Refusal::NoSuchNumber);
         };
-        return NumberAnswer::Integer(with_sign(minus, n));
+        return Ok(Number::Integer(with_sign(minus, n)));
     }
     let keep = kept(whole.len(), up, down);
-    let Amount::Within(n) = whole_amount(whole, fraction, keep, DECIMAL_LIMIT) else {
-        return NumberAnswer::Refused(NO_SUCH_NUMBER);
+    let Some(n) = whole_amount(whole, fraction, keep, DECIMAL_LIMIT) else {
+        return Err(Refusal::NoSuchNumber);
     };
-    NumberAnswer::Decimal(with_sign(minus, n))
+    Ok(Number::Decimal(with_sign(minus, n)))
 }

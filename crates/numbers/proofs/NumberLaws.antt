@@ -1,4 +1,7 @@
 -- Laws of reading a number: 16 by the part that is not there, and else the numeral by the offsets of its parts.
+use Rattle.definitions.specs.declared.Refusal.TheVariants.{BadNumberText, NoSuchNumber}
+use Rattle.std.specs.Prelude.{Some, None}
+use Rattle.std.specs.declared.option.Option as Answer
 use Prim.Native.Nat.{ℕ, ◌+◌, ◌-◌, ◌≤◌, ◌<◌}
 use native.Mathlib.Nat.{pow-le-pow_right}
 use native.Mathlib.Omega.{arith}
@@ -17,8 +20,6 @@ use Rattle.definitions.specs.Result.{refused, given}
 use Rattle.definitions.specs.Calls.{number_call}
 use Rattle.definitions.specs.Numerals.{exponent_digits, Exponent, Numeral, is_sign, is_minus, is_digit, after_sign, digits_at, fraction_at, exponent_at, numeral_of}
 use Rattle.definitions.specs.Numerals.{natural_of, fraction_digits, raised, lowered, is_plain, term_of}
-use Rattle.definitions.specs.declared.Read.{Read}
-use Rattle.definitions.specs.declared.Read.TheVariants.{Next, Malformed}
 use Rattle.laws.specs.ReadAnswers.{next_of}
 use Rattle.laws.proofs.Tests.{and_make, by-test}
 use Rattle.laws.proofs.Lists.{every_append}
@@ -26,10 +27,9 @@ use Rattle.laws.proofs.ReadAnswers.{next-got, next-lost}
 use Rattle.laws.proofs.Results.{given-refused, given-bind}
 use Rattle.laws.proofs.Numerals.{FractionAt, without-point, with-point, fraction-is, ExponentAt, without-exponent, with-exponent, exponent-is, numeral-made}
 use Rattle.number_parts.specs.declared.Shift.{Shift}
-use Rattle.number_parts.specs.declared.Shift.TheVariants as Shifts
 use Rattle.number_parts.specs.Parts.{Digits, places_limit, after_point, shift_of}
 use Rattle.number_terms.specs.Amounts.{term_with}
-use Rattle.number_parts.proofs.PartLaws.{Found, found}
+use Rattle.number_parts.proofs.PartLaws.{Found}
 use Rattle.number_terms.proofs.AmountLaws.{natural-less}
 
 -- ── a fraction and an exponent by their offsets ─────────────────────────────────────────────
@@ -80,15 +80,15 @@ plain-is t at mid n f e (with-point p h) x = ne_eqb at n (λ z. omega (arith, h.
 
 -- ── 16 ──────────────────────────────────────────────────────────────────────────────────────
 
-unread : (t : Text) → numeral_of t ≡ none → refused 16 ≡ number_call t
+unread : (t : Text) → numeral_of t ≡ none → refused BadNumberText ≡ number_call t
 unfolding number_call
-unread t e = sym (given-refused 16 (λ x. given 17 (term_of x)) e)
+unread t e = sym (given-refused BadNumberText (λ x. given NoSuchNumber (term_of x)) e)
 
-pub too_long : (t : Text) → number_text_limit < length t → refused 16 ≡ number_call t
+pub too_long : (t : Text) → number_text_limit < length t → refused BadNumberText ≡ number_call t
 unfolding numeral_of provided
 too_long t h = unread t (rw (lt-leb (length t) number_text_limit h))
 
-shift-lost : (o : Option (Option Exponent × ℕ)) → shift_of o ≡ Shifts.Malformed → o ≡ none
+shift-lost : (o : Option (Option Exponent × ℕ)) → shift_of o ≡ None → o ≡ none
 unfolding shift_of
 shift-lost none e = refl
 shift-lost (some x) e = let z : ◌≡◌ {A = ℕ} 0 1 = cc in absurd (omega arith)
@@ -110,21 +110,26 @@ pub record ExponentRead (t : Text) (tail up down end : ℕ) : Type 0 where
   pub up_is : up ≡ raised exponent
   pub down_is : down ≡ lowered exponent
 
-pub fraction-read : {t : Text} {start point tail : ℕ} {r : Read} → WholeRead t start point → r ≡ next_of (fraction_at t point) → r ≡ Next tail → FractionRead t start point tail
+pub fraction-read : {t : Text} {start point tail : ℕ} {r : Answer.Option ℕ} → WholeRead t start point → r ≡ next_of (fraction_at t point) → r ≡ Some tail → FractionRead t start point tail
 fraction-read {t} {point = point} w e h = let g = next-got (fraction_at t point) (sym e ∙ h) in record { whole = w; fraction = g.0; read = g.1 }
 
-pub exponent-read : {t : Text} {tail up down end : ℕ} {r : Shift} → r ≡ shift_of (exponent_at t tail) → r ≡ Shifts.By up down end → ExponentRead t tail up down end
+pub exponent-read : {t : Text} {tail up down end : ℕ} {r : Answer.Option Shift} → r ≡ shift_of (exponent_at t tail) → r ≡ Some (record { up = up; down = down; after = end }) → ExponentRead t tail up down end
 unfolding shift_of
 exponent-read {t} {tail} {up} {down} {end} {r} e h = go (exponent_at t tail) refl (sym e ∙ h)
   where
-    go : (o : Option (Option Exponent × ℕ)) → exponent_at t tail ≡ o → shift_of o ≡ Shifts.By up down end → ExponentRead t tail up down end
+    go : (o : Option (Option Exponent × ℕ)) → exponent_at t tail ≡ o → shift_of o ≡ Some (record { up = up; down = down; after = end }) → ExponentRead t tail up down end
     go none q k = let z : ◌≡◌ {A = ℕ} 0 1 = cc in absurd (omega arith)
     go (some x) q k =
-        let n : x.1 ≡ end = cc in
-        record { exponent = x.0; read = q ∙ ap (λ m. some (x.0, m)) n; up_is = sym (cc); down_is = sym (cc) }
+        let same : ◌≡◌ {A = Shift} (record { up = raised x.0; down = lowered x.0; after = x.1 }) (record { up = up; down = down; after = end }) = cc in
+        record {
+          exponent = x.0;
+          read = q ∙ ap (λ (r : Shift). some (x.0, r.after)) same;
+          up_is = sym (ap (λ (r : Shift). r.up) same);
+          down_is = sym (ap (λ (r : Shift). r.down) same);
+        }
 
-pub no_whole : (t : Text) {start : ℕ} {r : Read} → length t ≤ number_text_limit → start ≡ after_sign t 0 → r ≡ next_of (digits_at number_text_limit t start) → r ≡ Malformed
-    → refused 16 ≡ number_call t
+pub no_whole : (t : Text) {start : ℕ} {r : Answer.Option ℕ} → length t ≤ number_text_limit → start ≡ after_sign t 0 → r ≡ next_of (digits_at number_text_limit t start) → r ≡ None
+    → refused BadNumberText ≡ number_call t
 unfolding numeral_of provided onward
 no_whole t {start} l s e h =
     let z = ap (digits_at number_text_limit t) (sym s) ∙ next-lost (digits_at number_text_limit t start) (sym e ∙ h) in
@@ -137,16 +142,16 @@ module _ {t : Text} {start point : ℕ} (w : WholeRead t start point) where
   whole_is : digits_at number_text_limit t (after_sign t 0) ≡ some (w.found.digits, point)
   whole_is = ap (digits_at number_text_limit t) (sym w.from) ∙ w.found.read
 
-  pub bad-fraction : {r : Read} → r ≡ next_of (fraction_at t point) → r ≡ Malformed → refused 16 ≡ number_call t
+  pub bad-fraction : {r : Answer.Option ℕ} → r ≡ next_of (fraction_at t point) → r ≡ None → refused BadNumberText ≡ number_call t
   unfolding numeral_of provided onward
   bad-fraction e h = unread t (rw (short, whole_is, next-lost (fraction_at t point) (sym e ∙ h)))
 
 module _ {t : Text} {start point tail : ℕ} (f : FractionRead t start point tail) where
-  pub bad-exponent : {r : Shift} → r ≡ shift_of (exponent_at t tail) → r ≡ Shifts.Malformed → refused 16 ≡ number_call t
+  pub bad-exponent : {r : Answer.Option Shift} → r ≡ shift_of (exponent_at t tail) → r ≡ None → refused BadNumberText ≡ number_call t
   unfolding numeral_of provided onward
   bad-exponent e h = unread t (rw (short f.whole, whole_is f.whole, f.read, shift-lost (exponent_at t tail) (sym e ∙ h)))
 
-  pub more-after : {up down end : ℕ} → ExponentRead t tail up down end → (end ≡ length t → ⊥) → refused 16 ≡ number_call t
+  pub more-after : {up down end : ℕ} → ExponentRead t tail up down end → (end ≡ length t → ⊥) → refused BadNumberText ≡ number_call t
   unfolding numeral_of provided onward
   more-after {end = end} x h = unread t (rw (short f.whole, whole_is f.whole, f.read, x.read, ne_eqb end (length t) h))
 
@@ -158,7 +163,7 @@ pub record Placed (t : Text) (start point first tail up down end : ℕ) : Type 0
   pub digits : Digits (take (point - start) (drop start t) ++ take (tail - first) (drop first t))
   pub few : (up < places_limit) × (down < places_limit)
   pub is : {b : ℕ} → b ≡ byte t 0
-      → given 17 (term_with (eqb point end) (is_minus b) (natural_of (take (point - start) (drop start t) ++ take (tail - first) (drop first t))) up
+      → given NoSuchNumber (term_with (eqb point end) (is_minus b) (natural_of (take (point - start) (drop start t) ++ take (tail - first) (drop first t))) up
       (length (take (tail - first) (drop first t)) + down)) ≡ number_call t
 
 pub placed : {t : Text} {start point first tail up down end : ℕ} → FractionRead t start point tail → ExponentRead t tail up down end → end ≡ length t
@@ -192,6 +197,6 @@ placed {t} {point = point} {first = first} {tail = tail} {end = end} f x last q 
       });
       few = (omega (arith, x.up_is, X.few), omega (arith, x.down_is, X.few));
       is = λ {b} m.
-          ap (given 17) (λ i. term_with (plain i) (is_minus (m i)) (natural_of (w.between i ++ fraction-text i)) (x.up_is i) (length (fraction-text i) + x.down_is i))
-          ∙ sym (given-bind 16 (λ y. given 17 (term_of y)) read);
+          ap (given NoSuchNumber) (λ i. term_with (plain i) (is_minus (m i)) (natural_of (w.between i ++ fraction-text i)) (x.up_is i) (length (fraction-text i) + x.down_is i))
+          ∙ sym (given-bind BadNumberText (λ y. given NoSuchNumber (term_of y)) read);
     }

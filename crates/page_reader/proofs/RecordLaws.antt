@@ -1,4 +1,5 @@
 -- Laws of a page record: a good one lies within the page, and ends where the definition says.
+use Rattle.std.specs.Prelude.{Some}
 use Prim.Native.Nat.{ℕ, ◌+◌, ◌-◌, ◌≤◌}
 use mathlib.Core.Bool.{true}
 use mathlib.Core.List.{List}
@@ -10,7 +11,6 @@ use Rattle.definitions.specs.Limits.{object_offset}
 use Rattle.definitions.specs.Bytes.{byte}
 use Rattle.definitions.specs.Types.{Datatype}
 use Rattle.definitions.specs.Terms.{Triple, body_width, of_term_kind, of_page_kind, kind_rows, read_triple}
-use Rattle.definitions.specs.declared.Read.TheVariants as Read
 use Rattle.laws.specs.Records.{TripleAt}
 use Rattle.laws.specs.ReadAnswers.{is_some, next_of}
 use Rattle.laws.proofs.Options.{some-not-none}
@@ -57,7 +57,7 @@ module _ (page : List ℕ) (at : ℕ) (g : is_some (read_triple page at) ≡ tru
     end : at + object_offset + w ≡ found.0.1
     end = end_is page at found.0.1 found.0.0 holds w e
 
-    pub triple-ends : Read.Next (at + object_offset + w) ≡ next_of (read_triple page at)
+    pub triple-ends : Some (at + object_offset + w) ≡ next_of (read_triple page at)
     triple-ends = rw end (leaf-ends found.1)
 
     pub triple-fits : at + object_offset + w ≤ length page

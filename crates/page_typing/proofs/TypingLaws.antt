@@ -65,6 +65,10 @@ module _ (schema page : List ℕ) (S : Schema) (at next : ℕ) (x : Triple) (e :
       let d = says-datatype r.datatype (part page (at + object_offset) (body_width r.datatype)) x.object r.object in
       ap₂ code_leq (g ∙ ap datatype_code (sym d)) w ∙ codes-fit S (datatype_in S x.property) x.object
 
+  -- where the property has no entry
+  pub untyped : schema_code (read_schema schema) (uri_text (take (at + object_offset - (at + property_offset)) (drop (at + property_offset) page))) ≡ 0 → false ≡ well_typed S x
+  untyped z = sym (datatype-equal (λ d. code_leq (datatype_code d) 0) (λ d. false) tt r.datatype) ∙ typed-is 0 (datatype_code r.datatype) (sym z) refl
+
 -- the codes of the five kinds
 pub code_is : (k : ℕ) (key : ℕ) (d : Datatype) → k ≡ key → of_page_kind key ≡ some d → (e : Datatype) → of_page_kind k ≡ some e → datatype_code d ≡ datatype_code e
 code_is k key d q h e f = ap datatype_code (some_is (sym h ∙ (ap of_page_kind (sym q) ∙ f)))

@@ -42,7 +42,9 @@ pub fn well_typed(page: &[u8], at: usize, next: usize, schema: &[u8], entries: &
     let last = at + OBJECT_OFFSET;
     let slot = slot_of(0x11, &page[middle..last]);
     let hash = hash_of(&slot);
-    let wanted = datatype_of(schema, entries, &page[middle..last], hash);
+    let Some(wanted) = datatype_of(schema, entries, &page[middle..last], hash) else {
+        return false;
+    };
     let given = object_code(page[at]);
     has_type(given, wanted)
 }

@@ -1,4 +1,6 @@
 -- Laws of writing records and pages, over plain lists and numbers.
+use Rattle.definitions.specs.declared.Refusal.TheVariants.{ShortBuffer}
+use Rattle.std.specs.Prelude.{Ok, Err}
 use Prim.Native.Nat.{ℕ, ◌+◌, ◌-◌, ◌*◌, ◌≤◌, ◌<◌}
 use mathlib.Core.Path.{◌≡◌, refl, ap, sym, ◌∙◌, subst}
 use mathlib.Core.List.{List, [], ◌∷◌, ◌++◌, map, append_assoc, append-nil}
@@ -17,7 +19,6 @@ use Rattle.definitions.specs.Lists.{every}
 use Rattle.definitions.specs.Publish.{page_of}
 use Rattle.definitions.specs.Result.{passed}
 use Rattle.definitions.specs.Calls.{publish_result}
-use Rattle.definitions.specs.declared.PublishAnswer.TheVariants as PublishAnswers
 use Rattle.laws.specs.ReadAnswers.{is_some}
 use Rattle.laws.proofs.Bytes.{part_length}
 use Rattle.laws.proofs.Slots.{kind-inv}
@@ -200,13 +201,13 @@ module _ (t ks : List ℕ) where
     page-out out h = h ∙ ap (λ l. keys_page t l ++ drop (length (keys_page t l)) out) e
 
 module _ (page out : List ℕ) where
-  pub too_short : length out < length page → publish_result out (fitted page (length out)) ≡ record { returned = PublishAnswers.Refused 23; page = out }
+  pub too_short : length out < length page → publish_result out (fitted page (length out)) ≡ record { returned = Err ShortBuffer; page = out }
   unfolding fitted publish_result
-  too_short h = ap (publish_result out) (require-refused 23 (passed page) (lt-leb (length page) (length out) h))
+  too_short h = ap (publish_result out) (require-refused ShortBuffer (passed page) (lt-leb (length page) (length out) h))
 
   pub it-fits : length page ≤ length out → {n : ℕ} {out' : List ℕ} → n ≡ length page → out' ≡ page ++ drop (length page) out
-      → publish_result out (fitted page (length out)) ≡ record { returned = PublishAnswers.Published n; page = out' }
+      → publish_result out (fitted page (length out)) ≡ record { returned = Ok n; page = out' }
   unfolding fitted publish_result
   it-fits h en eo =
-      ap (publish_result out) (require-after 23 (leb (length page) (length out)) (passed page) (le→leb (length page) (length out) h))
-      ∙ (λ i. record { returned = PublishAnswers.Published (sym en i); page = sym eo i })
+      ap (publish_result out) (require-after ShortBuffer (leb (length page) (length out)) (passed page) (le→leb (length page) (length out) h))
+      ∙ (λ i. record { returned = Ok (sym en i); page = sym eo i })

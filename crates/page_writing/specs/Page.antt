@@ -1,4 +1,5 @@
 -- The page of keys: their records one after the other; sorted; and whether it fits a buffer.
+use Rattle.definitions.specs.declared.Refusal.TheVariants.{ShortBuffer}
 use Rattle.std.specs.Prelude.{ℕ, List, map, leb, length}
 use Rattle.definitions.specs.Publish.{page_of}
 use Rattle.definitions.specs.Result.{Result, passed, ◌>>◌, require}
@@ -13,4 +14,4 @@ sorted_page table ks = keys_page table (sort (key_le table) ks)
 
 -- 23: a buffer shorter than the page
 unfoldable pub fitted : (page : List ℕ) → (room : ℕ) → Result (List ℕ)
-fitted page room = require 23 (leb (length page) room) >> passed page
+fitted page room = require ShortBuffer (leb (length page) room) >> passed page

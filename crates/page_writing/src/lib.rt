@@ -8,7 +8,7 @@ ghost use Rattle.record_order.specs.Records.{body_of_slot, slot_in, key_record, 
 ghost use Rattle.definitions.specs.Calls.{publish_result};
 ghost use Rattle.page_writing.specs.Page.{keys_page, sorted_page, fitted};
 
-use definitions::{OBJECT_OFFSET, PublishAnswer, QUAD_LIMIT, SHORT_BUFFER, SLOT_WIDTH, TEXT_WIDTH};
+use definitions::{OBJECT_OFFSET, PublishAnswer, QUAD_LIMIT, Refusal, SLOT_WIDTH, TEXT_WIDTH};
 use keys::{object_of, property_of, subject_of};
 use output::{put_byte, put_text};
 use sorting::merging::sort_keys;
@@ -64,10 +64,8 @@ pub fn page_length(table: &[u8], keys: &[u64]) -> usize
     ensures upper_bound { result ≤ 262144 }
 {
     let mut size = 0;
-    let mut i = 0;
-    while i < keys.len() {
-        size += record_length(table, keys[i]);
-        i += 1;
+    for &key in keys {
+        size += record_length(table, key);
     }
     size
 }
@@ -80,10 +78,8 @@ pub fn write_page(table: &[u8], keys: &[u64], out: &mut [u8])
         ++ drop (length (keys_page table.now keys.now)) out.old }
 {
     let mut at = 0;
-    let mut i = 0;
-    while i < keys.len() {
-        at = put_record(table, keys[i], out, at);
-        i += 1;
+    for &key in keys {
+        at = put_record(table, key, out, at);
     }
 }
 
@@ -100,8 +96,8 @@ pub fn publish_keys(table: &[u8], keys: &mut [u64], out: &mut [u8]) -> PublishAn
     sort_keys(table, keys, &mut spare[0..n]);
     let size = page_length(table, keys);
     if out.len() < size {
-        return PublishAnswer::Refused(SHORT_BUFFER);
+        return Err(Refusal::ShortBuffer);
     }
     write_page(table, keys, out);
-    PublishAnswer::Published(size as u32)
+    Ok(size as u32)
 }

@@ -1,11 +1,12 @@
 -- Laws of a page call: the copies it works on, its limits, and the saved store after it.
+use Rattle.std.specs.Prelude.{Ok}
 use Prim.Native.Nat.{ℕ, ◌+◌, ◌≤◌, ◌<◌}
 use native.Mathlib.Omega.{arith}
 use mathlib.Core.Path.{◌≡◌, refl, ap, sym, ◌∙◌}
 use mathlib.Core.List.{List, [], ◌∷◌, ◌++◌}
 use mathlib.Core.Bool.{Bool, true, false, cond, ◌&&◌, ◌||◌, and-false}
 use lib.Dec.{leb, ltb}
-use lib.ListN.{length, take, drop, replicate, length-append}
+use lib.ListN.{length, take, replicate, length-append}
 use borrow.Author.Tests.{le-leb, lt-leb, ltb-true, ltb-false}
 use Rattle.definitions.specs.Limits.{term_limit, quad_limit, graph_limit, term_table_width, quad_table_width}
 use Rattle.definitions.specs.Lists.{is_in}
@@ -15,12 +16,11 @@ use Rattle.definitions.specs.Evaluate.{Quad}
 use Rattle.definitions.specs.Machine.{Store, Taken, take_all, taken, with_page, joined, in_limits, in_order}
 use Rattle.definitions.specs.Saved.{term_table, quad_table, quad_bytes, quads_from}
 use Rattle.definitions.specs.declared.SavedStore.{SavedStore}
-use Rattle.definitions.specs.declared.PageAnswer.TheVariants as PageAnswers
 use Rattle.laws.specs.Lists.{All}
 use Rattle.laws.specs.Quads.{Small}
-use Rattle.laws.proofs.Tables.{quad-table-length}
 use Rattle.keys.specs.Keys.{keys_from, rows_from, rising, keys_of}
 use Rattle.keys.proofs.Quads.{order-rises}
+use Rattle.keys.proofs.Rise.{keys-all, keys-front}
 use Rattle.key_merging.specs.Inserted.{insert_all}
 use Rattle.ordering.specs.Sets.{others, apart, Gathered}
 use Rattle.ordering.proofs.Gathering.{gathered_none, apart-small, apart-order, page-count, page-rows}
@@ -30,7 +30,6 @@ use Rattle.store.specs.Graphs.{graph_fits, paged}
 use Rattle.table.specs.Table.{HeldTerms}
 use Rattle.pages.specs.Page.{HeldQuads, HeldTaken, Took}
 use Rattle.pages.specs.Taking.{start_of, HeldStore, PageDone, refused_page, taken_page}
-use Rattle.records.proofs.NumberingLaws.{held-width}
 use Rattle.pages.proofs.TakeLaws.{quads-are}
 
 -- ── the copies ──────────────────────────────────────────────────────────────────────────────
@@ -64,15 +63,26 @@ module _ (table : List ℕ) (n : ℕ) (qs : List Quad) (h : HeldQuads table n qs
     held-rise = ap rising held-keys ∙ (sym (order-rises qs h.small) ∙ h.order)
 
     -- with the page's keys put in
-    pub ordered : (g m r : ℕ) (fresh after-keys : List ℕ) (after : List Quad) → Gathered (apart g qs) fresh m after
-        → keys_from r after-keys 0 ≡ insert_all (keys_from m fresh 0) (others g (keys_from n keys 0)) → (r ≡ length after) × (rows_from r after-keys 0 ≡ after)
-    ordered g m r fresh after-keys after k d = (
-      page-count g qs keys fresh after-keys n m r after h.small held-keys k d,
-      page-rows g qs keys fresh after-keys n m r after h.small held-keys k d,
-    )
+    pub ordered : (g r : ℕ) (fresh after-keys : List ℕ) (after : List Quad) → Gathered (apart g qs) fresh (length fresh) after
+        → keys_from r after-keys 0 ≡ insert_all fresh (others g (keys_from n keys 0)) → (r ≡ length after) × (rows_from r after-keys 0 ≡ after)
+    ordered g r fresh after-keys after k e =
+        let d = e ∙ ap (λ ks. insert_all ks (others g (keys_from n keys 0))) (sym (keys-all fresh)) in (
+          page-count g qs keys fresh after-keys n (length fresh) r after h.small held-keys k d,
+          page-rows g qs keys fresh after-keys n (length fresh) r after h.small held-keys k d,
+        )
 
   pub apart-held : (g : ℕ) → (in_order (apart g qs) ≡ true) × All Small (apart g qs)
   apart-held g = (apart-order g qs h.order, apart-small g qs h.small)
+
+-- a page's keys as a list of their own
+pub gathered-front : (base : List Quad) (fresh : List ℕ) (m : ℕ) (qs : List Quad) → m ≤ length fresh → Gathered base fresh m qs
+    → Gathered base (take m fresh) (length (take m fresh)) qs
+gathered-front base fresh m qs h g = record {
+  order = g.order;
+  small = g.small;
+  all_small = g.all_small;
+  keys = g.keys ∙ ap (λ ks. insert_all ks (keys_of base)) (keys-front fresh m h ∙ sym (keys-all (take m fresh)));
+}
 
 -- what is taken beside the quads of other graphs is what the machine takes
 pub took_of : (S : Schema) (g : ℕ) (rs : List Triple) (σ : Store) (t q : List ℕ) (n : ℕ) (store : SavedStore) → HeldStore t q n store σ → (t' f : List ℕ) (c : Counts)
@@ -170,14 +180,14 @@ module _ (S : Schema) (g : ℕ) (rs : List Triple) (σ : Store) (store : SavedSt
 
       pub done : length t ≡ term_table_width → length q ≡ quad_table_width → count ≤ quad_limit → length (joined g σ.fetched) ≤ graph_limit
           → (q' t'' q'' : List ℕ) → q' ≡ quad_table (rows_from count keys 0) → t'' ≡ t' → q'' ≡ q' → (after : SavedStore) → after ≡ paged store g count
-          → PageDone S g rs σ store t q (record { answer = PageAnswers.Taken c.skipped; store = after }) t'' q''
+          → PageDone S g rs σ store t q (record { answer = Ok c.skipped; store = after }) t'' q''
       done wt wq room graphs q' t'' q'' written e f after s =
           let h = took.held few in
           let is : q' ≡ quad_table (taken S g rs σ).quads = written ∙ ap quad_table (sorted (taken S g rs σ).quads h.quads).1 in
           let all : in_limits (with_page g (taken S g rs σ) σ) ≡ true =
           all_fit S g rs σ (omega (arith, h.terms.count)) (omega (arith, counted)) graphs in
-          let answer : record { answer = PageAnswers.Taken c.skipped; store = after } ≡ taken_page store g (taken S g rs σ) =
-          λ i. record { answer = PageAnswers.Taken (h.skipped i); store = (s ∙ ap (paged store g) counted) i } in
+          let answer : record { answer = Ok c.skipped; store = after } ≡ taken_page store g (taken S g rs σ) =
+          λ i. record { answer = Ok (h.skipped i); store = (s ∙ ap (paged store g) counted) i } in
           record {
             answer = answer ∙ sym (ap (λ (b : Bool). cond b (taken_page store g (taken S g rs σ)) (refused_page store)) all);
             term_bytes = e ∙ (h.terms.is ∙ sym (ap (λ (b : Bool). cond b (term_table (taken S g rs σ).terms) t) all));

@@ -1,4 +1,5 @@
 -- Laws of a page record that is taken in: its bodies, the numbers of its terms, its quad; and of record after record.
+use Rattle.std.specs.Prelude.{Some}
 use Prim.Native.Nat.{ℕ, ◌+◌, ◌-◌, ◌*◌, ◌≤◌, ◌<◌}
 use native.Mathlib.Omega.{arith}
 use native.Mathlib.Numerals.{add-one}
@@ -12,7 +13,7 @@ use Rattle.definitions.specs.Limits.{text_width, property_offset, object_offset,
 use Rattle.pages.specs.Room.{least_record_width}
 use Rattle.definitions.specs.Bytes.{byte, part, all_zero, in_front}
 use Rattle.definitions.specs.Types.{Datatype}
-use Rattle.definitions.specs.Terms.{Term, Schema, Triple, datatype, body_width, term_of_body, uri_text}
+use Rattle.definitions.specs.Terms.{Term, Schema, Triple, body_width, term_of_body, uri_text}
 use Rattle.definitions.specs.Terms.{read_schema, read_triple, read_page}
 use Rattle.definitions.specs.Evaluate.{Quad}
 use Rattle.definitions.specs.Machine.{Taken, skip, store, take_one, take_all, numbered, well_typed}
@@ -25,7 +26,6 @@ use Rattle.laws.proofs.TermNumbers.{number-extends, extends-length}
 use Rattle.laws.specs.Quads.{Small}
 use Rattle.keys.specs.Keys.{key_of}
 use Rattle.laws.proofs.Tables.{quads-of, quad-table-length}
-use Rattle.definitions.specs.declared.Read.TheVariants as Read
 use Rattle.laws.specs.ReadAnswers.{is_some, next_of}
 use Rattle.laws.proofs.ReadAnswers.{next-got}
 use Rattle.laws.proofs.Bytes.{part_length}
@@ -257,7 +257,7 @@ module _ (page : List ℕ) (S : Schema) (g at : ℕ) (t f : List ℕ) (others : 
     left-reads = ap is_some left_one.read
 
     -- its end, as the code finds it
-    module _ (n : ℕ) (end : Read.Next n ≡ next_of (read_triple page at)) where
+    module _ (n : ℕ) (end : Some n ≡ next_of (read_triple page at)) where
       pub end-next : n ≡ left_one.next
       end-next = let r = next-got (read_triple page at) (sym end) in (pair_is (sym r.1 ∙ left_one.read)).1
 
@@ -270,7 +270,7 @@ module _ (page : List ℕ) (S : Schema) (g at : ℕ) (t f : List ℕ) (others : 
     leads-on = l.leads ∙ ap (λ (rs : List Triple). take_all S g rs l.so_far) (left_one h).all
 
     -- there was room
-    pub left-next : (n : ℕ) → Read.Next n ≡ next_of (read_triple page at) → c'.terms ≤ term_limit → Left page S g n t' f' others c' final
+    pub left-next : (n : ℕ) → Some n ≡ next_of (read_triple page at) → c'.terms ≤ term_limit → Left page S g n t' f' others c' final
     left-next n end few =
         subst (λ (m : ℕ). Left page S g m t' f' others c' final) (sym (end-next h n end))
         (record { rest = (left_one h).later; so_far = take_one S g (left_one h).triple l.so_far; reads = (left_one h).after; holds = took.held few; leads = leads-on })

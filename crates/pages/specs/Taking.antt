@@ -1,4 +1,6 @@
 -- What a page call leaves in the saved store and in both tables.
+use Rattle.definitions.specs.declared.Refusal.TheVariants.{NoRoom}
+use Rattle.std.specs.Prelude.{Ok, Err}
 use Rattle.std.specs.Prelude.{ℕ, ◌≤◌, cond, List, ◌≡◌, length}
 use Rattle.definitions.specs.Limits.{graph_limit}
 use Rattle.definitions.specs.Terms.{Term, Schema, Triple}
@@ -6,7 +8,6 @@ use Rattle.definitions.specs.Evaluate.{Quad}
 use Rattle.definitions.specs.Machine.{Store, Taken, taken, with_page, in_limits}
 use Rattle.definitions.specs.Saved.{term_table, quad_table}
 use Rattle.definitions.specs.declared.SavedStore.{SavedStore}
-use Rattle.definitions.specs.declared.PageAnswer.TheVariants as PageAnswers
 use Rattle.store.specs.Graphs.{fetched_in, paged}
 use Rattle.pages.specs.declared.AfterPage.{AfterPage}
 use Rattle.table.specs.Table.{HeldTerms}
@@ -29,10 +30,10 @@ HeldTables term_bytes quad_bytes n store = (σ : Store) × HeldStore term_bytes 
 
 -- 14, and the saved store as it was
 abbrev pub refused_page : SavedStore → AfterPage
-refused_page store = record { answer = PageAnswers.Refused 14; store = store }
+refused_page store = record { answer = Err NoRoom; store = store }
 
 abbrev pub taken_page : SavedStore → (graph : ℕ) → Taken → AfterPage
-taken_page store g k = record { answer = PageAnswers.Taken k.skipped; store = paged store g (length k.quads) }
+taken_page store g k = record { answer = Ok k.skipped; store = paged store g (length k.quads) }
 
 -- what the machine holds after the page, where no limit is passed; else what there was
 pub record PageDone (S : Schema) (g : ℕ) (rs : List Triple) (σ : Store) (store : SavedStore) (terms₀ quads₀ : List ℕ) (r : AfterPage) (terms₁ quads₁ : List ℕ) : Type 0 where

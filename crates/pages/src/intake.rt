@@ -17,7 +17,7 @@ ghost use Rattle.pages.specs.Taking.{start_of, HeldStore, HeldTables, PageDone, 
 use crate::triples::take_triples;
 use crate::{AfterPage, Counts, GATHERED_LIMIT, RECORD_LIMIT};
 use definitions::{
-    PageAnswer, QUAD_LIMIT, QUAD_TABLE_WIDTH, SavedStore, TERM_LIMIT, TERM_TABLE_WIDTH,
+    QUAD_LIMIT, QUAD_TABLE_WIDTH, Refusal, SavedStore, TERM_LIMIT, TERM_TABLE_WIDTH,
 };
 use ordering::take_page;
 use quad_table::{read_keys, write_keys};
@@ -27,7 +27,7 @@ fn refused(store: SavedStore) -> AfterPage
     ensures { result ≡ refused_page store }
 {
     AfterPage {
-        answer: PageAnswer::Refused(14),
+        answer: Err(Refusal::NoRoom),
         store,
     }
 }
@@ -69,18 +69,18 @@ fn put_in_order(
     count: usize,
     graph: u16,
     fresh: &mut [u64],
-    m: usize,
     keys: &mut [u64],
 ) -> usize
     requires held_some { HeldSome stored.now count }
-    requires m_le_record_limit { (m ≤ record_limit) × (length fresh.old ≡ record_limit) × (length keys.old ≡ gathered_limit) }
-    ensures value { (qs after : List Quad) → HeldQuads stored.now count qs → Gathered (apart graph qs) fresh.old m after
+    requires fresh_len_bound { length fresh.old ≤ record_limit }
+    requires keys_len { length keys.old ≡ gathered_limit }
+    ensures value { (qs after : List Quad) → HeldQuads stored.now count qs → Gathered (apart graph qs) fresh.old (length fresh.old) after
         → (result ≡ length after) × (rows_from result keys.new 0 ≡ after) }
     ensures upper_bound { result ≤ gathered_limit }
 {
     let mut work = [0u64; GATHERED_LIMIT];
     read_keys(stored, count, keys);
-    take_page(keys, count, graph as u64, fresh, m, &mut work)
+    take_page(keys, count, graph as u64, fresh, &mut work)
 }
 
 // Takes a page in: the skipped count, the saved store and both tables after it, or refusal 14.
@@ -116,18 +116,18 @@ pub fn take_in(
     }
     let mut keys = [0u64; GATHERED_LIMIT];
     let old = store.quads as usize;
-    let count = put_in_order(stored, old, graph, &mut fresh, end.keys, &mut keys);
+    let count = put_in_order(stored, old, graph, &mut fresh[..end.keys], &mut keys);
     let too_many = QUAD_LIMIT < count;
     if too_many {
         return refused(store);
     }
     let mut quads = [0u8; QUAD_TABLE_WIDTH];
-    write_keys(&keys, count, &mut quads);
+    write_keys(&keys[..count], &mut quads);
     lent.copy_from_slice(&terms);
     stored.copy_from_slice(&quads);
     let after = with_page(store, graph, count as u16);
     AfterPage {
-        answer: PageAnswer::Taken(end.skipped),
+        answer: Ok(end.skipped),
         store: after,
     }
 }

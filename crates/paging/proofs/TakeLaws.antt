@@ -1,4 +1,8 @@
 -- A page that has passed refusals 1 to 13, taken in: what the machine's part is lent, and what its result means for the call.
+use Rattle.std.specs.Prelude.{Ok, Err}
+use Rattle.definitions.specs.declared.Refusal.{Refusal}
+use Rattle.definitions.specs.declared.Refusal.TheVariants.{NoRoom}
+use Rattle.definitions.specs.Result.{OrRefusal}
 use Prim.Native.Nat.{ℕ, ◌-◌, ◌≤◌, ◌<◌}
 use native.Mathlib.Omega.{arith}
 use mathlib.Core.Path.{◌≡◌, refl, sym, ap, subst, ◌∙◌}
@@ -20,7 +24,6 @@ use Rattle.definitions.specs.declared.SavedControl.{SavedControl}
 use Rattle.definitions.specs.declared.SavedStore.{SavedStore}
 use Rattle.definitions.specs.declared.SavedRun.{SavedRun}
 use Rattle.definitions.specs.declared.Paged.{Paged}
-use Rattle.definitions.specs.declared.PageAnswer.TheVariants as PageAnswers
 use Rattle.laws.proofs.Tests.{is_true, true_is, and_right}
 use Rattle.laws.proofs.Bytes.{AreBytes}
 use Rattle.laws.proofs.Bindings.{is_below}
@@ -36,7 +39,7 @@ use Rattle.pages.specs.Page.{PageReads, Reads}
 use Rattle.pages.specs.Taking.{HeldStore, HeldTables, PageDone, taken_page, refused_page as not_taken}
 use Rattle.pages.proofs.DoneLaws.{no_room}
 use Rattle.store.proofs.GraphLaws.{saved-paged}
-use Rattle.paging.specs.Refused.{refused_paged}
+use Rattle.paging.specs.Refused.{handed_back}
 use Rattle.lengths.specs.Lent.{lent_of}
 use Rattle.paging.specs.Passed.{Passed}
 use Rattle.lengths.proofs.TableLaws.{fit-both}
@@ -47,8 +50,11 @@ a-term : (o : Option Term) → is_graph o ≡ true → (t : Term) × (o ≡ some
 a-term none e = absurd (let z : ◌≡◌ {A = ℕ} 0 1 = cc in omega arith)
 a-term (some t) e = (t, refl)
 
-taken_refused : {m n : ℕ} → PageAnswers.Taken m ≡ PageAnswers.Refused n → ⊥
+taken_refused : {m : ℕ} {n : Refusal} → ◌≡◌ {A = OrRefusal ℕ} (Ok m) (Err n) → ⊥
 taken_refused e = let z : ◌≡◌ {A = ℕ} 0 1 = cc in omega arith
+
+same-refusal : {m n : Refusal} → ◌≡◌ {A = OrRefusal ℕ} (Err m) (Err n) → m ≡ n
+same-refusal e = cc
 
 over-limits : (g : ℕ) (k : Taken) (σ : Store) → in_limits (with_page g k σ) ≡ true → graph_limit < length (joined g σ.fetched) → ⊥
 unfolding in_limits with_page
@@ -167,25 +173,26 @@ module _ (ranks terms schema script table store : List ℕ) (saved : SavedRun) (
       )
 
       -- 14
-      pub not_taken_lem : (m : ℕ) → r.answer ≡ PageAnswers.Refused m → {r' : Paged} → r' ≡ refused_paged saved 14
-          → page_call l saved g page ≡ record { returned = r'; term_table = table₁; quad_table = store₁ }
-      not_taken_lem m h {r'} e = go fits refl
+      pub not_taken_lem : {m : Refusal} → r.answer ≡ Err m → {r' : OrRefusal Paged} → r' ≡ Err m
+          → page_call l saved g page ≡ record { returned = handed_back saved r'; term_table = table₁; quad_table = store₁ }
+      not_taken_lem {m} h {r'} e = go fits refl
         where
-          go : (b : Bool) → fits ≡ b → page_call l saved g page ≡ record { returned = r'; term_table = table₁; quad_table = store₁ }
+          go : (b : Bool) → fits ≡ b → page_call l saved g page ≡ record { returned = handed_back saved r'; term_table = table₁; quad_table = store₁ }
           go true f = absurd (taken_refused (sym (ap (λ (r : AfterPage). r.answer) (by-limits true f).0) ∙ h))
           go false f =
+              let same : r' ≡ Err NoRoom = e ∙ ap Err (same-refusal (sym h ∙ ap (λ (r : AfterPage). r.answer) (by-limits false f).0)) in
               refused-14 l saved g page p.found p.entered p.is_uri p.triples p.reads f
-              ∙ (λ i. record { returned = sym e i; term_table = sym (by-limits false f).1 i; quad_table = sym (by-limits false f).2 i })
+              ∙ (λ i. record { returned = handed_back saved (sym same i); term_table = sym (by-limits false f).1 i; quad_table = sym (by-limits false f).2 i })
 
       pub now-taken : length saved.control.bound ≡ variable_limit → length saved.control.items ≡ depth_limit
-          → (clean : SavedControl) → clean ≡ canonical_control script saved.control → (m : ℕ) → r.answer ≡ PageAnswers.Taken m
+          → (clean : SavedControl) → clean ≡ canonical_control script saved.control → {m : ℕ} → r.answer ≡ Ok m
           → page_call l saved g page
-          ≡ record { returned = record { answer = r.answer; saved = record { control = clean; store = r.store } }; term_table = table₁; quad_table = store₁ }
+          ≡ record { returned = record { answer = Ok m; saved = record { control = clean; store = r.store } }; term_table = table₁; quad_table = store₁ }
       unfolding page_result Results.◌>>=◌ with_page
-      now-taken sixteen levels clean ec m h = go fits refl
+      now-taken sixteen levels clean ec {m} h = go fits refl
         where
           go : (b : Bool) → fits ≡ b → page_call l saved g page
-              ≡ record { returned = record { answer = r.answer; saved = record { control = clean; store = r.store } }; term_table = table₁; quad_table = store₁ }
+              ≡ record { returned = record { answer = Ok m; saved = record { control = clean; store = r.store } }; term_table = table₁; quad_table = store₁ }
           go false f = absurd (taken_refused (sym h ∙ ap (λ (r : AfterPage). r.answer) (by-limits false f).0))
           go true f =
               let b = by-limits true f in
@@ -193,9 +200,10 @@ module _ (ranks terms schema script table store : List ℕ) (saved : SavedRun) (
               let stored : r.store ≡ saved_store (with_page g k s.store) =
               ap (λ (r : AfterPage). r.store) b.0
               ∙ (ap (λ (t : SavedStore). paged t g (length k.quads)) is ∙ saved-paged s.store g k (graphs-few c accepts s passed.sound) (fitting f)) in
+              let told = ap (λ (r : AfterPage). r.answer) (sym b.0) ∙ h in
               taken_in l saved g page p.found p.entered p.is_uri p.triples p.reads f
               ∙ (λ i. record {
-                returned = record { answer = (sym b.0 i).answer; saved = record { control = sym control i; store = sym stored i } };
+                returned = record { answer = told i; saved = record { control = sym control i; store = sym stored i } };
                 term_table = sym b.1 i;
                 quad_table = sym b.2 i;
               })

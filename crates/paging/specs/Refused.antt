@@ -1,8 +1,10 @@
--- What a refused page answers.
-use Rattle.std.specs.Prelude.{ℕ}
+-- What a page call hands back.
+use Rattle.std.specs.Prelude.{Ok, Err}
+use Rattle.definitions.specs.Result.{OrRefusal}
 use Rattle.definitions.specs.declared.SavedRun.{SavedRun}
 use Rattle.definitions.specs.declared.Paged.{Paged}
-use Rattle.definitions.specs.declared.PageAnswer.TheVariants as PageAnswers
 
-abbrev pub refused_paged : SavedRun → ℕ → Paged
-refused_paged saved n = record { answer = PageAnswers.Refused n; saved = saved }
+-- a refused one the saved run that it was lent
+abbrev pub handed_back : SavedRun → OrRefusal Paged → Paged
+handed_back saved (Ok r) = r
+handed_back saved (Err n) = record { answer = Err n; saved = saved }

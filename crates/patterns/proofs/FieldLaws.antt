@@ -8,6 +8,8 @@ use native.Mathlib.Omega.{arith}
 use native.Mathlib.Numerals.{add-one}
 use lib.Dec.{eqb, leb}
 use lib.ListN.{length}
+use Rattle.std.specs.List.{list_any}
+use Rattle.laws.proofs.TestEquations.{eqb_swap}
 use lib.Seq.{drop-cons}
 use borrow.Author.Tests.{ne_eqb}
 use Rattle.definitions.specs.Limits.{pattern_width, language_range_width}
@@ -53,12 +55,13 @@ swap true false true d = refl
 swap true false false d = refl
 swap false b c d = refl
 
-pub no-literal : (b : ℕ) {r : Bool}
-    → r ≡ ((((((((eqb b 0x5C || eqb b 0x7C) || eqb b 0x3F) || eqb b 0x2B) || eqb b 0x28) || eqb b 0x29)) || (((eqb b 0x5B || eqb b 0x5D) || eqb b 0x7B) || eqb b 0x7D))
-    || ((eqb b 0x2A || eqb b 0x5E) || eqb b 0x24))
-    → r ≡ no_literal b
+among : (b : ℕ) (xs : List ℕ) → list_any (λ y. eqb y b) xs ≡ some? (eqb b) xs
+among b [] = refl
+among b (x ∷ xs) = ap₂ ◌||◌ (eqb_swap x b) (among b xs)
+
+pub no-literal : (b : ℕ) → list_any (λ y. eqb y b) (ascii "\\|?+()[]{}*^$") ≡ no_literal b
 unfolding no_literal ascii
-no-literal b e = e ∙ simp (or_assoc, or-false)
+no-literal b = among b (ascii "\\|?+()[]{}*^$") ∙ simp (or_assoc, or-false)
 
 atom-is : (b : ℕ) → is_some (atom_of b) ≡ not (no_literal b)
 unfolding atom_of no_literal ascii provided

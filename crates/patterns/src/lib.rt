@@ -16,12 +16,10 @@ pub fn zeros(s: &[u8], from: usize, end: usize) -> bool
     requires { end ≤ length s.now }
     ensures { result ≡ all_zero (part s.now from (end - from)) }
 {
-    let mut i = from;
-    while i < end {
+    for i in from..end {
         if s[i] != 0 {
             return false;
         }
-        i += 1;
     }
     true
 }
@@ -30,10 +28,7 @@ pub fn zeros(s: &[u8], from: usize, end: usize) -> bool
 fn no_literal(b: u8) -> bool
     ensures { result ≡ no_literal b }
 {
-    let bad = (b == b'\\') | (b == b'|') | (b == b'?') | (b == b'+') | (b == b'(') | (b == b')');
-    let bracket = (b == b'[') | (b == b']') | (b == b'{') | (b == b'}');
-    let placed = (b == b'*') | (b == b'^') | (b == b'$');
-    bad | bracket | placed
+    b"\\|?+()[]{}*^$".contains(&b)
 }
 
 // Whether a byte stands for itself in a pattern, or is `.`.
@@ -47,10 +42,7 @@ fn literal(b: u8) -> bool
 fn may_follow(atom: bool, b: u8) -> bool
     ensures { result ≡ may_follow atom b }
 {
-    if b == b'*' {
-        return atom;
-    }
-    literal(b)
+    if b == b'*' { atom } else { literal(b) }
 }
 
 // Whether the bytes from an offset up to an end are good pieces of a pattern, filled with zeros.
@@ -58,10 +50,9 @@ fn pieces_ok(s: &[u8], from: usize, end: usize) -> bool
     requires { end ≤ length s.now }
     ensures { result ≡ are_pieces (part s.now from (end - from)) }
 {
-    let mut i = from;
     // whether a `*` may stand next
     let mut atom = false;
-    while i < end {
+    for i in from..end {
         let b = s[i];
         if b == 0 {
             return zeros(s, i, end);
@@ -73,7 +64,6 @@ fn pieces_ok(s: &[u8], from: usize, end: usize) -> bool
             return false;
         }
         atom = b != b'*';
-        i += 1;
     }
     true
 }
@@ -94,7 +84,7 @@ pub fn pattern_ok(s: &[u8], at: usize) -> bool
 fn tag_byte(b: u8) -> bool
     ensures { result ≡ tag_byte b }
 {
-    ((b'a' <= b) & (b <= b'z')) | (b == b'-')
+    matches!(b, b'a'..=b'z' | b'-')
 }
 
 // Whether the bytes of a language range's width at an offset are a good language range.
@@ -109,8 +99,7 @@ pub fn range_ok(s: &[u8], at: usize) -> bool
     }
     let mut letter = false;
     let mut hyphen = false;
-    let mut i = at;
-    while i < end {
+    for i in at..end {
         let b = s[i];
         if b == 0 {
             return letter & zeros(s, i, end);
@@ -122,8 +111,7 @@ pub fn range_ok(s: &[u8], at: usize) -> bool
             return false;
         }
         hyphen = b == b'-';
-        letter = letter | !hyphen;
-        i += 1;
+        letter |= !hyphen;
     }
     letter
 }

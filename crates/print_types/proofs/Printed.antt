@@ -1,4 +1,6 @@
 -- What is printed of a check's result, by its number and the reported types.
+use Rattle.definitions.specs.declared.Refusal.{Refusal}
+use Rattle.definitions.specs.declared.Refusal.TheVariants.{BadScript}
 use Prim.Native.Nat.{ℕ, zero, suc, ◌-◌, ◌≤◌, ◌<◌, min}
 use native.Mathlib.Omega.{arith}
 use mathlib.Core.Path.{◌≡◌, refl, sym, ap, ap₂, ◌∙◌}
@@ -17,13 +19,10 @@ use Rattle.definitions.specs.Typing.{Written, unbound, undecided, fixed, written
 use Rattle.definitions.specs.Values.{natural_text}
 use Rattle.definitions.specs.Machine.{with_properties}
 use Rattle.definitions.specs.Result.{Result, refused, passed, ◌>>=◌, given}
-use Rattle.definitions.specs.Calls.{Checked, record_tests, script_tests, read_tests, type_tests, check, constants_of, types_of, sizes_fit, reported_types}
+use Rattle.definitions.specs.Calls.{Checked, check, reported, reported_types}
 use Rattle.definitions.specs.Printer.{line, type_name, type_lines, bound_count, printed_result, printed, entry_body, end_from, terms_end, schema_end, terms_part, schema_part, script_part}
-use Rattle.laws.proofs.Refusing.{by-require}
 use Rattle.laws.proofs.Check.{check-passed, types-length, variable-count}
-use Rattle.type_lines.specs.Lines.{datatype_text, type_text, variable_line, bound_line, bound_lines, counts, bound_ones, card_text}
-use Rattle.card.specs.Check.{card_of}
-use Rattle.card.specs.declared.refusals.Card.{Card}
+use Rattle.type_lines.specs.Lines.{datatype_text, type_text, variable_line, bound_line, bound_lines, counts, bound_ones, accepted_text, refused_text}
 use Rattle.print_types.proofs.PartLaws.{first_part, second-part, last-part}
 
 -- ── a type by its code ──────────────────────────────────────────────────────────────────────
@@ -89,64 +88,21 @@ count_of (unbound ∷ ws) (τ ∷ Γ) e = omega (arith, count_of ws Γ (omega ar
 count_of (undecided ∷ ws) (τ ∷ Γ) e = omega (arith, count_of ws Γ (omega arith), one_of τ)
 count_of (fixed σ ∷ ws) (τ ∷ Γ) e = omega (arith, count_of ws Γ (omega arith), one_of τ)
 
--- ── a check refuses with a number ───────────────────────────────────────────────────────────
-
-abbrev Named : {A : Type 0} → Result A → Type 0
-Named (refused n) = n ≡ 0 → ⊥
-Named (passed a) = Unit {0}
-
-by-given : {A B : Type 0} (n : ℕ) (o : Option A) (f : A → Result B) → (n ≡ 0 → ⊥) → ((a : A) → Named (f a)) → Named (given n o >>= f)
-unfolding given ◌>>=◌
-by-given n none f h k = h
-by-given n (some a) f h k = k a
-
-by-types : {B : Type 0} (v : Verdict) (f : List Ty → B) → Named (types_of v >>= λ Γ. passed (f Γ))
-unfolding types_of ◌>>=◌
-by-types no_typing f = λ e. omega (arith, e)
-by-types no_greatest f = λ e. omega (arith, e)
-by-types (greatest Γ) f = tt
-
-by-bind : {A B : Type 0} (m : Result A) (f : A → Result B) → Named m → ((a : A) → Named (f a)) → Named (m >>= f)
-unfolding ◌>>=◌
-by-bind (refused n) f h k = h
-by-bind (passed a) f h k = k a
-
-records-named : (terms schema : List ℕ) → Named (record_tests terms schema)
-unfolding record_tests
-records-named terms schema =
-    by-given 2 (read_terms terms) _ (λ e. omega (arith, e)) λ listed.
-    by-require Named 3 (distinct same_term listed) _ (λ e. omega (arith, e))
-    (by-given 4 (read_schema schema) _ (λ e. omega (arith, e)) λ S. by-require Named 5 (distinct same_property S) _ (λ e. omega (arith, e)) tt)
-
-script-named : (terms : List Term) (S : Schema) (script : List ℕ) → Named (script_tests terms S script)
-unfolding script_tests
-script-named terms S script =
-    by-require Named 6 (sizes_fit terms S script) _ (λ e. omega (arith, e))
-    (by-given 6 (parsed (length terms) script) _ (λ e. omega (arith, e)) λ root. by-require Named 7 (in_scope root) _ (λ e. omega (arith, e)) tt)
-
-check-named : (terms schema script : List ℕ) → Named (check terms schema script)
-unfolding check read_tests type_tests
-check-named terms schema script =
-    by-bind (read_tests terms schema script) type_tests
-    (by-bind (record_tests terms schema) _ (records-named terms schema) λ l.
-    by-bind (script_tests (with_properties l.schema l.terms) l.schema script) _ (script-named (with_properties l.schema l.terms) l.schema script) λ root. tt)
-    (λ x. by-types (verdict (constants_of x.schema x.terms) (written_types x.root) x.root)
-    (λ Γ. record { schema = x.schema; terms = x.terms; root = x.root; types = Γ }))
-
 -- ── the whole ───────────────────────────────────────────────────────────────────────────────
 
-card-of : (x : Result Checked) (entries : List ℕ) → Named x → ((c : Checked) → x ≡ passed c → length c.types ≡ length (written_types c.root))
-    → card_text (card_of x entries).refusal (card_of x entries).types ≡ printed_result x
-unfolding card_text card_of printed_result
-card-of (refused zero) entries named full = absurd (named refl)
-card-of (refused (suc n)) entries named full = refl
-card-of (passed c) entries named full =
+accepted-said : (c : Checked) {types : List ℕ} → length c.types ≡ length (written_types c.root) → types ≡ reported c → accepted_text types ≡ printed_result (passed c)
+unfolding accepted_text printed_result
+accepted-said c full e =
     let ws = written_types c.root in
-    sym (λ i. line (ascii "accepted " ++ natural_text (count_of ws c.types (full c refl) i)) ++ lines_of 0 ws c.types i)
+    ap accepted_text e ∙ sym (λ i. line (ascii "accepted " ++ natural_text (count_of ws c.types full i)) ++ lines_of 0 ws c.types i)
 
-pub too_long : (s : List ℕ) (codes : List ℕ) → printer_limit < length s → card_text 6 codes ≡ printed s
-unfolding printed printed_result card_text
-too_long s codes h = sym (rw (printed, lt-leb (length s) printer_limit h))
+refused-said : (r : Refusal) → refused_text r ≡ printed_result (refused r)
+unfolding refused_text printed_result
+refused-said r = refl
+
+pub too_long : (s : List ℕ) → printer_limit < length s → refused_text BadScript ≡ printed s
+unfolding printed
+too_long s h = refused-said BadScript ∙ sym (rw (printed, lt-leb (length s) printer_limit h))
 
 -- the parts as the code cuts them
 pub parts-checked : (s : List ℕ) {a b first second : ℕ} → first ≡ terms_end s → second ≡ end_from entry_body (length s) s first → a ≡ min first (length s)
@@ -160,14 +116,19 @@ parts-checked s {a} {b} {first} {second} e k cut end =
     let three = last-part s first second cut end ∙ ap (λ (n : ℕ). drop n s) m in
     λ i. check (one i) (two i) (three i)
 
-pub card-printed : (s : List ℕ) {x : Card} → length s ≤ printer_limit → x ≡ card_of (check (terms_part s) (schema_part s) (script_part s)) x.entries
-    → card_text x.refusal x.types ≡ printed s
-unfolding printed
-card-printed s {x} h e =
-    let terms = terms_part s in
-    let schema = schema_part s in
-    let script = script_part s in
-    let full : (c : Checked) → check terms schema script ≡ passed c → length c.types ≡ length (written_types c.root) = λ c e.
-    types-length terms schema script c (check-passed terms schema script c e) ∙ sym (variable-count c.root) in
-    ap (λ (x : Card). card_text x.refusal x.types) e
-    ∙ (card-of (check terms schema script) x.entries (check-named terms schema script) full ∙ sym (rw (printed, le-leb (length s) printer_limit h)))
+module _ (s : List ℕ) (h : length s ≤ printer_limit) where
+  abbrev pub parts : Result Checked
+  parts = check (terms_part s) (schema_part s) (script_part s)
+
+  printed-is : printed_result parts ≡ printed s
+  unfolding printed
+  printed-is = sym (rw (printed, le-leb (length s) printer_limit h))
+
+  pub refused-printed : {r : Refusal} → parts ≡ refused r → refused_text r ≡ printed s
+  refused-printed {r} e = refused-said r ∙ (ap printed_result (sym e) ∙ printed-is)
+
+  pub accepted-printed : {types : List ℕ} (c : Checked) → parts ≡ passed c → types ≡ reported c → accepted_text types ≡ printed s
+  accepted-printed c e k =
+      let full = types-length (terms_part s) (schema_part s) (script_part s) c (check-passed (terms_part s) (schema_part s) (script_part s) c e)
+      ∙ sym (variable-count c.root) in
+      accepted-said c full k ∙ (ap printed_result (sym e) ∙ printed-is)

@@ -1,4 +1,7 @@
 -- The publish call, refusal by refusal, and its result where nothing is refused.
+use Rattle.definitions.specs.declared.Refusal.TheVariants.{WrongLength, NoGreatest, Unsound, NotFetched, ShortBuffer}
+use Rattle.std.specs.Prelude.{Err}
+use Rattle.definitions.specs.declared.Refusal.{Refusal}
 use Prim.Native.Nat.{ℕ, zero, ◌+◌, ◌-◌, ◌*◌, ◌≤◌, ◌<◌}
 use native.Mathlib.Omega.{arith}
 use mathlib.Core.Path.{◌≡◌, refl, sym, ap, ◌∙◌}
@@ -19,7 +22,6 @@ use Rattle.definitions.specs.Result.{Result, refused, passed, ◌>>=◌, ◌>>�
 use Rattle.definitions.specs.Calls as Calls
 use Rattle.definitions.specs.Calls.{Lent, lengths_of, both_tables_fit, sound_in, publish_in, publish_tests, PublishResult, publish_result, publish_call}
 use Rattle.definitions.specs.declared.SavedRun.{SavedRun}
-use Rattle.definitions.specs.declared.PublishAnswer.TheVariants as PublishAnswers
 use Rattle.laws.specs.Bindings.{HoldsURI}
 use Rattle.laws.proofs.Tests.{and_left, and_false, is_true, true_is}
 use Rattle.laws.proofs.Results.{require-after, require-refused, bind-refused, bind-passed, given-inv}
@@ -35,41 +37,39 @@ use Rattle.record_order.specs.Records.{keys_in}
 use Rattle.page_writing.specs.Page.{sorted_page, fitted}
 use Rattle.query.proofs.TermLaws.{few}
 use Rattle.page_writing.proofs.StoreLaws.{keys_in_lem, page-is, stretch, rows-part}
-use Rattle.card.proofs.RefusalNumbers.{refused-number, passed-number, given-not-zero}
 use Rattle.entry.specs.declared.Entered.{Entered}
 use Rattle.lengths.specs.Lent.{lent_of}
 use Rattle.lengths.proofs.TableLaws.{both-fit}
-use Rattle.entry.specs.Entry.{Found, Finds}
+use Rattle.entry.specs.Entry.{Found}
 
 -- ── refusals ────────────────────────────────────────────────────────────────────────────────
 
 module _ (l : Lent) (saved : SavedRun) (g : ℕ) (buffer : List ℕ) where
   -- the buffer as it was
-  abbrev keeping : ℕ → PublishResult
-  keeping n = record { returned = PublishAnswers.Refused n; page = buffer }
+  abbrev keeping : Refusal → PublishResult
+  keeping n = record { returned = Err n; page = buffer }
 
   -- what comes after the lengths, and after soundness
   abbrev go_on : Calls.Sound → Result (List ℕ)
   go_on x = publish_in g (length buffer) x.state.store
 
   abbrev after_lengths : Result (List ℕ)
-  after_lengths = given 10 (sound_in l saved) >>= go_on
+  after_lengths = given Unsound (sound_in l saved) >>= go_on
 
-  pub wrong-length : both_tables_fit (lengths_of l) ≡ false → publish_call l saved g buffer ≡ keeping 1
+  pub wrong-length : both_tables_fit (lengths_of l) ≡ false → publish_call l saved g buffer ≡ keeping WrongLength
   unfolding publish_call publish_tests publish_result
-  wrong-length e = ap (publish_result buffer) (require-refused 1 after_lengths e)
+  wrong-length e = ap (publish_result buffer) (require-refused WrongLength after_lengths e)
 
   module _ (fit : both_tables_fit (lengths_of l) ≡ true) where
     sized : publish_tests l saved g (length buffer) ≡ after_lengths
     unfolding publish_tests
-    sized = require-after 1 (both_tables_fit (lengths_of l)) after_lengths (true_is (both_tables_fit (lengths_of l)) fit)
+    sized = require-after WrongLength (both_tables_fit (lengths_of l)) after_lengths (true_is (both_tables_fit (lengths_of l)) fit)
 
-    pub not_sound : {r : Entered} {rows leasts : List ℕ} → Finds l saved (given 10 (sound_in l saved)) r rows leasts → (r.refusal ≡ 0 → ⊥)
-        → publish_call l saved g buffer ≡ keeping r.refusal
+    pub not_sound : {n : Refusal} → given Unsound (sound_in l saved) ≡ refused n → publish_call l saved g buffer ≡ keeping n
     unfolding publish_call publish_result
-    not_sound f h = ap (publish_result buffer) (sized ∙ bind-refused go_on (refused-number (given 10 (sound_in l saved)) f.number h))
+    not_sound e = ap (publish_result buffer) (sized ∙ bind-refused go_on e)
 
-    module _ (x : Calls.Sound) (e : given 10 (sound_in l saved) ≡ passed x) where
+    module _ (x : Calls.Sound) (e : given Unsound (sound_in l saved) ≡ passed x) where
       abbrev s : Store
       s = x.state.store
 
@@ -77,16 +77,16 @@ module _ (l : Lent) (saved : SavedRun) (g : ℕ) (buffer : List ℕ) where
       unfolding publish_call
       goes_on = ap (publish_result buffer) (sized ∙ bind-passed go_on e)
 
-      pub not-fetched : is_in g s.fetched ≡ false → publish_call l saved g buffer ≡ keeping 22
+      pub not-fetched : is_in g s.fetched ≡ false → publish_call l saved g buffer ≡ keeping NotFetched
       unfolding publish_in publish_result
-      not-fetched h = goes_on ∙ ap (publish_result buffer) (require-refused 22 (require 23 (leb (length (published g s)) (length buffer)) >> passed (published g s)) h)
+      not-fetched h = goes_on ∙ ap (publish_result buffer) (require-refused NotFetched (require ShortBuffer (leb (length (published g s)) (length buffer)) >> passed (published g s)) h)
 
       pub of-page : is_in g s.fetched ≡ true → {page : List ℕ} → page ≡ published g s → publish_call l saved g buffer ≡ publish_result buffer (fitted page (length buffer))
       unfolding publish_in fitted
       of-page h {page} p =
           goes_on
-          ∙ (ap (publish_result buffer) (require-after 22 (is_in g s.fetched) (require 23 (leb (length (published g s)) (length buffer)) >> passed (published g s)) (true_is (is_in g s.fetched) h))
-          ∙ ap (λ p. publish_result buffer (require 23 (leb (length p) (length buffer)) >> passed p)) (sym p))
+          ∙ (ap (publish_result buffer) (require-after NotFetched (is_in g s.fetched) (require ShortBuffer (leb (length (published g s)) (length buffer)) >> passed (published g s)) (true_is (is_in g s.fetched) h))
+          ∙ ap (λ p. publish_result buffer (require ShortBuffer (leb (length p) (length buffer)) >> passed p)) (sym p))
 
 -- it is lent no ranks
 pub ranks-unread : (ranks other terms schema script table store : List ℕ) (saved : SavedRun) (g : ℕ) (buffer : List ℕ)
@@ -105,14 +105,12 @@ pub record Passed (l : Lent) (saved : SavedRun) (r : Entered) (rows leasts : Lis
   pub fits : both_tables_fit (lengths_of l) ≡ true
   pub bytes : AreBytes l.term_table
   pub found : Calls.Sound
-  pub passes : given 10 (sound_in l saved) ≡ passed found
-  pub finds : Found l saved found r rows leasts
+  pub passes : given Unsound (sound_in l saved) ≡ passed found
+  pub finds : Found l saved rows leasts found r
 
 pub has-passed : (l : Lent) (saved : SavedRun) {r : Entered} {rows leasts : List ℕ} → both_tables_fit (lengths_of l) ≡ true → AreBytes l.term_table
-    → Finds l saved (given 10 (sound_in l saved)) r rows leasts → r.refusal ≡ 0 → Passed l saved r rows leasts
-has-passed l saved fit bytes f z =
-    let x = passed-number (given 10 (sound_in l saved)) (given-not-zero 9 (sound_in l saved)) f.number z in
-    record { fits = fit; bytes = bytes; found = x.0; passes = x.1; finds = f.found x.0 x.1 }
+    → (x : Calls.Sound) × (given Unsound (sound_in l saved) ≡ passed x) × Found l saved rows leasts x r → Passed l saved r rows leasts
+has-passed l saved fit bytes x = record { fits = fit; bytes = bytes; found = x.0; passes = x.1; finds = x.2 }
 
 -- the graph's keys, as bisection finds them: their page is the graph's
 pub record Stretch (table rows : List ℕ) (g low high : ℕ) (s : Store) : Type 0 where
@@ -133,7 +131,7 @@ module _ {l : Lent} {saved : SavedRun} {r : Entered} {rows leasts : List ℕ} (w
   kept = x.state.store
 
   soundly : SoundIn l saved x
-  soundly = sound-in l saved x (given-inv 10 (sound_in l saved) w.passes)
+  soundly = sound-in l saved x (given-inv Unsound (sound_in l saved) w.passes)
 
   known : Facts x.checked x.state
   known = facts x.checked (is-accepted l saved x soundly) x.state soundly.sound

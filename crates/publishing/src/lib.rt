@@ -5,7 +5,7 @@ ghost use Rattle.std.specs.Prelude.{◌≡◌, List, ℕ};
 ghost use Rattle.definitions.specs.Calls.{publish_call};
 ghost use Rattle.lengths.specs.Lent.{lent_of};
 
-use definitions::{NOT_FETCHED, PublishAnswer, QUAD_LIMIT, SavedRun, TERM_LIMIT, WRONG_LENGTH};
+use definitions::{PublishAnswer, QUAD_LIMIT, Refusal, SavedRun, TERM_LIMIT};
 use entry::sound;
 use graph_tests::is_listed;
 use keys::{GRAPH_REACH, GRAPH_WEIGHT, lower, upper};
@@ -29,7 +29,7 @@ pub fn publish(
         ≡ record { returned = result; page = out.new } }
 {
     if !both_fit(table, store) {
-        return PublishAnswer::Refused(WRONG_LENGTH);
+        return Err(Refusal::WrongLength);
     }
     let mut keys = [0u64; QUAD_LIMIT];
     let mut leasts = [0u8; TERM_LIMIT];
@@ -42,13 +42,10 @@ pub fn publish(
         saved,
         &mut keys,
         &mut leasts,
-    );
-    if entered.refusal != 0 {
-        return PublishAnswer::Refused(entered.refusal);
-    }
+    )?;
     let kept = saved.store;
     if !is_listed(kept, entered.count, graph) {
-        return PublishAnswer::Refused(NOT_FETCHED);
+        return Err(Refusal::NotFetched);
     }
     let n = kept.quads as usize;
     let first = graph * GRAPH_WEIGHT;

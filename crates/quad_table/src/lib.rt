@@ -1,7 +1,7 @@
 // The quad table: four 2-byte numbers for each quad, zeros after the last. In a call its quads are held as keys.
 #![tactic(auto)]
 
-ghost use Rattle.std.specs.Prelude.{◌≡◌, [], ◌∷◌, ◌+◌, ◌/◌, ◌%◌, ◌≤◌, ◌<◌, length};
+ghost use Rattle.std.specs.Prelude.{◌≡◌, [], ◌∷◌, ◌+◌, ◌≤◌, ◌<◌, length};
 ghost use Rattle.definitions.specs.Limits.{quad_width, quad_limit, quad_table_width};
 ghost use Rattle.definitions.specs.Saved.{quad_bytes, quad_table, quad_at, quads_from};
 ghost use Rattle.keys.specs.Keys.{key_of, quad_of, keys_from, rows_from, keys_of};
@@ -11,32 +11,15 @@ use definitions::QUAD_WIDTH;
 use fields::numbers::number_at;
 use keys::{graph_of, object_of, pack, property_of, subject_of};
 
-fn low(n: u16) -> u8
-    ensures { result ≡ n % 256 }
-{
-    (n % 256) as u8
-}
-
-fn high(n: u16) -> u8
-    ensures { result ≡ n / 256 % 256 }
-{
-    (n / 256) as u8
-}
-
 // A quad's eight bytes.
 fn quad_bytes(graph: u16, subject: u16, property: u16, object: u16) -> [u8; 8]
     ensures { result ≡ quad_bytes (quad graph subject property object ∷ []) }
 {
-    [
-        low(graph),
-        high(graph),
-        low(subject),
-        high(subject),
-        low(property),
-        high(property),
-        low(object),
-        high(object),
-    ]
+    let [g0, g1] = graph.to_le_bytes();
+    let [s0, s1] = subject.to_le_bytes();
+    let [p0, p1] = property.to_le_bytes();
+    let [o0, o1] = object.to_le_bytes();
+    [g0, g1, s0, s1, p0, p1, o0, o1]
 }
 
 // Writes a key's quad at its place.
@@ -55,18 +38,15 @@ fn put_key(table: &mut [u8], n: usize, key: u64)
     table[at..end].copy_from_slice(&content);
 }
 
-// Writes the quads of the first keys into an empty table.
+// Writes the quads of keys into an empty table.
 // Ruled out: a quad written over the one before; subject and object exchanged.
-pub fn write_keys(keys: &[u64], count: usize, table: &mut [u8])
-    requires count_in_bounds { count ≤ length keys.now }
-    requires count_le_quad_limit { count ≤ quad_limit }
+pub fn write_keys(keys: &[u64], table: &mut [u8])
+    requires keys_len_bound { length keys.now ≤ quad_limit }
     requires table_value { table.old ≡ quad_table [] }
-    ensures { table.new ≡ quad_table (rows_from count keys.now 0) }
+    ensures { table.new ≡ quad_table (rows_from (length keys.now) keys.now 0) }
 {
-    let mut i = 0;
-    while i < count {
-        put_key(table, i, keys[i]);
-        i += 1;
+    for (i, &key) in keys.iter().enumerate() {
+        put_key(table, i, key);
     }
 }
 
@@ -90,9 +70,7 @@ pub fn read_keys(table: &[u8], count: usize, keys: &mut [u64])
     requires count_in_bounds { count ≤ length keys.old }
     ensures { keys_from count keys.new 0 ≡ keys_of (quads_from count table.now 0) }
 {
-    let mut i = 0;
-    while i < count {
+    for i in 0..count {
         keys[i] = key_at(table, i * QUAD_WIDTH);
-        i += 1;
     }
 }

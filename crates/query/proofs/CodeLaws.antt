@@ -1,8 +1,8 @@
 -- What the codes stand for: the places of names, and what is known of a variable.
 use Prim.Native.Nat.{ℕ, zero, suc, ◌≤◌, ◌<◌}
 use native.Mathlib.Omega.{arith}
-use mathlib.Core.Path.{◌≡◌, refl, sym, ◌∙◌, ap, subst}
-use mathlib.Core.Bool.{Bool, true, false, cond, not}
+use mathlib.Core.Path.{◌≡◌, refl}
+use mathlib.Core.Bool.{Bool, true, false, cond}
 use mathlib.Core.List.{List, [], ◌∷◌}
 use mathlib.Core.Option.{none, some}
 use lib.Dec.{T, eqb, ltb, ltb→lt}
@@ -13,7 +13,7 @@ use Rattle.definitions.specs.Tree.{Name, var, const, Query}
 use Rattle.definitions.specs.Evaluate.{number_of}
 use Rattle.definitions.specs.Saved.{is_bound}
 use Rattle.laws.specs.Sound.{NameBounded}
-use Rattle.scan.specs.Scan.{fixed, sought, free, agrees, pick}
+use Rattle.scan.specs.Scan.{sought}
 use Rattle.query.specs.Known.{known as placed, place_of, name_known}
 use Rattle.scan.proofs.Places.{at-sought, at-fixed, at-free}
 use Rattle.scan.specs.Codes.{sought_code, free_code, place_at}

@@ -1,12 +1,13 @@
 -- One kind of expression, boolean or query: what the code makes of the parts' values is the machine's, wherever the machine meets no fault.
-use Prim.Native.Nat.{ℕ, suc, ◌+◌}
+use Prim.Native.Nat.{ℕ, suc, ◌+◌, ◌≤◌, ◌<◌}
+use Rattle.std.specs.Prelude.{Option as Maybe, Some, None}
 use native.Mathlib.Omega.{arith}
 use mir.Syntax.{w64}
 use mir.Val.{SFits, to_z, of_z}
 use mir.Facts.{to_z-of_z}
 use mathlib.Core.Path.{◌≡◌, refl, sym, ◌∙◌, ap, ap₂, subst, subst⁻¹}
 use mathlib.Core.List.{List, []}
-use mathlib.Core.Bool.{Bool, true, false, not, cond, ◌&&◌, ◌||◌, true≢false}
+use mathlib.Core.Bool.{Bool, true, false, not, beq, cond, ◌&&◌, ◌||◌, true≢false}
 use mathlib.Core.Option.{Option, none, some}
 use lib.Dec.{T, eqb, ltb}
 use lib.IntN.{ℤ}
@@ -24,6 +25,7 @@ use Rattle.definitions.specs.Truth.{not_truth, and_truth, or_truth, is_true}
 use Rattle.definitions.specs.declared.Truth.{Truth}
 use Rattle.definitions.specs.declared.Truth.TheVariants.{True, False, Unknown}
 use Rattle.laws.proofs.Options.{some_is}
+use Rattle.laws.proofs.Tests.{and_false}
 use Rattle.laws.proofs.Truths.{true-or, false-and}
 use Rattle.laws.specs.Sound.{NameBounded}
 use Rattle.laws.specs.Walks.{Walked}
@@ -31,18 +33,20 @@ use Rattle.values.specs.Meaning.{meaning, Good, Gives, Tells, compared, text_tes
 use Rattle.values.specs.Means.{Holds}
 use Rattle.values.specs.declared.Value.{Value}
 use Rattle.scan.specs.Scan.{fixed, scan}
-use Rattle.query.specs.Known.{name_known, expr_known}
+use Rattle.query.specs.Known.{name_known, expr_known, test_known, IsTest}
 use Rattle.scan.specs.Codes.{sought_code, place_at, places_at}
 use Rattle.query.specs.Codes.{number_at, bindings_of, code_of, Coded}
 use Rattle.scan.specs.declared.Four.{Four}
-use borrow.Author.Tests.{ltb-true}
+use borrow.Author.Tests.{ltb-true, lt-ltb, le-ltb}
 use Rattle.query.specs.StoreLent.{setting_in}
 use Rattle.query.specs.declared.Context.{Context}
-use Rattle.query.specs.Eval.{Lent, Counts, ValueOf, TruthOf, HoldsOf, NumberGives}
+use Rattle.query.specs.Eval.{Lent, Counts, ValueOf, ExprOf, TestOf, TruthOf, HoldsOf, NumberGives}
 use Rattle.laws.proofs.NoFault.{ok-is, no-fault, then_ok}
 use Rattle.query.proofs.Patterns.{named_ok, pattern-ok}
 use Rattle.scan.proofs.Places.{at-fixed}
-use Rattle.query.proofs.CodeLaws.{code-number}
+use Rattle.std.specs.Option.{unwrap_or}
+use Rattle.query.proofs.Operators.{joint, linked}
+use Rattle.query.proofs.CodeLaws.{code-number, code-bound}
 use Rattle.query.proofs.FixedScan.{scan-exact}
 
 -- ── a part, and what is made of it ──────────────────────────────────────────────────────────
@@ -109,6 +113,18 @@ and-decided True y e = absurd (true≢false (sym e))
 and-decided False y e = false-and y
 and-decided Unknown y e = absurd (true≢false (sym e))
 
+must-true : (x : Truth) → is_true x ≡ true → x ≡ True
+unfolding is_true
+must-true True e = refl
+must-true False e = absurd (true≢false (sym e))
+must-true Unknown e = absurd (true≢false (sym e))
+
+must-false : (x : Truth) → is_true (not_truth x) ≡ true → x ≡ False
+unfolding is_true not_truth
+must-false True e = absurd (true≢false (sym e))
+must-false False e = refl
+must-false Unknown e = absurd (true≢false (sym e))
+
 both-decided : (x y : Bool) → not x ≡ true → (x && y) ≡ false
 both-decided true y e = absurd (true≢false (sym e))
 both-decided false y e = refl
@@ -146,11 +162,41 @@ module _ (σ : Setting) (terms : List Term) (quads : List Quad) (γ : Bindings) 
       let (z, ez, e₂) = then_ok e₁ in
       rw (expr-known e y ey, expr-known f z ez) refl
 
+  pair-known : {A : Type 0} (test : Meant → Meant → Outcome A) (e f : Expr) (u : A)
+      → (expression σ terms quads γ e >>= λ x. expression σ terms quads γ f >>= λ y. test x y) ≡ ok u → (expr_known γ e && expr_known γ f) ≡ true
+  pair-known test e f u h =
+      let (y, ey, e₁) = then_ok h in
+      let (z, ez, e₂) = then_ok e₁ in
+      rw (expr-known e y ey, expr-known f z ez) refl
+
+  -- nor has a test that gives a truth
+  test-known : (c : Cond) (u : Truth) → condition σ terms quads γ c ≡ ok u → test_known γ c ≡ true
+  unfolding condition test_known
+  test-known Cond.no u h = refl
+  test-known Cond.yes u h = refl
+  test-known (Cond.or c d) u h = refl
+  test-known (Cond.and c d) u h = refl
+  test-known (Cond.not c) u h = refl
+  test-known (Cond.regex p e) u h = let (y, ey, eu) = then_ok h in expr-known e y ey
+  test-known (Cond.lang_matches p e) u h = let (y, ey, eu) = then_ok h in expr-known e y ey
+  test-known (Cond.equal e f) u h = pair-known _ e f u h
+  test-known (Cond.less e f) u h = pair-known _ e f u h
+
 -- ── expressions ─────────────────────────────────────────────────────────────────────────────
 
 module _ (table known : List ℕ) (x : Context) where
-  pub good-value : {v : Value} {o : Got Expr} {n : ℕ} → Lent table known x → Walked (ValueOf table known x v) o n → Good v
-  good-value l w = (w.holds [] [] l.terms [] l.tabled.reads).good
+  -- a walk's value where there is one
+  pub some-value : {v : Value} {a : Maybe Value} {o : Got Expr} {n : ℕ} → a ≡ Some v → Walked (ExprOf table known x a) o n → Walked (ExprOf table known x (Some v)) o n
+  some-value {o = o} {n = n} e w = subst (λ a. Walked (ExprOf table known x a) o n) e w
+
+  pub no-value : {a : Maybe Value} {o : Got Expr} {n : ℕ} → a ≡ None → Walked (ExprOf table known x a) o n → Walked (ExprOf table known x None) o n
+  no-value {o = o} {n = n} e w = subst (λ a. Walked (ExprOf table known x a) o n) e w
+
+  pub as-none : {a : Maybe Value} {o : Got Expr} {n : ℕ} → a ≡ None → Walked (ExprOf table known x None) o n → Walked (ExprOf table known x a) o n
+  as-none {o = o} {n = n} e w = subst⁻¹ (λ a. Walked (ExprOf table known x a) o n) e w
+
+  pub good-value : {v : Value} {a : Maybe Value} {o : Got Expr} {n : ℕ} → Lent table known x → a ≡ Some v → Walked (ExprOf table known x a) o n → Good v
+  good-value l e w = ((some-value e w).holds.1 [] [] l.terms [] l.tabled.reads).good
 
   pub name-value : (n : Name) (code : ℕ) (v : Value) → (code ≡ code_of known variable_limit n) × NameBounded sought_code n → NumberGives table v code
       → ValueOf table known x v (Expr.name n)
@@ -169,10 +215,6 @@ module _ (table known : List ℕ) (x : Context) where
           go : (b : Bool) → cond b (some code) none ≡ some i → code ≡ i
           go true e = some_is e
           go false e = cc
-
-  -- where a variable is not known the machine meets a fault, so that any value will do
-  pub open-value : {v : Value} (e : Expr) → expr_known (bindings_of known) e ≡ false → Good v → ValueOf table known x v e
-  open-value {v} e o g S ranks terms quads t = record { good = g; is = λ u h. absurd (true≢false (sym (expr-known (setting_in S ranks x) terms quads (bindings_of known) e u h) ∙ o)) }
 
   pub now-value : {r : Value} → Gives r (ok (Meant.date_time (signed x.clock))) → ValueOf table known x r Expr.now
   unfolding setting_in expression
@@ -199,6 +241,105 @@ module _ (table known : List ℕ) (x : Context) where
       minus-value g S ranks terms quads t =
           gives_then (λ u. expression (setting_in S ranks x) terms quads (bindings_of known) f >>= λ y. difference u y) (h S ranks terms quads t)
           (gives_then (difference (meaning a)) (k S ranks terms quads t) g)
+
+-- ── expressions of which some variables are not known ───────────────────────────────────────
+
+module _ (known : List ℕ) where
+  abbrev Open : Expr → Type 0
+  Open e = expr_known (bindings_of known) e ≡ false
+
+  abbrev NoTruth : Cond → Type 0
+  NoTruth c = IsTest c × (test_known (bindings_of known) c ≡ false)
+
+  pub name-none : (n : Name) (code : ℕ) → sought_code ≤ code → (code ≡ code_of known variable_limit n) × NameBounded sought_code n → Open (Expr.name n)
+  unfolding expr_known
+  name-none n code l c = sym (code-bound known n c.1) ∙ (sym (ap (λ k. ltb k sought_code) c.0) ∙ le-ltb code sought_code l)
+
+  pub str-none : (e : Expr) → Open e → Open (Expr.str e)
+  unfolding expr_known
+  str-none e h = h
+
+  pub abs-none : (e : Expr) → Open e → Open (Expr.abs e)
+  unfolding expr_known
+  abs-none e h = h
+
+  -- one of the two
+  module _ (e f : Expr) where
+    first-none : Open e → (expr_known (bindings_of known) e && expr_known (bindings_of known) f) ≡ false
+    first-none h = rw h refl
+
+    second-none : Open f → (expr_known (bindings_of known) e && expr_known (bindings_of known) f) ≡ false
+    second-none h = rw h (and_false (expr_known (bindings_of known) e))
+
+    pub plus-first : Open e → Open (Expr.plus e f)
+    unfolding expr_known
+    plus-first h = first-none h
+
+    pub plus-second : Open f → Open (Expr.plus e f)
+    unfolding expr_known
+    plus-second h = second-none h
+
+    pub minus-first : Open e → Open (Expr.minus e f)
+    unfolding expr_known
+    minus-first h = first-none h
+
+    pub minus-second : Open f → Open (Expr.minus e f)
+    unfolding expr_known
+    minus-second h = second-none h
+
+    pub equal-first : Open e → NoTruth (Cond.equal e f)
+    unfolding test_known
+    equal-first h = (tt, first-none h)
+
+    pub equal-second : Open f → NoTruth (Cond.equal e f)
+    unfolding test_known
+    equal-second h = (tt, second-none h)
+
+    pub less-first : Open e → NoTruth (Cond.less e f)
+    unfolding test_known
+    less-first h = (tt, first-none h)
+
+    pub less-second : Open f → NoTruth (Cond.less e f)
+    unfolding test_known
+    less-second h = (tt, second-none h)
+
+  pub regex-none : (p : Pattern) (e : Expr) → Open e → NoTruth (Cond.regex p e)
+  unfolding test_known
+  regex-none p e h = (tt, h)
+
+  pub language-none : (p : LanguageRange) (e : Expr) → Open e → NoTruth (Cond.lang_matches p e)
+  unfolding test_known
+  language-none p e h = (tt, h)
+
+-- ── those whose variables are all known ─────────────────────────────────────────────────────
+
+module _ (table known : List ℕ) (x : Context) where
+  pub name-of : (n : Name) (code : ℕ) {v : Value} → code < sought_code → (code ≡ code_of known variable_limit n) × NameBounded sought_code n → NumberGives table v code
+      → ExprOf table known x (Some v) (Expr.name n)
+  unfolding expr_known
+  name-of n code {v} l c h = (sym (code-bound known n c.1) ∙ (sym (ap (λ k. ltb k sought_code) c.0) ∙ lt-ltb code sought_code l), name-value table known x n code v c h)
+
+  pub now-of : {r : Value} → Gives r (ok (Meant.date_time (signed x.clock))) → ExprOf table known x (Some r) Expr.now
+  unfolding expr_known
+  now-of g = (refl, now-value table known x g)
+
+  module _ {a r : Value} (e : Expr) (h : ExprOf table known x (Some a) e) where
+    pub str-of : Gives r (ok (Meant.string (text_of (meaning a)))) → ExprOf table known x (Some r) (Expr.str e)
+    unfolding expr_known
+    str-of g = (h.0, str-value table known x e h.1 g)
+
+    pub abs-of : Gives r (absolute (meaning a)) → ExprOf table known x (Some r) (Expr.abs e)
+    unfolding expr_known
+    abs-of g = (h.0, abs-value table known x e h.1 g)
+
+    module _ {b : Value} (f : Expr) (k : ExprOf table known x (Some b) f) where
+      pub plus-of : Gives r (sum (meaning a) (meaning b)) → ExprOf table known x (Some r) (Expr.plus e f)
+      unfolding expr_known
+      plus-of g = (rw (h.0, k.0) refl, plus-value table known x e h.1 f k.1 g)
+
+      pub minus-of : Gives r (difference (meaning a) (meaning b)) → ExprOf table known x (Some r) (Expr.minus e f)
+      unfolding expr_known
+      minus-of g = (rw (h.0, k.0) refl, minus-value table known x e h.1 f k.1 g)
 
 -- ── booleans ─────────────────────────────────────────────────────────────────────────────────
 
@@ -259,6 +400,50 @@ module _ (ranks table known : List ℕ) (x : Context) where
       unfolding condition cond_records compared setting_in
       less-truth g S terms quads t = alone (compared-tells (less_pair ranks) S terms quads t g)
 
+  -- ── tests ─────────────────────────────────────────────────────────────────────────────────
+
+  module _ {a : Value} {r : Truth} (e : Expr) (h : ExprOf table known x (Some a) e) where
+    pub regex-of : (p : Pattern) → Tells r (text_test (λ s. accepts p s.text) (meaning a)) → TestOf ranks table known x (Some r) (Cond.regex p e)
+    unfolding test_known
+    regex-of p g = (tt, h.0, regex-truth e h.1 p g)
+
+    pub language-of : (p : LanguageRange) → Tells r (text_test (λ s. matches p s.tag) (meaning a)) → TestOf ranks table known x (Some r) (Cond.lang_matches p e)
+    unfolding test_known
+    language-of p g = (tt, h.0, language-truth e h.1 p g)
+
+    module _ {b : Value} (f : Expr) (k : ExprOf table known x (Some b) f) where
+      pub equal-of : Tells r (compared equal_pair (meaning a) (meaning b)) → TestOf ranks table known x (Some r) (Cond.equal e f)
+      unfolding test_known
+      equal-of g = (tt, rw (h.0, k.0) refl, equal-truth e h.1 f k.1 g)
+
+      pub less-of : Tells r (compared (less_pair ranks) (meaning a) (meaning b)) → TestOf ranks table known x (Some r) (Cond.less e f)
+      unfolding test_known
+      less-of g = (tt, rw (h.0, k.0) refl, less-truth e h.1 f k.1 g)
+
+  -- a walk's truth where there is one
+  pub some-test : {u : Maybe Truth} {b : Truth} {o : Got Cond} {n : ℕ} → u ≡ Some b → Walked (TestOf ranks table known x u) o n → Walked (TestOf ranks table known x (Some b)) o n
+  some-test {o = o} {n = n} e w = subst (λ u. Walked (TestOf ranks table known x u) o n) e w
+
+  pub no-test : {u : Maybe Truth} {o : Got Cond} {n : ℕ} → u ≡ None → Walked (TestOf ranks table known x u) o n → Walked (TestOf ranks table known x None) o n
+  no-test {o = o} {n = n} e w = subst (λ u. Walked (TestOf ranks table known x u) o n) e w
+
+  -- where a variable is not known the machine meets a fault, so that any truth will do
+  pub any-truth : (u : Maybe Truth) {r : Truth} → r ≡ unwrap_or u Unknown → (c : Cond) → TestOf ranks table known x u c → TruthOf ranks table known x r 1 c
+  any-truth (Some b) e c h = subst⁻¹ (λ r. TruthOf ranks table known x r 1 c) e h.2
+  any-truth None e c h = λ S terms quads t v f. absurd (true≢false (sym (test-known (setting_in S ranks x) terms quads (bindings_of known) c v f) ∙ h.1))
+
+  -- ── or, and and ───────────────────────────────────────────────────────────────────────────
+
+  module _ {a : Truth} {n : ℕ} (c d : Cond) (h : TruthOf ranks table known x a n c) where
+    pub joint-first : (either : Bool) → is_true (cond either a (not_truth a)) ≡ true → TruthOf ranks table known x a (n + 1) (joint either c d)
+    joint-first true e = subst⁻¹ (λ r. TruthOf ranks table known x r (n + 1) (Cond.or c d)) (must-true a e) (or-first c h d e)
+    joint-first false e = subst⁻¹ (λ r. TruthOf ranks table known x r (n + 1) (Cond.and c d)) (must-false a e) (and_first c h d e)
+
+    pub joint-truth : {b r : Truth} {m : ℕ} (either : Bool) → TruthOf ranks table known x b m d → is_true (cond either a (not_truth a)) ≡ false
+        → r ≡ cond either (or_truth a b) (and_truth a b) → TruthOf ranks table known x r ((n + 1) + m) (joint either c d)
+    joint-truth true k e made = or-truth c h d k e made
+    joint-truth false k e made = and-truth c h d k e made
+
   -- ── queries ───────────────────────────────────────────────────────────────────────────────
 
   module _ (rows : List Quad) where
@@ -287,6 +472,20 @@ module _ (ranks table known : List ℕ) (x : Context) where
         pub union-holds : a ≡ false → HoldsOf ranks table known x rows b ((n + 1) + m) (Query.union q r)
         unfolding query query_records
         union-holds e S terms t = counts-both ◌||◌ (λ a. a) (h S terms t) e (union-second a b e) (k S terms t)
+
+    -- a union, or both
+    pub linked-first : (either a : Bool) {n : ℕ} (q r : Query) → HoldsOf ranks table known x rows a n q → beq a either ≡ true → HoldsOf ranks table known x rows a (n + 1) (linked either q r)
+    linked-first true true q r h e = union-first q r h refl
+    linked-first false false q r h e = both_first q r h refl
+    linked-first true false q r h e = absurd (true≢false (sym e))
+    linked-first false true q r h e = absurd (true≢false (sym e))
+
+    pub linked-holds : (either a : Bool) {b : Bool} {n m : ℕ} (q r : Query) → HoldsOf ranks table known x rows a n q → HoldsOf ranks table known x rows b m r → beq a either ≡ false
+        → HoldsOf ranks table known x rows b ((n + 1) + m) (linked either q r)
+    linked-holds true false q r h k e = union-holds q r h k refl
+    linked-holds false true q r h k e = both-holds q r h k refl
+    linked-holds true true q r h k e = absurd (true≢false e)
+    linked-holds false false q r h k e = absurd (true≢false e)
 
     -- the place of a name that has a number
     fixed-place : (n : Name) (i : ℕ) → NameBounded sought_code n → number_of (bindings_of known) n ≡ some i → place_at (code_of known variable_limit n) ≡ fixed i

@@ -5,3 +5,4 @@ pub mod FixedScan
 pub mod EvalLaws
 pub mod MayLaws
 pub mod TermLaws
+pub mod Operators

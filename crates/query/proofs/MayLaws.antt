@@ -1,12 +1,12 @@
 -- What a boolean may come to, one kind at a time: what the code makes of the parts is the model's, wherever the tests that are known meet no fault.
 use Prim.Native.Nat.{ℕ}
+use Rattle.std.specs.Prelude.{Some}
 use mathlib.Core.Path.{◌≡◌, refl, sym, ◌∙◌, ap, subst, subst⁻¹}
 use mathlib.Core.List.{List}
-use mathlib.Core.Bool.{Bool, true, false, not, cond, ◌&&◌, ◌||◌, true≢false}
+use mathlib.Core.Bool.{Bool, true, false, not, beq, cond, ◌||◌, true≢false}
 use mathlib.Core.Option.{some}
 use lib.Dec.{T, ltb, leb}
-use borrow.Author.Tests.{not-true, not-false, le-ltb, leb-true}
-use Rattle.definitions.specs.Text.{Pattern, LanguageRange}
+use borrow.Author.Tests.{le-ltb, leb-true}
 use Rattle.definitions.specs.Tree.{Expr, Cond}
 use Rattle.definitions.specs.Bytes.{Got}
 use Rattle.definitions.specs.Outcome.{Outcome}
@@ -22,41 +22,35 @@ use Rattle.laws.proofs.Walked.{leaf_walked}
 use Rattle.laws.proofs.Productions.{Two}
 use Rattle.laws.proofs.Tests.{true_is, and_false}
 use Rattle.values.specs.Meaning.{Tells}
-use Rattle.query.specs.Known.{expr_known, comes_to, joined, may}
+use Rattle.query.specs.Known.{expr_known, test_known, IsTest, comes_to, joined, may}
 use Rattle.scan.specs.Codes.{sought_code}
 use Rattle.query.specs.Codes.{bindings_of}
 use Rattle.query.specs.declared.Context.{Context}
-use Rattle.query.specs.Eval.{TruthOf, MayOf, Waits, PairOpen}
+use Rattle.query.proofs.Operators.{joint}
+use Rattle.query.specs.Eval.{TestOf, MayOf, Waits, PairOpen}
 
 -- ── two Booleans ────────────────────────────────────────────────────────────────────────────
 
-abbrev pub same : Bool → Bool → Bool
-same a b = (a && b) || not (a || b)
-
-pub are-same : (a b : Bool) → same a b ≡ true → a ≡ b
-are-same true true e = refl
-are-same true false e = absurd (true≢false (sym e))
-are-same false true e = absurd (true≢false (sym e))
-are-same false false e = refl
-
-pub are-other : (a b : Bool) → same a b ≡ false → a ≡ not b
-are-other true true e = absurd (true≢false e)
-are-other true false e = refl
-are-other false true e = refl
-are-other false false e = absurd (true≢false e)
-
 -- what is enough decides, and else the second part does
-joined-first : (w b : Bool) → w ≡ joined w w b
-joined-first true b = refl
-joined-first false b = refl
+decided : (w a b : Bool) → beq a w ≡ true → a ≡ joined w a b
+decided true true b e = refl
+decided false false b e = refl
+decided true false b e = absurd (true≢false (sym e))
+decided false true b e = absurd (true≢false (sym e))
 
-joined-second : (w b : Bool) → b ≡ joined w (not w) b
-joined-second true b = refl
-joined-second false b = refl
+left-over : (w a b : Bool) → beq a w ≡ false → b ≡ joined w a b
+left-over true false b e = refl
+left-over false true b e = refl
+left-over true true b e = absurd (true≢false e)
+left-over false false b e = absurd (true≢false e)
 
-joined_back : (w b : Bool) → b ≡ joined (not w) w b
-joined_back true b = refl
-joined_back false b = refl
+beq-true : (w : Bool) → beq w true ≡ w
+beq-true true = refl
+beq-true false = refl
+
+beq-false : (w : Bool) → beq w false ≡ not w
+beq-false true = refl
+beq-false false = refl
 
 -- ── the kinds ───────────────────────────────────────────────────────────────────────────────
 
@@ -70,22 +64,17 @@ module _ (ranks table known : List ℕ) (x : Context) (want : Bool) where
   yes-may S terms quads t sure = refl
 
   module _ {a : Bool} (c d : Cond) (h : MayOf ranks table known x want a c) where
-    pub or-may-first : same a want ≡ true → MayOf ranks table known x want want (Cond.or c d)
+    pub joint-may-first : (either : Bool) → beq a (beq want either) ≡ true → MayOf ranks table known x want a (joint either c d)
     unfolding may
-    or-may-first e S terms quads t sure = rw (sym (h S terms quads t sure.0), are-same a want e) (joined-first want _)
+    joint-may-first true e S terms quads t sure = rw (sym (h S terms quads t sure.0)) (decided want a _ (subst (λ w. beq a w ≡ true) (beq-true want) e))
+    joint-may-first false e S terms quads t sure = rw (sym (h S terms quads t sure.0)) (decided (not want) a _ (subst (λ w. beq a w ≡ true) (beq-false want) e))
 
-    pub and-may-first : same a want ≡ false → MayOf ranks table known x want (not want) (Cond.and c d)
+    pub joint-may : {b : Bool} (either : Bool) → MayOf ranks table known x want b d → beq a (beq want either) ≡ false → MayOf ranks table known x want b (joint either c d)
     unfolding may
-    and-may-first e S terms quads t sure = rw (sym (h S terms quads t sure.0), are-other a want e) (joined-first (not want) _)
-
-    module _ {b : Bool} (k : MayOf ranks table known x want b d) where
-      pub or-may : same a want ≡ false → MayOf ranks table known x want b (Cond.or c d)
-      unfolding may
-      or-may e S terms quads t sure = rw (sym (h S terms quads t sure.0), sym (k S terms quads t sure.1), are-other a want e) (joined-second want b)
-
-      pub and-may : same a want ≡ true → MayOf ranks table known x want b (Cond.and c d)
-      unfolding may
-      and-may e S terms quads t sure = rw (sym (h S terms quads t sure.0), sym (k S terms quads t sure.1), are-same a want e) (joined_back want b)
+    joint-may {b} true k e S terms quads t sure =
+        rw (sym (h S terms quads t sure.0), sym (k S terms quads t sure.1)) (left-over want a b (subst (λ w. beq a w ≡ false) (beq-true want) e))
+    joint-may {b} false k e S terms quads t sure =
+        rw (sym (h S terms quads t sure.0), sym (k S terms quads t sure.1)) (left-over (not want) a b (subst (λ w. beq a w ≡ false) (beq-false want) e))
 
   -- a test of which a variable is still to choose
   open-test : (k r : Bool) → k ≡ false → true ≡ (not k || r)
@@ -99,63 +88,29 @@ module _ (ranks table known : List ℕ) (x : Context) (want : Bool) where
       let f = fine-ok (sure (true_is k e)) in
       rw (e, f.1) (made ∙ ap (λ t. is_true (cond want t (not_truth t))) (told f.0 f.1))
 
-  -- one of a text
-  module _ (e : Expr) where
-    pub text-open : {k : Bool} → k ≡ expr_known (bindings_of known) e → not k ≡ true → (p : Pattern) → MayOf ranks table known x want true (Cond.regex p e)
-    unfolding may
-    text-open h n p S terms quads t sure = open-test (expr_known (bindings_of known) e) _ (sym h ∙ not-true _ n)
+  pub test-open : (c : Cond) → IsTest c → test_known (bindings_of known) c ≡ false → MayOf ranks table known x want true c
+  unfolding may test_known
+  test-open Cond.no i = absurd i
+  test-open Cond.yes i = absurd i
+  test-open (Cond.or c d) i = absurd i
+  test-open (Cond.and c d) i = absurd i
+  test-open (Cond.not c) i = absurd i
+  test-open (Cond.regex p e) i = λ k S terms quads t sure. open-test _ _ k
+  test-open (Cond.lang_matches p e) i = λ k S terms quads t sure. open-test _ _ k
+  test-open (Cond.equal e f) i = λ k S terms quads t sure. open-test _ _ k
+  test-open (Cond.less e f) i = λ k S terms quads t sure. open-test _ _ k
 
-    pub tag_open : {k : Bool} → k ≡ expr_known (bindings_of known) e → not k ≡ true → (r : LanguageRange) → MayOf ranks table known x want true (Cond.lang_matches r e)
-    unfolding may
-    tag_open h n r S terms quads t sure = open-test (expr_known (bindings_of known) e) _ (sym h ∙ not-true _ n)
-
-    module _ {k r : Bool} {u : Truth} (h : k ≡ expr_known (bindings_of known) e) (n : not k ≡ false) (made : r ≡ is_true (cond want u (not_truth u))) where
-      pub regex-may : (p : Pattern) → TruthOf ranks table known x u 1 (Cond.regex p e) → MayOf ranks table known x want r (Cond.regex p e)
-      unfolding may
-      regex-may p told S terms quads t sure = closed-test (expr_known (bindings_of known) e) (sym h ∙ not-false _ n) (λ v o. (told S terms quads t v o).0) sure made
-
-      pub language-may : (p : LanguageRange) → TruthOf ranks table known x u 1 (Cond.lang_matches p e) → MayOf ranks table known x want r (Cond.lang_matches p e)
-      unfolding may
-      language-may p told S terms quads t sure = closed-test (expr_known (bindings_of known) e) (sym h ∙ not-false _ n) (λ v o. (told S terms quads t v o).0) sure made
-
-    -- of two expressions
-    module _ (f : Expr) {k : Bool} (h : k ≡ expr_known (bindings_of known) e) where
-      first-open : not k ≡ true → (expr_known (bindings_of known) e && expr_known (bindings_of known) f) ≡ false
-      first-open n = rw (sym h ∙ not-true _ n) refl
-
-      pub equal-first-open : not k ≡ true → MayOf ranks table known x want true (Cond.equal e f)
-      unfolding may
-      equal-first-open n S terms quads t sure = open-test (expr_known (bindings_of known) e && expr_known (bindings_of known) f) _ (first-open n)
-
-      pub less-first-open : not k ≡ true → MayOf ranks table known x want true (Cond.less e f)
-      unfolding may
-      less-first-open n S terms quads t sure = open-test (expr_known (bindings_of known) e && expr_known (bindings_of known) f) _ (first-open n)
-
-      module _ {m : Bool} (g : m ≡ expr_known (bindings_of known) f) (n : not k ≡ false) where
-        second-open : not m ≡ true → (expr_known (bindings_of known) e && expr_known (bindings_of known) f) ≡ false
-        second-open o = rw (sym h ∙ not-false _ n, sym g ∙ not-true _ o) refl
-
-        pub equal-second-open : not m ≡ true → MayOf ranks table known x want true (Cond.equal e f)
-        unfolding may
-        equal-second-open o S terms quads t sure = open-test (expr_known (bindings_of known) e && expr_known (bindings_of known) f) _ (second-open o)
-
-        pub less-second-open : not m ≡ true → MayOf ranks table known x want true (Cond.less e f)
-        unfolding may
-        less-second-open o S terms quads t sure = open-test (expr_known (bindings_of known) e && expr_known (bindings_of known) f) _ (second-open o)
-
-        both-known : not m ≡ false → (expr_known (bindings_of known) e && expr_known (bindings_of known) f) ≡ true
-        both-known o = rw (sym h ∙ not-false _ n, sym g ∙ not-false _ o) refl
-
-        module _ {r : Bool} {u : Truth} (o : not m ≡ false) (made : r ≡ is_true (cond want u (not_truth u))) where
-          pub equal-may : TruthOf ranks table known x u 1 (Cond.equal e f) → MayOf ranks table known x want r (Cond.equal e f)
-          unfolding may
-          equal-may told S terms quads t sure =
-              closed-test (expr_known (bindings_of known) e && expr_known (bindings_of known) f) (both-known o) (λ v q. (told S terms quads t v q).0) sure made
-
-          pub less-may : TruthOf ranks table known x u 1 (Cond.less e f) → MayOf ranks table known x want r (Cond.less e f)
-          unfolding may
-          less-may told S terms quads t sure =
-              closed-test (expr_known (bindings_of known) e && expr_known (bindings_of known) f) (both-known o) (λ v q. (told S terms quads t v q).0) sure made
+  pub test-may : {u : Truth} {r : Bool} → r ≡ is_true (cond want u (not_truth u)) → (c : Cond) → TestOf ranks table known x (Some u) c → MayOf ranks table known x want r c
+  unfolding may test_known
+  test-may made Cond.no h = absurd h.0
+  test-may made Cond.yes h = absurd h.0
+  test-may made (Cond.or c d) h = absurd h.0
+  test-may made (Cond.and c d) h = absurd h.0
+  test-may made (Cond.not c) h = absurd h.0
+  test-may made (Cond.regex p e) h = λ S terms quads t sure. closed-test _ h.1 (λ v o. (h.2 S terms quads t v o).0) sure made
+  test-may made (Cond.lang_matches p e) h = λ S terms quads t sure. closed-test _ h.1 (λ v o. (h.2 S terms quads t v o).0) sure made
+  test-may made (Cond.equal e f) h = λ S terms quads t sure. closed-test _ h.1 (λ v o. (h.2 S terms quads t v o).0) sure made
+  test-may made (Cond.less e f) h = λ S terms quads t sure. closed-test _ h.1 (λ v o. (h.2 S terms quads t v o).0) sure made
 
 -- ── a test that has to wait ─────────────────────────────────────────────────────────────────
 

@@ -1,5 +1,5 @@
 -- What the evaluator promises: wherever the machine meets no fault, its value and its truth are the machine's.
-use Rattle.std.specs.Prelude.{ℕ, ◌≡◌, List, Bool, false, ◌&&◌, length}
+use Rattle.std.specs.Prelude.{ℕ, ◌≡◌, List, Bool, true, false, ◌&&◌, length, Option, Some, None}
 use Rattle.std.proofs.Math.Option.{some}
 use Rattle.std.proofs.Math.ListN.{get_elem?}
 use Rattle.definitions.specs.Limits.{ranks_width, variable_limit}
@@ -12,7 +12,7 @@ use Rattle.laws.specs.Walks.{Loads}
 use Rattle.definitions.specs.Evaluated.{cond_records, query_records}
 use Rattle.definitions.specs.Saved.{terms_in}
 use Rattle.query.specs.Codes.{bindings_of}
-use Rattle.query.specs.Known.{expr_known, may, SureTests}
+use Rattle.query.specs.Known.{expr_known, test_known, IsTest, may, SureTests}
 use Rattle.query.specs.StoreLent.{setting_in, Told, Tabled}
 use Rattle.query.specs.declared.Context.{Context}
 use Rattle.definitions.specs.Values.{value_of}
@@ -41,10 +41,20 @@ abbrev pub ValueOf : (table known : List ℕ) → Context → Value → Expr →
 ValueOf table known x v e = (S : Schema) (ranks : List ℕ) (terms : List Term) (quads : List Quad) → terms_in table ≡ some terms
     → Gives v (expression (setting_in S ranks x) terms quads (bindings_of known) e)
 
+-- a value, where the variables of an expression are all known
+abbrev pub ExprOf : (table known : List ℕ) → Context → Option Value → Expr → Type 0
+ExprOf table known x None e = expr_known (bindings_of known) e ≡ false
+ExprOf table known x (Some v) e = (expr_known (bindings_of known) e ≡ true) × ValueOf table known x v e
+
 module _ (ranks table known : List ℕ) (x : Context) where
   abbrev pub TruthOf : Truth → (records : ℕ) → Cond → Type 0
   TruthOf b n c = (S : Schema) (terms : List Term) (quads : List Quad) → terms_in table ≡ some terms
       → let σ = setting_in S ranks x in Counts b n (condition σ terms quads (bindings_of known) c) (cond_records σ terms quads (bindings_of known) c)
+
+  -- a test's truth, where its variables are all known
+  abbrev pub TestOf : Option Truth → Cond → Type 0
+  TestOf None c = IsTest c × (test_known (bindings_of known) c ≡ false)
+  TestOf (Some b) c = IsTest c × (test_known (bindings_of known) c ≡ true) × TruthOf b 1 c
 
   abbrev pub MayOf : (want may : Bool) → Cond → Type 0
   MayOf want b c = (S : Schema) (terms : List Term) (quads : List Quad) → terms_in table ≡ some terms

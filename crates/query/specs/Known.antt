@@ -45,6 +45,30 @@ module _ (γ : Bindings) where
   expr_known (Expr.plus e f) = expr_known e && expr_known f
   expr_known (Expr.minus e f) = expr_known e && expr_known f
 
+  -- of a test's expressions; a boolean that is no test has none
+  unfoldable pub test_known : Cond → Bool
+  test_known Cond.no = true
+  test_known Cond.yes = true
+  test_known (Cond.or c d) = true
+  test_known (Cond.and c d) = true
+  test_known (Cond.not c) = true
+  test_known (Cond.regex p e) = expr_known e
+  test_known (Cond.lang_matches r e) = expr_known e
+  test_known (Cond.equal e f) = expr_known e && expr_known f
+  test_known (Cond.less e f) = expr_known e && expr_known f
+
+-- a boolean that is a test of values
+abbrev pub IsTest : Cond → Type 0
+IsTest Cond.no = ⊥
+IsTest Cond.yes = ⊥
+IsTest (Cond.or c d) = ⊥
+IsTest (Cond.and c d) = ⊥
+IsTest (Cond.not c) = ⊥
+IsTest (Cond.regex p e) = Unit {0}
+IsTest (Cond.lang_matches r e) = Unit {0}
+IsTest (Cond.equal e f) = Unit {0}
+IsTest (Cond.less e f) = Unit {0}
+
 -- ── what a boolean may come to, some of its variables being known ───────────────────────────
 
 -- a truth is the one that is wanted

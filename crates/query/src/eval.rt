@@ -1,26 +1,23 @@
 // The evaluator of one tuple: values of expressions, truth of booleans and queries, by recursion over the script's bytes.
 ghost use Rattle.std.specs.Prelude.{T, List, ◌+◌, ◌≤◌, ◌≡◌};
-ghost use Rattle.definitions.specs.Bytes.{signed};
+ghost use Rattle.definitions.specs.Bytes.{byte, signed};
 ghost use Rattle.definitions.specs.Terms.{Term, is_date_time};
 ghost use Rattle.definitions.specs.Outcome.{ok};
 ghost use Rattle.definitions.specs.Values.{Value as Meant};
 ghost use Rattle.values.specs.Meaning.{Gives};
 ghost use Rattle.definitions.specs.Reading.{read_expr, read_cond, read_query};
-ghost use Rattle.laws.specs.Ends.{EndsLent};
 ghost use Rattle.laws.specs.Walks.{Loads};
 ghost use Rattle.laws.specs.Walks.{Walked};
 ghost use Rattle.query.specs.StoreLent.{Told, Tabled, Stored, rows_of};
-ghost use Rattle.query.specs.Codes.{bindings_of};
-ghost use Rattle.query.specs.Known.{expr_known};
-ghost use Rattle.query.specs.Eval.{Lent, RanksLent, NumberGives, ValueOf, TruthOf, HoldsOf};
+ghost use Rattle.query.specs.Eval.{Lent, RanksLent, NumberGives, ExprOf, TestOf, TruthOf, HoldsOf};
 
 use crate::names::{name_at, names_at};
-use crate::{Context, Held, Judged, Valued};
+use crate::{Context, Held, Judged, Tested, Valued, View};
 use definitions::{LANG_MATCHES_TEXT_OFFSET, REGEX_TEXT_OFFSET, SLOT_WIDTH, Truth, VARIABLE_LIMIT};
 use ends::after;
 use fields::numbers;
 use scan::{SOUGHT, least};
-use truth::{and_of, is_true, not_of, or_of};
+use truth::{and_of, comes_to, is_true, not_of, or_of};
 use values::Value;
 
 // The value of now.
@@ -45,7 +42,8 @@ fn term_value(table: &[u8], context: Context, code: usize) -> Value
     term_values::value_at(table, from)
 }
 
-// The value of the expression at an offset; where not all its variables are known, any. Ruled out: the second summand left out; a free variable taken for a known one.
+// The value of the expression at an offset; none where not all its variables are known.
+// Ruled out: the second summand left out; a free variable taken for a known one.
 pub fn eval_expr(
     script: &[u8],
     context: Context,
@@ -56,111 +54,133 @@ pub fn eval_expr(
 ) -> Valued
     requires loads { Loads (read_expr script.now context.loaded left at) }
     requires lent { Lent table.now known.now context }
-    ensures walked { Walked (ValueOf table.now known.now context result.value) (read_expr script.now context.loaded left at) result.next }
-    ensures walked_2 { Walked (λ e. result.known ≡ expr_known (bindings_of known.now) e) (read_expr script.now context.loaded left at) result.next }
+    ensures { Walked (ExprOf table.now known.now context result.value) (read_expr script.now context.loaded left at) result.next }
 {
     let kind = script[at];
     let first = at + 1;
     let below = left - 1;
     if kind < 0x41 {
         let n = name_at(script, context.loaded, at, left, known, VARIABLE_LIMIT);
+        let next = n.next;
+        if SOUGHT <= n.code {
+            return Valued { next, value: None };
+        }
         let value = term_value(table, context, n.code);
         return Valued {
-            next: n.next,
-            value,
-            known: n.code < SOUGHT,
+            next,
+            value: Some(value),
         };
     }
+    if kind == 0x41 {
+        let value = clock_value(context.clock);
+        return Valued {
+            next: first,
+            value: Some(value),
+        };
+    }
+    let a = eval_expr(script, context, first, below, table, known);
+    if kind < 0x44 {
+        let Some(x) = a.value else {
+            return a;
+        };
+        let value = if kind == 0x42 {
+            strings::text::text_of(x)
+        } else {
+            values::arithmetic::abs(x)
+        };
+        return Valued {
+            next: a.next,
+            value: Some(value),
+        };
+    }
+    let b = eval_expr(script, context, a.next, below, table, known);
+    let next = b.next;
+    let (Some(x), Some(y)) = (a.value, b.value) else {
+        return Valued { next, value: None };
+    };
+    let value = if kind == 0x44 {
+        values::arithmetic::plus(x, y)
+    } else {
+        values::arithmetic::minus(x, y)
+    };
+    Valued {
+        next,
+        value: Some(value),
+    }
+}
+
+// The truth of the test at an offset, a boolean of values; none where not all its variables are known.
+pub(crate) fn eval_test(view: &View<'_>, at: usize, left: u8, known: &[usize]) -> Tested
+    requires loads { Loads (read_cond view.now.script.now view.now.context.loaded left at) }
+    requires is_test { 0x55 ≤ byte view.now.script.now at }
+    requires ranks_lent { RanksLent view.now.ranks.now view.now.table.now known.now view.now.context }
+    ensures { Walked (TestOf view.now.ranks.now view.now.table.now known.now view.now.context result.truth)
+        (read_cond view.now.script.now view.now.context.loaded left at) result.next }
+{
+    let script = view.script;
+    let kind = script[at];
+    let first = at + 1;
+    let below = left - 1;
     match kind {
-        0x41 => {
-            let value = clock_value(context.clock);
-            Valued {
-                next: first,
-                value,
-                known: true,
+        0x55 => {
+            let text = at + REGEX_TEXT_OFFSET;
+            let a = eval_expr(script, view.context, text, below, view.table, known);
+            let next = a.next;
+            let Some(x) = a.value else {
+                return Tested { next, truth: None };
+            };
+            let truth = strings::tests::regex(x, script, first);
+            Tested {
+                next,
+                truth: Some(truth),
             }
         }
-        0x42 => {
-            let a = eval_expr(script, context, first, below, table, known);
-            if !a.known {
-                return a;
-            }
-            let value = strings::text::text_of(a.value);
-            Valued {
-                next: a.next,
-                value,
-                known: true,
-            }
-        }
-        0x43 => {
-            let a = eval_expr(script, context, first, below, table, known);
-            if !a.known {
-                return a;
-            }
-            let value = values::arithmetic::abs(a.value);
-            Valued {
-                next: a.next,
-                value,
-                known: true,
-            }
-        }
-        0x44 => {
-            let a = eval_expr(script, context, first, below, table, known);
-            let b = eval_expr(script, context, a.next, below, table, known);
-            if !(a.known & b.known) {
-                let value = a.value;
-                return Valued {
-                    next: b.next,
-                    value,
-                    known: false,
-                };
-            }
-            let value = values::arithmetic::plus(a.value, b.value);
-            Valued {
-                next: b.next,
-                value,
-                known: true,
+        0x56 => {
+            let text = at + LANG_MATCHES_TEXT_OFFSET;
+            let a = eval_expr(script, view.context, text, below, view.table, known);
+            let next = a.next;
+            let Some(x) = a.value else {
+                return Tested { next, truth: None };
+            };
+            let truth = strings::tests::lang_matches(x, script, first);
+            Tested {
+                next,
+                truth: Some(truth),
             }
         }
         _ => {
-            let a = eval_expr(script, context, first, below, table, known);
-            let b = eval_expr(script, context, a.next, below, table, known);
-            if !(a.known & b.known) {
-                let value = a.value;
-                return Valued {
-                    next: b.next,
-                    value,
-                    known: false,
-                };
-            }
-            let value = values::arithmetic::minus(a.value, b.value);
-            Valued {
-                next: b.next,
-                value,
-                known: true,
+            let a = eval_expr(script, view.context, first, below, view.table, known);
+            let Some(x) = a.value else {
+                let next = after(view.ends, script.len(), at);
+                return Tested { next, truth: None };
+            };
+            let b = eval_expr(script, view.context, a.next, below, view.table, known);
+            let next = b.next;
+            let Some(y) = b.value else {
+                return Tested { next, truth: None };
+            };
+            let truth = if kind == 0x57 {
+                comparison::equal(x, y)
+            } else {
+                comparison::less(view.ranks, x, y)
+            };
+            Tested {
+                next,
+                truth: Some(truth),
             }
         }
     }
 }
 
 // The truth of the boolean at an offset. Ruled out: and by its first part alone; a count one short where the second part is left out.
-pub fn eval_cond(
-    script: &[u8],
-    ends: &[u16],
-    context: Context,
-    at: usize,
-    left: u8,
-    ranks: &[u8],
-    table: &[u8],
-    known: &[usize],
-) -> Judged
-    requires loads { Loads (read_cond script.now context.loaded left at) }
-    requires ranks_lent { RanksLent ranks.now table.now known.now context }
-    requires ends_lent { EndsLent script.now ends.now }
-    ensures walked { Walked (TruthOf ranks.now table.now known.now context result.truth result.records)
-        (read_cond script.now context.loaded left at) result.next }
+pub fn eval_cond(view: &View<'_>, at: usize, left: u8, known: &[usize]) -> Judged
+    requires loads { Loads (read_cond view.now.script.now view.now.context.loaded left at) }
+    requires ranks_lent { RanksLent view.now.ranks.now view.now.table.now known.now view.now.context }
+    ensures walked { Walked (TruthOf view.now.ranks.now view.now.table.now known.now view.now.context result.truth result.records)
+        (read_cond view.now.script.now view.now.context.loaded left at) result.next }
     ensures records_bound { at + result.records ≤ result.next }
 {
+    let script = view.script;
     let kind = script[at];
     let first = at + 1;
     let below = left - 1;
@@ -175,44 +195,24 @@ pub fn eval_cond(
             truth: Truth::True,
             records: 1,
         },
-        0x52 => {
-            let a = eval_cond(script, ends, context, first, below, ranks, table, known);
-            let one = a.truth;
+        0x52 | 0x53 => {
+            let either = kind == 0x52;
+            let a = eval_cond(view, first, below, known);
             let counted = a.records + 1;
-            if is_true(one) {
-                let next = after(ends, script.len(), at);
+            if comes_to(a.truth, either) {
+                let next = after(view.ends, script.len(), at);
                 return Judged {
                     next,
-                    truth: Truth::True,
+                    truth: a.truth,
                     records: counted, // the second part is left out
                 };
             }
-            let b = eval_cond(script, ends, context, a.next, below, ranks, table, known);
-            let other = b.truth;
-            let truth = or_of(one, other);
-            let records = counted + b.records;
-            Judged {
-                next: b.next,
-                truth,
-                records,
-            }
-        }
-        0x53 => {
-            let a = eval_cond(script, ends, context, first, below, ranks, table, known);
-            let one = a.truth;
-            let counted = a.records + 1;
-            let against = not_of(one);
-            if is_true(against) {
-                let next = after(ends, script.len(), at);
-                return Judged {
-                    next,
-                    truth: Truth::False,
-                    records: counted,
-                };
-            }
-            let b = eval_cond(script, ends, context, a.next, below, ranks, table, known);
-            let other = b.truth;
-            let truth = and_of(one, other);
+            let b = eval_cond(view, a.next, below, known);
+            let truth = if either {
+                or_of(a.truth, b.truth)
+            } else {
+                and_of(a.truth, b.truth)
+            };
             let records = counted + b.records;
             Judged {
                 next: b.next,
@@ -221,9 +221,8 @@ pub fn eval_cond(
             }
         }
         0x54 => {
-            let a = eval_cond(script, ends, context, first, below, ranks, table, known);
-            let one = a.truth;
-            let truth = not_of(one);
+            let a = eval_cond(view, first, below, known);
+            let truth = not_of(a.truth);
             let records = a.records + 1;
             Judged {
                 next: a.next,
@@ -231,42 +230,11 @@ pub fn eval_cond(
                 records,
             }
         }
-        0x55 => {
-            let text = at + REGEX_TEXT_OFFSET;
-            let a = eval_expr(script, context, text, below, table, known);
-            let truth = strings::tests::regex(a.value, script, first);
-            Judged {
-                next: a.next,
-                truth,
-                records: 1,
-            }
-        }
-        0x56 => {
-            let text = at + LANG_MATCHES_TEXT_OFFSET;
-            let a = eval_expr(script, context, text, below, table, known);
-            let truth = strings::tests::lang_matches(a.value, script, first);
-            Judged {
-                next: a.next,
-                truth,
-                records: 1,
-            }
-        }
-        0x57 => {
-            let a = eval_expr(script, context, first, below, table, known);
-            let b = eval_expr(script, context, a.next, below, table, known);
-            let truth = comparison::equal(a.value, b.value);
-            Judged {
-                next: b.next,
-                truth,
-                records: 1,
-            }
-        }
         _ => {
-            let a = eval_expr(script, context, first, below, table, known);
-            let b = eval_expr(script, context, a.next, below, table, known);
-            let truth = comparison::less(ranks, a.value, b.value);
+            let test = eval_test(view, at, left, known);
+            let truth = test.truth.unwrap_or(Truth::Unknown); // the machine meets a fault there
             Judged {
-                next: b.next,
+                next: test.next,
                 truth,
                 records: 1,
             }
@@ -275,77 +243,48 @@ pub fn eval_cond(
 }
 
 // Whether the query at an offset holds, where all its variables are known. Ruled out: the last quad left out; a union of its first part only.
-pub fn eval_query(
-    script: &[u8],
-    ends: &[u16],
-    context: Context,
-    at: usize,
-    left: u8,
-    ranks: &[u8],
-    table: &[u8],
-    known: &[usize],
-    quads: &[u64],
-) -> Held
-    requires loads { Loads (read_query script.now context.loaded left at) }
-    requires ranks_lent { RanksLent ranks.now table.now known.now context }
-    requires ends_lent { EndsLent script.now ends.now }
-    requires stored { Stored quads.now context }
-    ensures walked { Walked (HoldsOf ranks.now table.now known.now context (rows_of quads.now context) result.holds result.records)
-        (read_query script.now context.loaded left at) result.next }
+pub fn eval_query(view: &View<'_>, at: usize, left: u8, known: &[usize]) -> Held
+    requires loads { Loads (read_query view.now.script.now view.now.context.loaded left at) }
+    requires ranks_lent { RanksLent view.now.ranks.now view.now.table.now known.now view.now.context }
+    requires stored { Stored view.now.quads.now view.now.context }
+    ensures walked { Walked (HoldsOf view.now.ranks.now view.now.table.now known.now view.now.context (rows_of view.now.quads.now view.now.context)
+        result.holds result.records)
+        (read_query view.now.script.now view.now.context.loaded left at) result.next }
     ensures records_bound { at + result.records ≤ result.next }
 {
+    let script = view.script;
     let kind = script[at];
     let first = at + 1;
     let below = left - 1;
     match kind {
         0x61 => {
-            let names = names_at(script, context.loaded, first, below, known, VARIABLE_LIMIT);
-            let found = least(quads, context.quads, names.codes, 0, 1);
+            let names = names_at(
+                script,
+                view.context.loaded,
+                first,
+                below,
+                known,
+                VARIABLE_LIMIT,
+            );
+            let found = least(view.quads, view.context.quads, names.codes, 0, 1);
             Held {
                 next: names.next,
                 holds: found == 0,
                 records: 1,
             }
         }
-        0x62 => {
-            let a = eval_query(
-                script, ends, context, first, below, ranks, table, known, quads,
-            );
+        0x62 | 0x63 => {
+            let a = eval_query(view, first, below, known);
             let counted = a.records + 1;
-            if !a.holds {
-                let next = after(ends, script.len(), at);
+            if a.holds == (kind == 0x63) {
+                let next = after(view.ends, script.len(), at);
                 return Held {
                     next,
-                    holds: false,
+                    holds: a.holds,
                     records: counted,
                 };
             }
-            let b = eval_query(
-                script, ends, context, a.next, below, ranks, table, known, quads,
-            );
-            let records = counted + b.records;
-            Held {
-                next: b.next,
-                holds: b.holds,
-                records,
-            }
-        }
-        0x63 => {
-            let a = eval_query(
-                script, ends, context, first, below, ranks, table, known, quads,
-            );
-            let counted = a.records + 1;
-            if a.holds {
-                let next = after(ends, script.len(), at);
-                return Held {
-                    next,
-                    holds: true,
-                    records: counted,
-                };
-            }
-            let b = eval_query(
-                script, ends, context, a.next, below, ranks, table, known, quads,
-            );
+            let b = eval_query(view, a.next, below, known);
             let records = counted + b.records;
             Held {
                 next: b.next,
@@ -354,9 +293,8 @@ pub fn eval_query(
             }
         }
         0x64 => {
-            let a = eval_cond(script, ends, context, first, below, ranks, table, known);
-            let truth = a.truth;
-            let holds = is_true(truth);
+            let a = eval_cond(view, first, below, known);
+            let holds = is_true(a.truth);
             let records = a.records + 1;
             Held {
                 next: a.next,

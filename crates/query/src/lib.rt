@@ -1,6 +1,8 @@
 // Evaluating a query for one tuple; what a boolean may come to before all its variables are chosen; one pattern over the quads.
 #![tactic(auto)]
 
+ghost use Rattle.laws.specs.Ends.{EndsLent};
+
 pub mod eval;
 pub mod may; // may.rt: what a boolean may come to
 pub mod names;
@@ -16,6 +18,20 @@ pub struct Context {
     pub count: usize,
     pub quads: usize,
     pub clock: u64,
+}
+
+// What a query is evaluated over: the script with the table of its records' ends, ranks, the term table, the keys of the quads, the code of each term's least
+// type, and what a search is told.
+#[derive(Clone, Copy)]
+pub struct View<'a> {
+    pub script: &'a [u8],
+    pub ends: &'a [u16],
+    pub ranks: &'a [u8],
+    pub table: &'a [u8],
+    pub quads: &'a [u64],
+    pub leasts: &'a [u8],
+    pub context: Context,
+    pub ghost ends_lent: { EndsLent script.now ends.now },
 }
 
 // A name read from the script: the offset after it, and its code.
@@ -55,10 +71,16 @@ pub struct Held {
     pub records: usize,
 }
 
-// An expression's value, and whether all its variables are known.
+// An expression's value; none where not all its variables are known.
 #[derive(Clone, Copy)]
 pub struct Valued {
     pub next: usize,
-    pub value: Value,
-    pub known: bool,
+    pub value: Option<Value>,
+}
+
+// A test's truth; none where not all its variables are known.
+#[derive(Clone, Copy)]
+pub struct Tested {
+    pub next: usize,
+    pub truth: Option<Truth>,
 }

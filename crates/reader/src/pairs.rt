@@ -11,11 +11,7 @@ use definitions::{PAIR_LIMIT, VARIABLE_LIMIT};
 fn written_ok(code: u8) -> bool
     ensures { result ≡ is_some (written_of code) }
 {
-    match code {
-        0..=5 => true,
-        9..=13 => true,
-        _ => false,
-    }
+    matches!(code, 0..=5 | 9..=13)
 }
 
 // Whether a pair is good: a variable and a written type where it is used, else zero.
@@ -23,9 +19,9 @@ fn pair_ok(used: bool, variable: u8, written: u8) -> bool
     ensures { result ≡ pair_ok used variable written }
 {
     if used {
-        return ((variable as usize) < VARIABLE_LIMIT) & written_ok(written);
+        return (variable as usize) < VARIABLE_LIMIT && written_ok(written);
     }
-    (variable == 0) & (written == 0)
+    variable == 0 && written == 0
 }
 
 // Whether the four pairs at an offset are good, the first `count` of them used.
@@ -38,14 +34,11 @@ pub fn pairs_ok(s: &[u8], at: usize, count: u8) -> bool
     if PAIR_LIMIT < used {
         return false;
     }
-    let mut k = 0;
-    let mut next = at;
-    while k < PAIR_LIMIT {
-        if !pair_ok(k < used, s[next], s[next + 1]) {
+    for k in 0..PAIR_LIMIT {
+        let pair = at + 2 * k;
+        if !pair_ok(k < used, s[pair], s[pair + 1]) {
             return false;
         }
-        next += 2;
-        k += 1;
     }
     true
 }

@@ -1,4 +1,6 @@
 -- Reading the verdict off the tables, as the code does it.
+use Rattle.std.specs.Prelude.{Ok, Err}
+use Rattle.definitions.specs.declared.Refusal.TheVariants.{NoTyping, NoGreatest}
 use Prim.Native.Nat.{ℕ, zero, suc, ◌+◌, ◌≤◌, ◌<◌}
 use native.Mathlib.Decide.{ℕ_discrete}
 use native.Mathlib.Numerals.{add-one}
@@ -7,7 +9,7 @@ use mathlib.Core.Path.{◌≡◌, refl, sym, ap, ap₂, ◌∙◌, subst}
 use mathlib.Core.Bool.{Bool, true, false, cond, not, ◌&&◌, ◌||◌}
 use mathlib.Core.List.{List, [], map}
 use lib.Dec.{T, eqb, ltb}
-use lib.ListN.{length, get_or, replicate, length-map}
+use lib.ListN.{length, get_or, length-map}
 use lib.Seq.{ext_get_or}
 use borrow.Author.Tests.{ne_eqb}
 use Rattle.definitions.specs.Limits.{variable_limit}
@@ -190,20 +192,20 @@ module _ (t : Tables) (ws : List Written) where
   unfolding read_off
   off-by ea ed = λ i. answer_of ws (verdict_by (sym ea i) (sym ed i))
 
-  pub off-joined : {b : Bool} → b ≡ apart t → b ≡ false → record { refusal = 8; types = replicate variable_limit 0 } ≡ answer_of ws (read_off t ws)
+  pub off-joined : {b : Bool} → b ≡ apart t → b ≡ false → Err NoTyping ≡ answer_of ws (read_off t ws)
   unfolding answer_of
   off-joined eb e = off-by (sym eb ∙ e) refl
 
   module _ {b : Bool} (eb : b ≡ apart t) (e : b ≡ true) where
-    pub off-open : {c : Bool} → c ≡ closed_all → c ≡ false → record { refusal = 9; types = replicate variable_limit 0 } ≡ answer_of ws (read_off t ws)
+    pub off-open : {c : Bool} → c ≡ closed_all → c ≡ false → Err NoGreatest ≡ answer_of ws (read_off t ws)
     unfolding decided answer_of
     off-open ec h = off-by (sym eb ∙ e) (ap (λ z. z && tight_all) (sym ec ∙ h))
 
     module _ {c : Bool} (ec : c ≡ closed_all) (h : c ≡ true) {d : Bool} (ed : d ≡ tight_all) where
-      pub off-loose : d ≡ false → record { refusal = 9; types = replicate variable_limit 0 } ≡ answer_of ws (read_off t ws)
+      pub off-loose : d ≡ false → Err NoGreatest ≡ answer_of ws (read_off t ws)
       unfolding decided answer_of
       off-loose k = off-by (sym eb ∙ e) (ap₂ ◌&&◌ (sym ec ∙ h) (sym ed ∙ k))
 
-      pub off-types : d ≡ true → {l : List ℕ} → l ≡ reported_all t ws → record { refusal = 0; types = l } ≡ answer_of ws (read_off t ws)
+      pub off-types : d ≡ true → {l : List ℕ} → l ≡ reported_all t ws → Ok l ≡ answer_of ws (read_off t ws)
       unfolding decided answer_of reported_all
-      off-types k s = (λ i. record { refusal = 0; types = s i }) ∙ off-by (sym eb ∙ e) (ap₂ ◌&&◌ (sym ec ∙ h) (sym ed ∙ k))
+      off-types k s = ap Ok s ∙ off-by (sym eb ∙ e) (ap₂ ◌&&◌ (sym ec ∙ h) (sym ed ∙ k))

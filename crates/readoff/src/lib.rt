@@ -12,9 +12,9 @@ ghost use Rattle.facts.specs.Infer.{all_below, of_family, apart, settled, tight,
 ghost use Rattle.facts.specs.Walk.{Joined};
 ghost use Rattle.facts.specs.Answers.{reported_at, reported_all, answer_of};
 
-use definitions::{NO_GREATEST, NO_TYPING, VARIABLE_LIMIT};
+use definitions::{Refusal, VARIABLE_LIMIT};
 use facts::noting::Tables;
-use facts::{Answer, FAMILIES, RANGE_NODES, UNBOUND};
+use facts::{FAMILIES, RANGE_NODES, UNBOUND};
 
 // Whether no two families are one.
 fn apart(t: Tables) -> bool
@@ -54,12 +54,10 @@ fn all_closed(t: Tables, written: &[u8]) -> bool
     requires { Joined t × (length written.now ≡ variable_limit) }
     ensures { result ≡ all_below variable_limit (λ x. not (is_open (get_or (all_written written.now) x unbound)) || settled t x) }
 {
-    let mut x = 0;
-    while x < VARIABLE_LIMIT {
+    for x in 0..VARIABLE_LIMIT {
         if !closed(t, written, x) {
             return false;
         }
-        x += 1;
     }
     true
 }
@@ -82,12 +80,10 @@ fn tight_with(t: Tables, p: usize) -> bool
     requires { Joined t × (p < variable_limit) }
     ensures { result ≡ all_below variable_limit (tight t p) }
 {
-    let mut x = 0;
-    while x < VARIABLE_LIMIT {
+    for x in 0..VARIABLE_LIMIT {
         if !tight(t, p, x) {
             return false;
         }
-        x += 1;
     }
     true
 }
@@ -96,12 +92,10 @@ fn all_tight(t: Tables) -> bool
     requires { Joined t }
     ensures { result ≡ all_below variable_limit (λ p. all_below variable_limit (tight t p)) }
 {
-    let mut p = 0;
-    while p < VARIABLE_LIMIT {
+    for p in 0..VARIABLE_LIMIT {
         if !tight_with(t, p) {
             return false;
         }
-        p += 1;
     }
     true
 }
@@ -159,39 +153,23 @@ fn all_reported(t: Tables, written: &[u8]) -> [u8; VARIABLE_LIMIT]
     ensures { result ≡ reported_all t (all_written written.now) }
 {
     let mut types = [0; VARIABLE_LIMIT];
-    let mut x = 0;
-    while x < VARIABLE_LIMIT {
+    for x in 0..VARIABLE_LIMIT {
         types[x] = reported(t, written, x);
-        x += 1;
     }
     types
 }
 
 // The answer that the tables of a whole script give.
 // Ruled out: no typing for every script; the least types for the greatest.
-pub fn read_off(t: Tables, written: &[u8]) -> Answer
+pub fn read_off(t: Tables, written: &[u8]) -> Result<[u8; VARIABLE_LIMIT], Refusal>
     requires { Joined t × (length written.now ≡ variable_limit) }
     ensures { result ≡ answer_of (all_written written.now) (read_off t (all_written written.now)) }
 {
-    let none = [0; VARIABLE_LIMIT];
     if !apart(t) {
-        return Answer {
-            refusal: NO_TYPING,
-            types: none,
-        };
+        return Err(Refusal::NoTyping);
     }
-    if !all_closed(t, written) {
-        return Answer {
-            refusal: NO_GREATEST,
-            types: none,
-        };
+    if !all_closed(t, written) || !all_tight(t) {
+        return Err(Refusal::NoGreatest);
     }
-    if !all_tight(t) {
-        return Answer {
-            refusal: NO_GREATEST,
-            types: none,
-        };
-    }
-    let types = all_reported(t, written);
-    Answer { refusal: 0, types }
+    Ok(all_reported(t, written))
 }

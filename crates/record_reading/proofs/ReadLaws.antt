@@ -1,4 +1,7 @@
 -- Laws of records at an offset, for each way through the code.
+use Rattle.std.specs.Prelude.{Some, None}
+use Rattle.std.specs.Bool.{then_some}
+use Rattle.std.specs.declared.option.Option as Answer
 use Prim.Native.Nat.{ℕ, ◌+◌, ◌-◌, ◌<◌, ◌≤◌}
 use mathlib.Core.Bool.{Bool, true, false, not, and-false}
 use mathlib.Core.List.{List}
@@ -16,8 +19,6 @@ use Rattle.definitions.specs.Terms.{Text, Triple, body_width, term_of_body, body
 use Rattle.laws.proofs.Ranges.{every_in, split}
 use Rattle.laws.proofs.Tests.{is_true, true_is}
 use Rattle.laws.proofs.Options.{provided-yes, onward-some}
-use Rattle.definitions.specs.declared.Read.{Read}
-use Rattle.definitions.specs.declared.Read.TheVariants.{Next, Malformed}
 use Rattle.laws.specs.ReadAnswers.{is_some, next_of}
 use Rattle.fields.specs.Answers.{has_room, width_of, body_term, body_from}
 use Rattle.laws.proofs.ReadAnswers.{is_none, is-some, none-ends, leaf-ends, next-lost, next-got, next_map}
@@ -44,7 +45,7 @@ module _ (s : List ℕ) (at width : ℕ) where
 -- ── a URI body ──────────────────────────────────────────────────────────────────────────────
 
 module _ (s : List ℕ) (at : ℕ) {room : Bool} (e : room ≡ has_room s at text_width) where
-  pub uri-short : not room ≡ true → Malformed ≡ next_of (uri_at s at)
+  pub uri-short : not room ≡ true → None ≡ next_of (uri_at s at)
   unfolding has_room uri_at provided
   uri-short h = none-ends (rw (sym e ∙ not-true room h))
 
@@ -52,15 +53,22 @@ module _ (s : List ℕ) (at : ℕ) {room : Bool} (e : room ≡ has_room s at tex
     uri-test : is_some (uri_text (part s at text_width)) ≡ r
     uri-test = sym (rw (some-part s at text_width) at f)
 
-    pub uri-bad : not r ≡ true → Malformed ≡ next_of (uri_at s at)
+    uri-bad : not r ≡ true → None ≡ next_of (uri_at s at)
     unfolding has_room uri_at provided onward
     uri-bad g = none-ends (rw (sym e ∙ not-false room h, is_none (uri_text (part s at text_width)) (uri-test ∙ not-true r g)))
 
-    pub uri-next : not r ≡ false → Next (at + text_width) ≡ next_of (uri_at s at)
+    uri-next : not r ≡ false → Some (at + text_width) ≡ next_of (uri_at s at)
     unfolding has_room uri_at provided onward
     uri-next g =
         let u = is-some (uri_text (part s at text_width)) (uri-test ∙ not-false r g) in
         leaf-ends {a = u.0} (provided-yes (onward (uri_text (part s at text_width)) (λ u. some (u, at + text_width))) (sym e ∙ not-false room h) ∙ onward-some (λ u. some (u, at + text_width)) u.1)
+
+    pub uri-read : then_some r (at + text_width) ≡ next_of (uri_at s at)
+    uri-read = go r refl
+      where
+        go : (t : Bool) → r ≡ t → then_some t (at + text_width) ≡ next_of (uri_at s at)
+        go true q = uri-next (ap not q)
+        go false q = uri-bad (ap not q)
 
 -- ── a body of a kind ────────────────────────────────────────────────────────────────────────
 
@@ -71,13 +79,13 @@ no-width Datatype.decimal e = omega arith
 no-width Datatype.date_time e = omega arith
 no-width Datatype.integer e = omega arith
 
-pub body-none : (o : Option Datatype) (s : List ℕ) (at : ℕ) {w : ℕ} → w ≡ width_of o → w ≡ 0 → Malformed ≡ next_of (body_from o s at)
+pub body-none : (o : Option Datatype) (s : List ℕ) (at : ℕ) {w : ℕ} → w ≡ width_of o → w ≡ 0 → None ≡ next_of (body_from o s at)
 unfolding width_of body_from onward
 body-none none s at e z = none-ends refl
 body-none (some d) s at e z = absurd (no-width d (sym e ∙ z))
 
 module _ (s : List ℕ) (at : ℕ) {w : ℕ} {room : Bool} (e : room ≡ has_room s at w) where
-  pub body-short : (o : Option Datatype) → w ≡ width_of o → not room ≡ true → Malformed ≡ next_of (body_from o s at)
+  pub body-short : (o : Option Datatype) → w ≡ width_of o → not room ≡ true → None ≡ next_of (body_from o s at)
   unfolding has_room width_of body_from onward body_at provided
   body-short none q h = none-ends refl
   body-short (some d) q h = none-ends (rw (← q, sym e ∙ not-true room h))
@@ -86,29 +94,36 @@ module _ (s : List ℕ) (at : ℕ) {w : ℕ} {room : Bool} (e : room ≡ has_roo
     body-test : (d : Datatype) → w ≡ body_width d → r ≡ is_some (term_of_body d (part s at (at + w - at))) → is_some (term_of_body d (part s at (body_width d))) ≡ r
     body-test d q f = sym (rw (some-part s at w, q) at f)
 
-    pub body-bad : (o : Option Datatype) → w ≡ width_of o → r ≡ is_some (body_term o (part s at (at + w - at))) → not r ≡ true → Malformed ≡ next_of (body_from o s at)
+    body-bad : (o : Option Datatype) → w ≡ width_of o → r ≡ is_some (body_term o (part s at (at + w - at))) → not r ≡ true → None ≡ next_of (body_from o s at)
     unfolding has_room width_of body_term body_from onward body_at provided
     body-bad none q f g = none-ends refl
     body-bad (some d) q f g =
         let fits : leb (at + body_width d) (length s) ≡ true = rw q at (sym e ∙ not-false room h) in
         none-ends (rw (fits, is_none (term_of_body d (part s at (body_width d))) (body-test d q f ∙ not-true r g)))
 
-    pub body-next : (o : Option Datatype) → w ≡ width_of o → r ≡ is_some (body_term o (part s at (at + w - at))) → not r ≡ false → Next (at + w) ≡ next_of (body_from o s at)
+    body-next : (o : Option Datatype) → w ≡ width_of o → r ≡ is_some (body_term o (part s at (at + w - at))) → not r ≡ false → Some (at + w) ≡ next_of (body_from o s at)
     unfolding has_room width_of body_term body_from onward body_at provided
     body-next none q f g = absurd (true_is false (sym f ∙ not-false r g))
     body-next (some d) q f g =
         let fits : leb (at + body_width d) (length s) ≡ true = rw q at (sym e ∙ not-false room h) in
         let t = is-some (term_of_body d (part s at (body_width d))) (body-test d q f ∙ not-false r g) in
-        ap (λ n. Next (at + n)) q
+        ap (λ n. Some (at + n)) q
         ∙ leaf-ends {a = t.0}
         (provided-yes (onward (term_of_body d (part s at (body_width d))) (λ t. some (t, at + body_width d))) fits ∙ onward-some (λ t. some (t, at + body_width d)) t.1)
+
+    pub body-read : (o : Option Datatype) → w ≡ width_of o → r ≡ is_some (body_term o (part s at (at + w - at))) → then_some r (at + w) ≡ next_of (body_from o s at)
+    body-read o q f = go r refl
+      where
+        go : (t : Bool) → r ≡ t → then_some t (at + w) ≡ next_of (body_from o s at)
+        go true g = body-next o q f (ap not g)
+        go false g = body-bad o q f (ap not g)
 
 -- ── a term record ───────────────────────────────────────────────────────────────────────────
 
 byte-out : (s : List ℕ) (at : ℕ) → length s ≤ at → byte s at ≡ 0
 byte-out s at h = get_or-eq_default s 0 {n = at} h
 
-pub term-out : (s : List ℕ) (at : ℕ) → length s ≤ at → Malformed ≡ next_of (read_term s at)
+pub term-out : (s : List ℕ) (at : ℕ) → length s ≤ at → None ≡ next_of (read_term s at)
 unfolding read_term onward
 term-out s at h = none-ends (rw (byte-out s at h))
 
@@ -135,12 +150,12 @@ code-none k h = rw (
     other n l u = ne_eqb k n (λ e. ⊎_elim (λ a. omega arith) (λ a. omega arith) h)
 
 module _ (s : List ℕ) (at : ℕ) {room : Bool} (e : room ≡ has_room s at entry_width) where
-  pub entry-short : not room ≡ true → Malformed ≡ next_of (read_entry s at)
+  pub entry-short : not room ≡ true → None ≡ next_of (read_entry s at)
   unfolding has_room read_entry provided
   entry-short h = none-ends (rw (sym e ∙ not-true room h, and-false))
 
   module _ (h : not room ≡ false) where
-    pub entry-kind : (byte s at ≡ 0x21 → ⊥) → Malformed ≡ next_of (read_entry s at)
+    pub entry-kind : (byte s at ≡ 0x21 → ⊥) → None ≡ next_of (read_entry s at)
     unfolding has_room read_entry provided
     entry-kind n = none-ends (rw (ne_eqb (byte s at) 0x21 n))
 
@@ -151,7 +166,7 @@ module _ (s : List ℕ) (at : ℕ) {room : Bool} (e : room ≡ has_room s at ent
       uri-room : leb (at + 1 + text_width) (length s) ≡ true
       uri-room = le-leb (at + 1 + text_width) (length s) (omega (arith, room_fits s at entry_width e h))
 
-      pub entry-uri : not r ≡ true → Malformed ≡ next_of (read_entry s at)
+      pub entry-uri : not r ≡ true → None ≡ next_of (read_entry s at)
       unfolding has_room read_entry uri_at provided onward
       entry-uri g = none-ends (rw (k, sym e ∙ not-false room h, uri-room, is_none (uri_text (part s (at + 1) text_width)) (entry-test ∙ not-true r g)))
 
@@ -159,11 +174,11 @@ module _ (s : List ℕ) (at : ℕ) {room : Bool} (e : room ≡ has_room s at ent
         u : (u : Text) × (uri_text (part s (at + 1) text_width) ≡ some u)
         u = is-some (uri_text (part s (at + 1) text_width)) (entry-test ∙ not-false r g)
 
-        pub entry-code : (byte s (at + 1 + text_width) < 1) ⊎ (5 < byte s (at + 1 + text_width)) → Malformed ≡ next_of (read_entry s at)
+        pub entry-code : (byte s (at + 1 + text_width) < 1) ⊎ (5 < byte s (at + 1 + text_width)) → None ≡ next_of (read_entry s at)
         unfolding has_room read_entry uri_at provided onward
         entry-code c = none-ends (rw (k, sym e ∙ not-false room h, uri-room, u.1, code-none (byte s (at + 1 + text_width)) c))
 
-        pub entry_next : 1 ≤ byte s (at + 1 + text_width) → byte s (at + 1 + text_width) ≤ 5 → Next (at + 1 + text_width + 1) ≡ next_of (read_entry s at)
+        pub entry_next : 1 ≤ byte s (at + 1 + text_width) → byte s (at + 1 + text_width) ≤ 5 → Some (at + 1 + text_width + 1) ≡ next_of (read_entry s at)
         unfolding has_room read_entry uri_at provided onward
         entry_next l c =
             let d = code-some (byte s (at + 1 + text_width)) l c in
@@ -204,11 +219,11 @@ triple_from s at d =
     onward (body_at d s p.1) (λ o. some (record { subject = x.0; property = p.0; object = o.0 }, o.1))))
 
 module _ (s : List ℕ) (at : ℕ) where
-  pub triple-kind : (byte s at < 0x81) ⊎ (0x85 < byte s at) → Malformed ≡ next_of (read_triple s at)
+  pub triple-kind : (byte s at < 0x81) ⊎ (0x85 < byte s at) → None ≡ next_of (read_triple s at)
   unfolding read_triple onward
   triple-kind h = none-ends (rw (page-none (byte s at) h))
 
-  pub triple-out : length s ≤ at → Malformed ≡ next_of (read_triple s at)
+  pub triple-out : length s ≤ at → None ≡ next_of (read_triple s at)
   triple-out h = triple-kind (inl (omega (arith, byte-out s at h)))
 
   -- of any kind
@@ -217,19 +232,19 @@ module _ (s : List ℕ) (at : ℕ) where
   triple-lost h none = refl
   triple-lost h (some d) = h d
 
-  pub triple-subject : {r : Read} → r ≡ next_of (uri_at s (at + 1)) → r ≡ Malformed → Malformed ≡ next_of (read_triple s at)
+  pub triple-subject : {r : Answer.Option ℕ} → r ≡ next_of (uri_at s (at + 1)) → r ≡ None → None ≡ next_of (read_triple s at)
   unfolding read_triple triple_from onward
   triple-subject e m = none-ends (triple-lost (λ d. rw (next-lost (uri_at s (at + 1)) (sym e ∙ m))) (of_page_kind (byte s at)))
 
-  module _ {r : Read} {x : ℕ} (e : r ≡ next_of (uri_at s (at + 1))) (m : r ≡ Next x) where
+  module _ {r : Answer.Option ℕ} {x : ℕ} (e : r ≡ next_of (uri_at s (at + 1))) (m : r ≡ Some x) where
     subject : (u : Text) × (uri_at s (at + 1) ≡ some (u, x))
     subject = next-got (uri_at s (at + 1)) (sym e ∙ m)
 
-    pub triple-property : {q : Read} → q ≡ next_of (uri_at s x) → q ≡ Malformed → Malformed ≡ next_of (read_triple s at)
+    pub triple-property : {q : Answer.Option ℕ} → q ≡ next_of (uri_at s x) → q ≡ None → None ≡ next_of (read_triple s at)
     unfolding read_triple triple_from onward
     triple-property f n = none-ends (triple-lost (λ d. rw (subject.1, next-lost (uri_at s x) (sym f ∙ n))) (of_page_kind (byte s at)))
 
-    module _ {q : Read} {p : ℕ} (f : q ≡ next_of (uri_at s x)) (n : q ≡ Next p) where
+    module _ {q : Answer.Option ℕ} {p : ℕ} (f : q ≡ next_of (uri_at s x)) (n : q ≡ Some p) where
       property : (u : Text) × (uri_at s x ≡ some (u, p))
       property = next-got (uri_at s x) (sym f ∙ n)
 
@@ -238,6 +253,6 @@ module _ (s : List ℕ) (at : ℕ) where
       object-next none = refl
       object-next (some d) = rw (subject.1, property.1) (next_map (body_at d s p) (λ o. record { subject = subject.0; property = property.0; object = o.0 }))
 
-      pub triple-object : {t : Read} → 0x81 ≤ byte s at → t ≡ next_of (body_from (of_term_kind (byte s at - 0x70)) s p) → t ≡ next_of (read_triple s at)
+      pub triple-object : {t : Answer.Option ℕ} → 0x81 ≤ byte s at → t ≡ next_of (body_from (of_term_kind (byte s at - 0x70)) s p) → t ≡ next_of (read_triple s at)
       unfolding read_triple triple_from
       triple-object l g = (rw (object-kind (byte s at) (omega arith)) at g) ∙ sym (object-next (of_page_kind (byte s at)))

@@ -6,7 +6,7 @@ ghost use Rattle.definitions.specs.Terms.{of_term_kind, uri_at, read_term, read_
 ghost use Rattle.fields.specs.Answers.{has_room, body_from};
 ghost use Rattle.laws.specs.ReadAnswers.{next_of};
 
-use definitions::{ENTRY_WIDTH, Read, TEXT_WIDTH};
+use definitions::{ENTRY_WIDTH, TEXT_WIDTH};
 use term_bodies::bodies::{body_ok, body_width};
 use term_bodies::texts::uri_ok;
 
@@ -14,97 +14,74 @@ use term_bodies::texts::uri_ok;
 pub fn has_room(s: &[u8], at: usize, width: usize) -> bool
     ensures { result ≡ has_room s.now at width }
 {
-    if s.len() < at {
-        return false;
-    }
-    width <= s.len() - at
+    at <= s.len() && width <= s.len() - at
 }
 
 // A URI body. Ruled out: an empty URI; a field cut off by the end.
-pub fn read_uri(s: &[u8], at: usize) -> Read
+pub fn read_uri(s: &[u8], at: usize) -> Option<usize>
     ensures { result ≡ next_of (uri_at s.now at) }
 {
     if !has_room(s, at, TEXT_WIDTH) {
-        return Read::Malformed;
+        return None;
     }
     let end = at + TEXT_WIDTH;
-    if !uri_ok(&s[at..end]) {
-        return Read::Malformed;
-    }
-    Read::Next(end)
+    uri_ok(&s[at..end]).then_some(end)
 }
 
 // A body of a term record's kind. Ruled out: a body one byte short; a kind that is no term's.
-pub fn read_body(kind: u8, s: &[u8], at: usize) -> Read
+pub fn read_body(kind: u8, s: &[u8], at: usize) -> Option<usize>
     ensures { result ≡ next_of (body_from (of_term_kind kind) s.now at) }
 {
     let width = body_width(kind);
-    if width == 0 {
-        return Read::Malformed;
-    }
-    if !has_room(s, at, width) {
-        return Read::Malformed;
+    if width == 0 || !has_room(s, at, width) {
+        return None;
     }
     let end = at + width;
-    if !body_ok(kind, &s[at..end]) {
-        return Read::Malformed;
-    }
-    Read::Next(end)
+    body_ok(kind, &s[at..end]).then_some(end)
 }
 
 // A term record, 11 to 15. Ruled out: kind 16; a number past its limits.
-pub fn read_term(s: &[u8], at: usize) -> Read
+pub fn read_term(s: &[u8], at: usize) -> Option<usize>
     ensures { result ≡ next_of (read_term s.now at) }
 {
     if s.len() <= at {
-        return Read::Malformed;
+        return None;
     }
     read_body(s[at], s, at + 1)
 }
 
 // A schema record, 21. Ruled out: datatype 6; a record without its datatype byte.
-pub fn read_entry(s: &[u8], at: usize) -> Read
+pub fn read_entry(s: &[u8], at: usize) -> Option<usize>
     ensures { result ≡ next_of (read_entry s.now at) }
 {
     if !has_room(s, at, ENTRY_WIDTH) {
-        return Read::Malformed;
+        return None;
     }
     let start = at + 1;
     let end = start + TEXT_WIDTH;
-    let kind = s[at];
-    match kind {
-        0x21 => {
-            if !uri_ok(&s[start..end]) {
-                return Read::Malformed;
-            }
-            let datatype = s[end];
-            match datatype {
-                1..=5 => Read::Next(end + 1),
-                _ => Read::Malformed,
-            }
-        }
-        _ => Read::Malformed,
+    if s[at] != 0x21 || !uri_ok(&s[start..end]) {
+        return None;
+    }
+    match s[end] {
+        1..=5 => Some(end + 1),
+        _ => None,
     }
 }
 
 // A page record, 81 to 85. Ruled out: kind 86; an object read as another kind's.
-pub fn read_triple(s: &[u8], at: usize) -> Read
+pub fn read_triple(s: &[u8], at: usize) -> Option<usize>
     ensures { result ≡ next_of (read_triple s.now at) }
 {
     if s.len() <= at {
-        return Read::Malformed;
+        return None;
     }
     let kind = s[at];
     match kind {
         0x81..=0x85 => {
-            let Read::Next(property) = read_uri(s, at + 1) else {
-                return Read::Malformed;
-            };
-            let Read::Next(object) = read_uri(s, property) else {
-                return Read::Malformed;
-            };
+            let property = read_uri(s, at + 1)?;
+            let object = read_uri(s, property)?;
             read_body(kind - 0x70, s, object)
         }
-        _ => Read::Malformed,
+        _ => None,
     }
 }

@@ -1,4 +1,7 @@
 -- Laws of a schema's entries by their numbers: the bytes that they take, the hashes of their URIs, and hashes compared first.
+use Rattle.std.specs.Prelude.{Some, None}
+use Rattle.std.specs.declared.option.Option as Answer
+use native.Mathlib.Decide.{ℕ_discrete}
 use Prim.Native.Nat.{ℕ, zero, suc, ◌+◌, ◌-◌, ◌*◌, ◌/◌, ◌≤◌, ◌<◌}
 use mathlib.Core.Bool.{Bool, true, false, ◌||◌}
 use mathlib.Core.List.{List, ◌∷◌}
@@ -8,28 +11,28 @@ use mathlib.Core.Path.{◌≡◌, refl, sym, ap, ◌∙◌, subst}
 use native.Mathlib.Omega.{arith}
 use lib.Dec.{eqb}
 use lib.ListN.{length, get_or, set, take, drop}
-use lib.Seq.{drop-cons}
+use lib.Seq.{drop-cons, get_or-take, length-take-le}
 use borrow.Author.Tests.{eqb-false}
-use Rattle.definitions.specs.Limits.{slot_width, text_width, entry_limit, entry_width, schema_width}
+use Rattle.definitions.specs.Limits.{slot_width, text_width, entry_limit, entry_width, uri_width, schema_width}
 use Rattle.definitions.specs.Lists.{some?}
-use Rattle.definitions.specs.Bytes.{byte, part, filled}
+use Rattle.definitions.specs.Bytes.{byte, part, filled, same_bytes}
 use Rattle.definitions.specs.Terms.{Schema, same_property, uri_text, read_entry, read_schema}
 use Rattle.laws.proofs.Options.{same_some}
 use Rattle.laws.proofs.Ranges.{split}
 use Rattle.laws.proofs.Tests.{true_is}
 use Rattle.laws.proofs.RecordsAt.{entry-forward, at-end, schema-at}
 use Rattle.laws.specs.Records.{records_at}
-use Rattle.definitions.specs.declared.Read.TheVariants.{Next}
 use Rattle.laws.specs.ReadAnswers.{is_some, next_of}
-use Rattle.fields.specs.Answers.{again_in, distinct_in, schema_code}
-use Rattle.table.specs.Hashes.{hash_of, place_in, uri_slot, HashesOf, HashedEntries}
+use Rattle.fields.specs.Answers.{again_in, distinct_in, code_if, schema_code}
+use Rattle.table.specs.Hashes.{hash_of, uri_slot, HashesOf, HashedEntries, NoneWith, FirstWith}
 use Rattle.laws.proofs.ReadAnswers.{is-some}
 use Rattle.fields.proofs.PartLaws.{some-part}
 use Rattle.table.proofs.HashLaws.{one-hashed}
-use Rattle.table.proofs.PlaceLaws.{to-place}
+use Rattle.table.proofs.PlaceLaws.{carried}
 use Rattle.records.proofs.ListLaws.{good-one, good-after, good-rest, rest, all_of, again_rest, again-end, distinct-not, distinct-rest}
-use Rattle.fields.proofs.SameLaws.{Compared, entry-ends, same-properties}
-use Rattle.records.proofs.SchemaLaws.{code_here, code-rest}
+use Rattle.fields.proofs.SameLaws.{Compared, compared, entry-ends, same-properties}
+use Rattle.fields.proofs.NumberLaws.{code-some, code-none}
+use Rattle.records.proofs.SchemaLaws.{code_here, code-rest, code-high, code-end}
 
 -- ── the bytes of a schema ───────────────────────────────────────────────────────────────────
 
@@ -91,7 +94,7 @@ module _ (s : List ℕ) (i : ℕ) (g : is_some (records_at read_entry s (i * ent
   pub entry-good : is_some (read_entry s (i * entry_width)) ≡ true
   entry-good = good-one read_entry entry-forward s (i * entry_width) g starts
 
-  ends : Next (i * entry_width + entry_width) ≡ next_of (read_entry s (i * entry_width))
+  ends : Some (i * entry_width + entry_width) ≡ next_of (read_entry s (i * entry_width))
   ends = entry-ends s (i * entry_width) entry-good
 
   pub after-good : is_some (records_at read_entry s (i * entry_width + entry_width)) ≡ true
@@ -149,18 +152,45 @@ module _ (s hashes u : List ℕ) (g : is_some (read_schema s) ≡ true) (w : Has
 abbrev pub AskedFrom : (schema uri : List ℕ) → ℕ → Type 0
 AskedFrom s u i = (is_some (records_at read_entry s (i * entry_width)) ≡ true) × (schema_code (read_schema s) (uri_text u) ≡ schema_code (records_at read_entry s (i * entry_width)) (uri_text u))
 
--- no entry before it is of the URI
-module _ (s hashes u : List ℕ) (v : is_some (uri_text u) ≡ true) (w : HashedEntries s hashes) {m : ℕ} (e : m ≡ hash_of (uri_slot u)) where
-  pub code-place : (i : ℕ) → i ≤ length s / entry_width → AskedFrom s u i → {r : ℕ} → r ≡ place_in m (part hashes i (length s / entry_width - i)) → AskedFrom s u (i + r)
-  code-place i l p f =
-      to-place (AskedFrom s u) m hashes (length s / entry_width) (omega (arith, w.few, w.room))
-      (λ j k d q. (next-good s j q.0 k, q.1 ∙ code_other s j q.0 k u v hashes w e d)) i l p f
+-- what the code finds, where its test compares the URIs' bytes
+module _ (s hashes u : List ℕ) (g : is_some (read_schema s) ≡ true) (v : is_some (uri_text u) ≡ true) (w : HashedEntries s hashes) {m : ℕ} (e : m ≡ hash_of (uri_slot u))
+    {Test : ℕ → Bool → Type 0} {r : Answer.Option ℕ} (x : FirstWith Test (take (length s / entry_width) hashes) m 0 r)
+    (same : (i : ℕ) → i < length s / entry_width → (t : Bool) → Test i t → t ≡ same_bytes (part s (i * entry_width + 1) (i * entry_width + 1 + text_width - (i * entry_width + 1))) u) where
+  start : AskedFrom s u 0
+  start = (ap is_some (sym (schema-at s)) ∙ g, ap (λ (o : Option Schema). schema_code o (uri_text u)) (schema-at s))
 
-  pub code-first : is_some (read_schema s) ≡ true → {r : ℕ} → r ≡ place_in m (take (length s / entry_width) hashes) → AskedFrom s u r
-  code-first g f =
-      let z : length s / entry_width - 0 ≡ length s / entry_width = omega arith in
-      let start : AskedFrom s u 0 = (ap is_some (sym (schema-at s)) ∙ g, ap (λ (o : Option Schema). schema_code o (uri_text u)) (schema-at s)) in
-      subst (AskedFrom s u) (omega arith) (code-place 0 (omega arith) start (f ∙ ap (λ (k : ℕ). place_in m (take k hashes)) (sym z)))
+  asked_next : (j : ℕ) → j < length s / entry_width → (get_or (take (length s / entry_width) hashes) j 0 ≡ m → Test j false) → AskedFrom s u j → AskedFrom s u (j + 1)
+  asked_next j l d q = (next-good s j q.0 l, q.1 ∙ go (ℕ_discrete (get_or (take (length s / entry_width) hashes) j 0) m))
+    where
+      go : Dec (get_or (take (length s / entry_width) hashes) j 0 ≡ m)
+          → schema_code (records_at read_entry s (j * entry_width)) (uri_text u) ≡ schema_code (records_at read_entry s ((j + 1) * entry_width)) (uri_text u)
+      go (yes z) = code-next s j q.0 l u v (compared _ _ _ (same j l false (d z))) refl
+      go (no z) = code_other s j q.0 l u v hashes w e (λ y. z (get_or-take (length s / entry_width) hashes j 0 l ∙ y))
+
+  asked_from : (k : ℕ) → k ≤ length s / entry_width → NoneWith Test (take (length s / entry_width) hashes) m 0 k → AskedFrom s u k
+  asked_from k l d = subst (AskedFrom s u) (omega arith) (carried (AskedFrom s u) 0 k (λ j a b p. asked_next j (omega arith) (λ q. d j (omega arith) (omega arith) q) p) start)
+
+  few : length (take (length s / entry_width) hashes) ≡ length s / entry_width
+  few = length-take-le (length s / entry_width) hashes (omega (arith, w.few, w.room))
+
+  module _ {i : ℕ} (q : r ≡ Some i) where
+    pub found-inside : i < length s / entry_width
+    found-inside = omega (arith, (x.some i q).1, few)
+
+    pub found-code : Some (byte s (i * entry_width + uri_width)) ≡ code_if (schema_code (read_schema s) (uri_text u))
+    found-code =
+        let o = x.some i q in
+        let p = asked_from i (omega (arith, found-inside)) o.4 in
+        let c = compared _ _ _ (same i found-inside true o.3) in
+        let here : i * entry_width + 1 + text_width ≡ i * entry_width + uri_width = omega arith in
+        let code : byte s (i * entry_width + uri_width) ≡ schema_code (read_schema s) (uri_text u) =
+        ap (byte s) (sym here) ∙ code-found s i p.0 found-inside u v c refl ∙ sym p.1 in
+        ap Some code ∙ code-some (schema_code (read_schema s) (uri_text u)) (subst (λ (k : ℕ). 0 < k) (ap (byte s) here ∙ code) (code-high s (i * entry_width) u v p.0 (starts s i p.0 found-inside)))
+
+  pub none-code : r ≡ None → None ≡ code_if (schema_code (read_schema s) (uri_text u))
+  none-code q =
+      let p = asked_from (length s / entry_width) (omega arith) (subst (λ (k : ℕ). NoneWith Test (take (length s / entry_width) hashes) m 0 k) few (x.none q)) in
+      code-none (schema_code (read_schema s) (uri_text u)) (p.1 ∙ code-end s (length s / entry_width * entry_width) u v (omega (arith, (schema-whole s g).1)))
 
 -- ── properties that are all different ───────────────────────────────────────────────────────
 

@@ -1,4 +1,6 @@
 -- Laws of records one after the other, for each way through a loop over them.
+use Rattle.std.specs.Prelude.{Some, None}
+use Rattle.std.specs.declared.option.Option as Answer
 use Prim.Native.Nat.{ℕ, ◌+◌, ◌<◌, ◌≤◌}
 use mathlib.Core.Bool.{Bool, true, false}
 use mathlib.Core.List.{List, ◌∷◌}
@@ -10,9 +12,6 @@ use Rattle.definitions.specs.Bytes.{Got, in_front}
 use Rattle.laws.proofs.Options.{some-not-none}
 use Rattle.laws.proofs.RecordsAt.{Forward, at-end, at-bad, at_one}
 use Rattle.laws.specs.Records.{records_at}
-use Rattle.fields.specs.declared.Counted.TheVariants as Counts
-use Rattle.definitions.specs.declared.Read.{Read}
-use Rattle.definitions.specs.declared.Read.TheVariants.{Next, Malformed}
 use Rattle.laws.specs.ReadAnswers.{is_some, next_of}
 use Rattle.table.proofs.CountLaws.{count_from, none_of}
 use Rattle.fields.specs.Answers.{same_in, again_in, distinct_in}
@@ -24,16 +23,16 @@ use Rattle.laws.proofs.ReadAnswers.{is-some, next-lost, next-got, leaf-ends}
 
 module _ {A : Type 0} (read : List ℕ → ℕ → Got A) (forward : Forward read) (s : List ℕ) where
   module _ (at : ℕ) where
-    pub count-end : (n : ℕ) → length s ≤ at → count_from n (records_at read s at) ≡ Counts.Count n
+    pub count-end : (n : ℕ) → length s ≤ at → count_from n (records_at read s at) ≡ Some n
     unfolding count_from
-    count-end n h = rw (at-end read forward s at h) (ap Counts.Count (omega arith))
+    count-end n h = rw (at-end read forward s at h) (ap Some (omega arith))
 
-    module _ (h : at < length s) {r : Read} (e : r ≡ next_of (read s at)) where
-      pub count-bad : (n : ℕ) → r ≡ Malformed → count_from n (records_at read s at) ≡ Counts.Malformed
+    module _ (h : at < length s) {r : Answer.Option ℕ} (e : r ≡ next_of (read s at)) where
+      pub count-bad : (n : ℕ) → r ≡ None → count_from n (records_at read s at) ≡ None
       unfolding count_from
       count-bad n m = rw (at-bad read forward s at h (next-lost (read s at) (sym e ∙ m)))
 
-      module _ {k : ℕ} (m : r ≡ Next k) where
+      module _ {k : ℕ} (m : r ≡ Some k) where
         one : (a : A) × (read s at ≡ some (a, k))
         one = next-got (read s at) (sym e ∙ m)
 
@@ -43,7 +42,7 @@ module _ {A : Type 0} (read : List ℕ → ℕ → Got A) (forward : Forward rea
           where
             go : (o : Option (List A)) → count_from n (in_front read one.0 o) ≡ count_from (n + 1) o
             go none = refl
-            go (some xs) = ap Counts.Count (omega arith)
+            go (some xs) = ap Some (omega arith)
 
         pub next-after : (at < k) × (k ≤ length s)
         next-after = forward s at one.0 k one.1
@@ -57,7 +56,7 @@ module _ {A : Type 0} (read : List ℕ → ℕ → Got A) (forward : Forward rea
         go none e = absurd (some-not-none (is-some (records_at read s at) g).1 (at-bad read forward s at h e))
         go (some r) e = refl
 
-    module _ {k : ℕ} (e : Next k ≡ next_of (read s at)) where
+    module _ {k : ℕ} (e : Some k ≡ next_of (read s at)) where
       pub good-after : (at < k) × (k ≤ length s)
       good-after = next-after at h e refl
 

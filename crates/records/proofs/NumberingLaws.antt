@@ -1,4 +1,7 @@
 -- Laws of terms that join a term table.
+use Rattle.std.specs.Prelude.{Some, None}
+use Rattle.std.specs.declared.option.Option as Answer
+use Rattle.std.specs.declared.option.Option as Answer
 use Prim.Native.Nat.{ℕ, suc, ◌+◌, ◌-◌, ◌*◌, ◌<◌, ◌≤◌}
 use mathlib.Core.Bool.{Bool, true, false, cond}
 use mathlib.Core.List.{List, [], ◌∷◌, ◌++◌, append-nil, append_assoc}
@@ -27,14 +30,12 @@ use Rattle.laws.specs.Valid.{Valid}
 use Rattle.laws.proofs.Valid.{uri-inv, uri-valid, term-valid, terms-valid}
 use Rattle.laws.proofs.Slots.{slot-length, slot-of, slot-inv}
 use Rattle.laws.proofs.Tables.{slots_length, term-table-length, terms-of, terms-in-valid, terms-in-table}
-use Rattle.table.specs.declared.Added.TheVariants.{Count, Full}
-use Rattle.fields.specs.declared.Counted.{Counted}
-use Rattle.fields.specs.declared.Counted.TheVariants as Counts
-use Rattle.definitions.specs.declared.Read.{Read}
-use Rattle.definitions.specs.declared.Read.TheVariants.{Next, Malformed}
 use Rattle.laws.specs.ReadAnswers.{is_some, next_of}
 use Rattle.fields.specs.Answers.{count_of, distinct_in}
 use Rattle.table.specs.Hashes.{hash_of, slot_at, Hashed}
+use Rattle.definitions.specs.declared.Refusal.TheVariants.{BadTerm, TermTwice}
+use Rattle.std.specs.Prelude.{Ok, Err}
+use Rattle.definitions.specs.Result.{OrRefusal}
 use Rattle.records.specs.Listing.{listed_of, Written, Lists}
 use Rattle.table.proofs.CountLaws.{count_none, count-some}
 use Rattle.table.proofs.HashLaws.{none-hashed}
@@ -66,16 +67,16 @@ module _ (table : List ℕ) (n : ℕ) (ts : List Term) (h : HeldTerms table n ts
 
   pub held-holds : HoldsTerms table n
   unfolding count_of
-  held-holds = record { width = held-width; count = ap count_of held-terms ∙ ap Counts.Count h.count }
+  held-holds = record { width = held-width; count = ap count_of held-terms ∙ ap Some h.count }
 
   -- all of them are there
   all_there : table ≡ table_of ts
   unfolding table_of
   all_there = h.is ∙ ap term_table (sym (take_all term_limit ts (omega (arith, h.count, h.few))))
 
-  added-all : (Count n ≡ added_of ts) × (table ≡ table_of ts)
+  added-all : (Some n ≡ added_of ts) × (table ≡ table_of ts)
   unfolding added_of
-  added-all = (rw (le-leb (length ts) term_limit (omega (arith, h.count, h.few))) (ap Count (sym h.count)), all_there)
+  added-all = (rw (le-leb (length ts) term_limit (omega (arith, h.count, h.few))) (ap Some (sym h.count)), all_there)
 
   -- there is no room for more
   no_more : term_limit ≤ n → (more : List Term) → table ≡ table_of (ts ++ more)
@@ -109,10 +110,10 @@ put_one table n ts h l t v slot e =
     }
 
 -- the hashes of so many as there then are
-pub count-hashed : (table hashes : List ℕ) (n : ℕ) → Hashed table n hashes → (k : ℕ) → Count n ≡ Count k → Hashed table k hashes
+pub count-hashed : (table hashes : List ℕ) (n : ℕ) → Hashed table n hashes → (k : ℕ) → Some n ≡ Some k → Hashed table k hashes
 count-hashed table hashes n w k e i l = let q : n ≡ k = cc in w i (omega arith)
 
-pub full-hashed : (table hashes : List ℕ) (k : ℕ) → Full ≡ Count k → Hashed table k hashes
+pub full-hashed : (table hashes : List ℕ) (k : ℕ) → None ≡ Some k → Hashed table k hashes
 full-hashed table hashes k e = absurd (let z : ◌≡◌ {A = ℕ} 0 1 = cc in omega arith)
 
 -- ── a term joins ────────────────────────────────────────────────────────────────────────────
@@ -153,6 +154,10 @@ module _ (table slot : List ℕ) (n : ℕ) (a : AreBytes table) (b : AreBytes sl
     number-low =
         ⊎_elim (λ x. omega (arith, x.0, number, held.count, held.few)) (λ x. omega (arith, x.0, number, held.count, held.few)) (number-cases t ts)
 
+    pub number-last : n ≤ f → n ≡ f
+    number-last l =
+        ⊎_elim (λ x. absurd (omega (arith, x.0, number, held.count))) (λ x. omega (arith, x.0, number, held.count)) (number-cases t ts)
+
     pub join-there : f < n → (n ≡ length (with_term (slot_term slot) (terms_in table))) × (table ≡ table_of (with_term (slot_term slot) (terms_in table)))
     join-there l =
         ⊎_elim (λ x. let same = joined ∙ x.1 in rw same (sym held.count, all_there table n ts held))
@@ -178,16 +183,16 @@ module _ (table slot : List ℕ) (n : ℕ) (a : AreBytes table) (b : AreBytes sl
 
 -- ── more terms ──────────────────────────────────────────────────────────────────────────────
 
-count-inv : (ts : List Term) (m : ℕ) → Count m ≡ added_of ts → (m ≡ length ts) × (length ts ≤ term_limit)
+count-inv : (ts : List Term) (m : ℕ) → Some m ≡ added_of ts → (m ≡ length ts) × (length ts ≤ term_limit)
 unfolding added_of
 count-inv ts m e = go (leb (length ts) term_limit) refl e
   where
-    go : (b : Bool) → leb (length ts) term_limit ≡ b → Count m ≡ cond b (Count (length ts)) Full → (m ≡ length ts) × (length ts ≤ term_limit)
+    go : (b : Bool) → leb (length ts) term_limit ≡ b → Some m ≡ cond b (Some (length ts)) None → (m ≡ length ts) × (length ts ≤ term_limit)
     go true q e = (cc, leb-true (length ts) term_limit q)
     go false q e = absurd (let z : ◌≡◌ {A = ℕ} 0 1 = cc in omega arith)
 
 -- a table that has no room has none for more
-full-more : (ts more : List Term) → term_limit < length ts → (Full ≡ added_of (ts ++ more)) × (table_of ts ≡ table_of (ts ++ more))
+full-more : (ts more : List Term) → term_limit < length ts → (None ≡ added_of (ts ++ more)) × (table_of ts ≡ table_of (ts ++ more))
 unfolding added_of table_of
 full-more ts more l =
     (rw (lt-leb (length (ts ++ more)) term_limit (omega (arith, length-append ts more))), ap term_table (sym (take-append-le term_limit ts more (omega arith))))
@@ -198,7 +203,7 @@ module _ (ts : List Term) (v : All Valid ts) (m : ℕ) {table : List ℕ} where
   unfolding table_of
   held-joined e l f = record { is = f ∙ ap term_table (take_all term_limit ts (omega (arith, e))); valid = v; count = sym e; few = l }
 
-  pub held-added : Count m ≡ added_of ts → table ≡ table_of ts → HeldTerms table m ts
+  pub held-added : Some m ≡ added_of ts → table ≡ table_of ts → HeldTerms table m ts
   held-added e f = let c = count-inv ts m e in held-joined c.0 (omega (arith, c.0, c.1)) f
 
 -- schema URIs join at the end
@@ -215,7 +220,7 @@ properties-append (e ∷ S) ts =
 
 -- ── a term written into its slot ────────────────────────────────────────────────────────────
 
-module _ (s : List ℕ) (at end : ℕ) (e : Next end ≡ next_of (read_term s at)) where
+module _ (s : List ℕ) (at end : ℕ) (e : Some end ≡ next_of (read_term s at)) where
   this : (t : Term) × (read_term s at ≡ some (t, end))
   this = next-got (read_term s at) (sym e)
 
@@ -275,11 +280,11 @@ module _ (s table hashes : List ℕ) (at n : ℕ) (i : Writing s table hashes at
   pub still-hashed : n < term_limit → Hashed table n hashes
   still-hashed l = (i.held (omega arith)).1
 
-  pub writing-bad : at < length s → {r : Read} → r ≡ next_of (read_term s at) → r ≡ Malformed → Counts.Malformed ≡ count_of (read_terms s)
+  pub writing-bad : at < length s → {r : Answer.Option ℕ} → r ≡ next_of (read_term s at) → r ≡ None → None ≡ count_of (read_terms s)
   unfolding count_of
   writing-bad l e m = rw (i.whole, at-bad read_term term-forward s at l (next-lost (read_term s at) (sym e ∙ m)))
 
-  pub writing-next : at < length s → {r : Read} → r ≡ next_of (read_term s at) → {k : ℕ} → r ≡ Next k → {after hashes' : List ℕ} → length after ≡ length table → length hashes' ≡ length hashes
+  pub writing-next : at < length s → {r : Answer.Option ℕ} → r ≡ next_of (read_term s at) → {k : ℕ} → r ≡ Some k → {after hashes' : List ℕ} → length after ≡ length table → length hashes' ≡ length hashes
       → ((t : Term) → read_term s at ≡ some (t, k) → n < term_limit → Written table n t after hashes') → Writing s after hashes' k (n + 1)
   writing-next l e {k} m {after} {hashes'} a b w =
       let x = next-got (read_term s at) (sym e ∙ m) in
@@ -300,23 +305,26 @@ module _ (s table hashes : List ℕ) (at n : ℕ) (i : Writing s table hashes at
     all_read : read_terms s ≡ some i.done
     all_read = i.whole ∙ rw (at-end read_term term-forward s at l) (ap some (append-nil i.done))
 
-    pub writing-count : Counts.Count n ≡ count_of (read_terms s)
+    pub writing-count : Some n ≡ count_of (read_terms s)
     unfolding count_of
-    writing-count = rw all_read (ap Counts.Count (sym i.count))
+    writing-count = rw all_read (ap Some (sym i.count))
 
-    pub writing-end : (m : ℕ) → Counts.Count n ≡ Counts.Count m → m ≤ term_limit → Lists s table hashes m
+    pub writing-end : (m : ℕ) → Some n ≡ Some m → m ≤ term_limit → Lists s table hashes m
     unfolding list_of
     writing-end m e few =
         let q : n ≡ m = cc in
         let h = i.held (omega arith) in
         record { tabled = h.0.is ∙ rw all_read; counted = ap (λ (o : Option (List Term)). length (list_of o)) all_read ∙ i.count ∙ q; hashed = λ j k. h.1 j (omega arith) }
 
+pub ok-is : {m n : ℕ} → ◌≡◌ {A = OrRefusal ℕ} (Ok m) (Ok n) → m ≡ n
+ok-is e = cc
+
 -- what is said of them
 module _ (o : Option (List Term)) where
-  pub listed-bad : {r : Counted} → r ≡ count_of o → r ≡ Counts.Malformed → record { refusal = 2; count = 0 } ≡ listed_of o
+  pub listed-bad : {r : Answer.Option ℕ} → r ≡ count_of o → r ≡ None → Err BadTerm ≡ listed_of o
   listed-bad e m = rw (count_none o (sym e ∙ m)) (unfold listed_of in refl)
 
-  module _ {n : ℕ} (e : Counts.Count n ≡ count_of o) where
+  module _ {n : ℕ} (e : Some n ≡ count_of o) where
     some-listed : (ts : List Term) × (o ≡ some ts) × (length ts ≡ n)
     some-listed = count-some o (sym e)
 
@@ -328,13 +336,13 @@ module _ (o : Option (List Term)) where
       unfolding distinct_in
       apart b q = sym (ap (distinct_in same_term) some-listed.1) ∙ sym f ∙ q
 
-      pub listed-twice : d ≡ false → record { refusal = 3; count = 0 } ≡ listed_of o
+      pub listed-twice : d ≡ false → Err TermTwice ≡ listed_of o
       unfolding listed_of
       listed-twice q = rw (some-listed.1, apart false q)
 
-      pub listed-count : d ≡ true → record { refusal = 0; count = n } ≡ listed_of o
+      pub listed-count : d ≡ true → Ok n ≡ listed_of o
       unfolding listed_of
-      listed-count q = rw (some-listed.1, apart true q) (ap (λ (n : ℕ). record { refusal = 0; count = n }) (sym some-listed.2))
+      listed-count q = rw (some-listed.1, apart true q) (ap Ok (sym some-listed.2))
 
 -- the table that they are left in
 module _ {s table hashes : List ℕ} {n : ℕ} (g : is_some (read_terms s) ≡ true) (few : n ≤ term_limit) (l : Lists s table hashes n) where
@@ -376,7 +384,7 @@ adding-start s table n a g h =
     }
 
 module _ (s : List ℕ) (before : List Term) (table : List ℕ) (at n : ℕ) (i : Adding s before table at n) where
-  pub adding-end : length s ≤ at → (Count n ≡ added_of (with_properties (list_of (read_schema s)) before)) × (table ≡ table_of (with_properties (list_of (read_schema s)) before))
+  pub adding-end : length s ≤ at → (Some n ≡ added_of (with_properties (list_of (read_schema s)) before)) × (table ≡ table_of (with_properties (list_of (read_schema s)) before))
   unfolding list_of with_properties
   adding-end l =
       let same : with_properties (list_of (read_schema s)) before ≡ i.current = i.whole ∙ ap (λ o. with_properties (list_of o) i.current) (at-end read_entry entry-forward s at l) in
@@ -435,7 +443,7 @@ module _ (s : List ℕ) (before : List Term) (table : List ℕ) (at n : ℕ) (i 
               whole = all-entries ∙ sym (ap (λ o. with_properties (list_of o) joined-terms) (rest read_entry entry-forward s at i.good l (entry-ends s at entry-good)).1);
             }
 
-        pub adding-full : term_limit < m → (Full ≡ added_of (with_properties (list_of (read_schema s)) before)) × (after ≡ table_of (with_properties (list_of (read_schema s)) before))
+        pub adding-full : term_limit < m → (None ≡ added_of (with_properties (list_of (read_schema s)) before)) × (after ≡ table_of (with_properties (list_of (read_schema s)) before))
         adding-full over =
             let more = properties-append entries joined-terms in
             let x = full-more joined-terms more.0 (omega (arith, e, ap length with-term)) in

@@ -38,6 +38,13 @@ code-inv k d = row-keys (λ k o. o ≡ some d → datatype_code d ≡ k) k datat
     is : {c : Datatype} → some c ≡ some d → datatype_code d ≡ datatype_code c
     is e = ap datatype_code (sym (some_is e))
 
+positive : (d : Datatype) → 0 < datatype_code d
+positive Datatype.any_uri = omega arith
+positive Datatype.string = omega arith
+positive Datatype.decimal = omega arith
+positive Datatype.date_time = omega arith
+positive Datatype.integer = omega arith
+
 module _ (s : List ℕ) (at : ℕ) (u : List ℕ) (v : is_some (uri_text u) ≡ true) where
   pub code-end : length s ≤ at → schema_code (records_at read_entry s at) (uri_text u) ≡ 0
   unfolding schema_code datatype_in code_of
@@ -60,6 +67,12 @@ module _ (s : List ℕ) (at : ℕ) (u : List ℕ) (v : is_some (uri_text u) ≡ 
     first_holds : EntryAt s at first (at + entry_width)
     unfolding first
     first_holds = let e = here read_entry entry-forward s at g h (entry-ends s at good) in entry-inv s at e.0 (at + entry_width) e.1
+
+    -- an entry's datatype has a code
+    pub code-high : 0 < byte s (at + 1 + text_width)
+    code-high =
+        let e : at + uri_width ≡ at + 1 + text_width = omega arith in
+        omega (arith, positive first.datatype, code-inv (byte s (at + uri_width)) first.datatype first_holds.datatype, ap (byte s) e)
 
     module _ {r : Bool} (c : Compared (part s (at + 1) (at + 1 + text_width - (at + 1))) u r) where
       same : (t : Text) → uri_text u ≡ some t → r ≡ same_bytes first.property t

@@ -1,17 +1,18 @@
 -- Listed terms: what is said of them, and the table that they are left in.
-use Rattle.std.specs.Prelude.{ℕ, ◌+◌, List, cond, ◌≡◌, length}
+use Rattle.definitions.specs.Result.{OrRefusal}
+use Rattle.definitions.specs.declared.Refusal.TheVariants.{BadTerm, TermTwice}
+use Rattle.std.specs.Prelude.{ℕ, Ok, Err, ◌+◌, List, cond, ◌≡◌, length}
 use Rattle.std.proofs.Math.Option.{Option, none, some}
 use Rattle.definitions.specs.Lists.{distinct}
 use Rattle.definitions.specs.Terms.{Term, same_term, slot_of, read_terms}
 use Rattle.definitions.specs.Saved.{term_table}
 use Rattle.table.specs.Hashes.{Hashed}
 use Rattle.table.specs.Table.{slot_set, list_of}
-use Rattle.records.specs.declared.Listed.{Listed}
 
 -- refusals 2 and 3, or how many there are
-unfoldable pub listed_of : Option (List Term) → Listed
-listed_of none = record { refusal = 2; count = 0 }
-listed_of (some ts) = cond (distinct same_term ts) (record { refusal = 0; count = length ts }) (record { refusal = 3; count = 0 })
+unfoldable pub listed_of : Option (List Term) → OrRefusal ℕ
+listed_of none = Err BadTerm
+listed_of (some ts) = cond (distinct same_term ts) (Ok (length ts)) (Err TermTwice)
 
 -- a term in slot n of a table, with its hash
 pub record Written (before : List ℕ) (n : ℕ) (t : Term) (table hashes : List ℕ) : Type 0 where

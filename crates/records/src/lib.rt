@@ -5,13 +5,6 @@ pub mod lists;
 pub mod numbering;
 pub mod schema;
 
-// Listed terms: a refusal's number and zero, or 0 and how many they are.
-#[derive(Clone, Copy)]
-pub struct Listed {
-    pub refusal: u8,
-    pub count: usize,
-}
-
 // A term's number, and how many terms there then are; above the limit where the table had no room.
 #[derive(Clone, Copy)]
 pub struct Joined {

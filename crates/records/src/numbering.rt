@@ -1,25 +1,21 @@
 // Terms that join a term table, and the table that loading numbers.
+ghost use Rattle.std.specs.Prelude.{Some};
 ghost use Rattle.std.specs.Prelude.{◌≡◌, true, ℕ, ◌<◌, ◌≤◌, length, replicate};
 ghost use Rattle.std.proofs.Math.Option.{some};
 ghost use Rattle.definitions.specs.Limits.{term_limit, term_table_width};
 ghost use Rattle.definitions.specs.Terms.{Term, same_term, read_term, read_terms, read_schema};
 ghost use Rattle.definitions.specs.Machine.{with_properties};
 ghost use Rattle.definitions.specs.Saved.{slot_term, terms_in};
-ghost use Rattle.table.specs.declared.Added.TheVariants.{Count};
-ghost use Rattle.definitions.specs.declared.Read.TheVariants.{Next};
-ghost use Rattle.fields.specs.declared.Counted.TheVariants as Counts;
 ghost use Rattle.laws.specs.ReadAnswers.{is_some, next_of};
 ghost use Rattle.fields.specs.Answers.{count_of, distinct_in};
 ghost use Rattle.table.specs.Hashes.{Hashed};
 ghost use Rattle.records.specs.Listing.{listed_of, Written, Lists};
 ghost use Rattle.table.specs.Table.{HoldsTerms, GoodSlot, number_in, list_of, with_term, added_of, table_of};
 
+use crate::Joined;
 use crate::lists::records_distinct;
-use crate::{Joined, Listed};
-use definitions::{BAD_TERM, ENTRY_WIDTH, Read, TERM_LIMIT, TERM_TWICE, TEXT_WIDTH};
-use fields::Counted;
+use definitions::{ENTRY_WIDTH, Refusal, TERM_LIMIT, TEXT_WIDTH};
 use record_reading::read_term;
-use table::Added;
 use table::slots::{find_term, put_term, slot_of, slots_distinct};
 
 // A slot's term joins a table of n terms, where it is not there.
@@ -34,11 +30,11 @@ pub fn add_term(table: &mut [u8], n: usize, hashes: &mut [u16], slot: &[u8]) -> 
     ensures table_after { table.new ≡ table_of (with_term (slot_term slot.now) (terms_in table.old)) }
     ensures hashed_2 { result.terms ≤ term_limit → Hashed table.new result.terms hashes.new }
 {
-    let found = find_term(table, n, hashes, slot);
-    let number = found as u16;
-    if found < n {
+    if let Some(found) = find_term(table, n, hashes, slot) {
+        let number = found as u16;
         return Joined { number, terms: n };
     }
+    let number = n as u16;
     let terms = n + 1;
     if TERM_LIMIT <= n {
         return Joined { number, terms };
@@ -49,7 +45,7 @@ pub fn add_term(table: &mut [u8], n: usize, hashes: &mut [u16], slot: &[u8]) -> 
 
 // Writes the term record between two offsets into slot n of a table, with its hash, where the table has room.
 fn write_term(terms: &[u8], at: usize, end: usize, table: &mut [u8], n: usize, hashes: &mut [u16])
-    requires end_value { Next end ≡ next_of (read_term terms.now at) }
+    requires end_value { Some end ≡ next_of (read_term terms.now at) }
     requires table_len { length table.old ≡ term_table_width }
     requires hashes_len { length hashes.old ≡ term_limit }
     requires hashed { n < term_limit → Hashed table.old n hashes.old }
@@ -64,28 +60,26 @@ fn write_term(terms: &[u8], at: usize, end: usize, table: &mut [u8], n: usize, h
 }
 
 // How many term records there are; those that a table of zeros has room for are written there, with their hashes.
-fn write_terms(terms: &[u8], table: &mut [u8], hashes: &mut [u16]) -> Counted
+fn write_terms(terms: &[u8], table: &mut [u8], hashes: &mut [u16]) -> Option<usize>
     requires table_value { table.old ≡ replicate term_table_width 0 }
     requires hashes_len { length hashes.old ≡ term_limit }
     ensures value { result ≡ count_of (read_terms terms.now) }
-    ensures by_index { (n : ℕ) → result ≡ Counts.Count n → n ≤ term_limit → Lists terms.now table.new hashes.new n }
+    ensures by_index { (n : ℕ) → result ≡ Some n → n ≤ term_limit → Lists terms.now table.new hashes.new n }
 {
     let mut n = 0;
     let mut at = 0;
     while at < terms.len() {
-        let Read::Next(end) = read_term(terms, at) else {
-            return Counted::Malformed;
-        };
+        let end = read_term(terms, at)?;
         write_term(terms, at, end, table, n, hashes);
         at = end;
         n += 1;
     }
-    Counted::Count(n)
+    Some(n)
 }
 
 // Whether listed terms are all different: by their slots, where a table has room for them.
 fn different(terms: &[u8], n: usize, table: &[u8], hashes: &[u16]) -> bool
-    requires n_value { Counts.Count n ≡ count_of (read_terms terms.now) }
+    requires n_value { Some n ≡ count_of (read_terms terms.now) }
     requires hashes_len { length hashes.now ≡ term_limit }
     requires lists { n ≤ term_limit → Lists terms.now table.now hashes.now n }
     ensures { result ≡ distinct_in same_term (read_terms terms.now) }
@@ -98,37 +92,36 @@ fn different(terms: &[u8], n: usize, table: &[u8], hashes: &[u16]) -> bool
 
 // Refusals 2 and 3 of listed terms, or how many there are. They are left in a table of zeros with
 // their hashes, where it has room for them. Ruled out: a term twice told before a bad record; the last term left out of the table.
-pub fn list_terms(terms: &[u8], table: &mut [u8], hashes: &mut [u16]) -> Listed
+pub fn list_terms(terms: &[u8], table: &mut [u8], hashes: &mut [u16]) -> Result<usize, Refusal>
     requires table_value { table.old ≡ replicate term_table_width 0 }
     requires hashes_len { length hashes.old ≡ term_limit }
     ensures value { result ≡ listed_of (read_terms terms.now) }
-    ensures lists { result.refusal ≡ 0 → result.count ≤ term_limit → Lists terms.now table.new hashes.new result.count }
+    ensures lists { (n : ℕ) → result ≡ Ok n → n ≤ term_limit → Lists terms.now table.new hashes.new n }
 {
-    let Counted::Count(count) = write_terms(terms, table, hashes) else {
-        return Listed {
-            refusal: BAD_TERM,
-            count: 0,
-        };
+    let Some(count) = write_terms(terms, table, hashes) else {
+        return Err(Refusal::BadTerm);
     };
-    if different(terms, count, table, hashes) {
-        return Listed { refusal: 0, count };
+    if !different(terms, count, table, hashes) {
+        return Err(Refusal::TermTwice);
     }
-    Listed {
-        refusal: TERM_TWICE,
-        count: 0,
-    }
+    Ok(count)
 }
 
 // Schema URIs join a table of n terms, those that are not there, in schema order.
 // Ruled out: another order; a URI written twice.
-pub fn add_properties(schema: &[u8], table: &mut [u8], n: usize, hashes: &mut [u16]) -> Added
+pub fn add_properties(
+    schema: &[u8],
+    table: &mut [u8],
+    n: usize,
+    hashes: &mut [u16],
+) -> Option<usize>
     requires schema_value { is_some (read_schema schema.now) ≡ true }
     requires holds_terms { HoldsTerms table.old n }
     requires hashes_len { length hashes.old ≡ term_limit }
     requires hashed { Hashed table.old n hashes.old }
     ensures { (result ≡ added_of (with_properties (list_of (read_schema schema.now)) (list_of (terms_in table.old))))
         × (table.new ≡ table_of (with_properties (list_of (read_schema schema.now)) (list_of (terms_in table.old))))
-        × ((k : ℕ) → result ≡ Count k → Hashed table.new k hashes.new) }
+        × ((k : ℕ) → result ≡ Some k → Hashed table.new k hashes.new) }
 {
     let mut used = n;
     let mut at = 0;
@@ -139,9 +132,9 @@ pub fn add_properties(schema: &[u8], table: &mut [u8], n: usize, hashes: &mut [u
         let joined = add_term(table, used, hashes, &slot);
         used = joined.terms;
         if TERM_LIMIT < used {
-            return Added::Full;
+            return None;
         }
         at += ENTRY_WIDTH;
     }
-    Added::Count(used)
+    Some(used)
 }

@@ -4,13 +4,13 @@ ghost use Rattle.definitions.specs.Limits.{schema_width};
 ghost use Rattle.definitions.specs.Terms.{uri_text, read_schema};
 ghost use Rattle.definitions.specs.Saved.{slot_term};
 ghost use Rattle.laws.specs.ReadAnswers.{is_some};
-ghost use Rattle.fields.specs.Answers.{schema_code, least_code};
+ghost use Rattle.fields.specs.Answers.{code_if, schema_code, least_code};
 ghost use Rattle.table.specs.Hashes.{hash_of, uri_slot, HashedEntries};
 ghost use Rattle.table.specs.Table.{GoodSlot};
 
 use definitions::{ENTRY_LIMIT, ENTRY_WIDTH, TEXT_WIDTH, URI_WIDTH};
 use fields::numbers::same_bytes;
-use table::hashes::{hash_of, place_of};
+use table::hashes::{find, hash_of};
 use table::slots::slot_of;
 
 // The hash of each entry's URI. Ruled out: the hash of the entry beside it; the last entry left out.
@@ -21,40 +21,29 @@ pub fn hash_entries(schema: &[u8]) -> [u16; ENTRY_LIMIT]
 {
     let entries = schema.len() / ENTRY_WIDTH;
     let mut hashes = [0u16; ENTRY_LIMIT];
-    let mut i = 0;
-    while i < entries {
-        let at = i * ENTRY_WIDTH;
-        let field = at + 1;
-        let end = field + TEXT_WIDTH;
-        let slot = slot_of(0x11, &schema[field..end]);
+    for i in 0..entries {
+        let field = i * ENTRY_WIDTH + 1;
+        let slot = slot_of(0x11, &schema[field..field + TEXT_WIDTH]);
         hashes[i] = hash_of(&slot);
-        i += 1;
     }
     hashes
 }
 
-// The code of the datatype of the property that a URI field of that hash names, 0 for no property.
+// The code of the datatype of the property that a URI field of that hash names.
 // Ruled out: the datatype of the next property; that of another property with the same hash.
-pub fn datatype_of(schema: &[u8], hashes: &[u16], uri: &[u8], hash: u16) -> u8
+pub fn datatype_of(schema: &[u8], hashes: &[u16], uri: &[u8], hash: u16) -> Option<u8>
     requires schema_value { is_some (read_schema schema.now) ≡ true }
     requires uri_value { is_some (uri_text uri.now) ≡ true }
     requires hashed_entries { HashedEntries schema.now hashes.now }
     requires hash_value { hash ≡ hash_of (uri_slot uri.now) }
-    ensures { result ≡ schema_code (read_schema schema.now) (uri_text uri.now) }
+    ensures { result ≡ code_if (schema_code (read_schema schema.now) (uri_text uri.now)) }
 {
     let entries = schema.len() / ENTRY_WIDTH;
-    let mut i = place_of(&hashes[..entries], hash);
-    while i < entries {
-        let at = i * ENTRY_WIDTH;
-        let field = at + 1;
-        let end = field + TEXT_WIDTH;
-        if same_bytes(&schema[field..end], uri) {
-            return schema[end];
-        }
-        let next = i + 1;
-        i = next + place_of(&hashes[next..entries], hash);
-    }
-    0
+    let i = find(&hashes[..entries], hash, 0, |i| {
+        let field = i * ENTRY_WIDTH + 1;
+        same_bytes(&schema[field..field + TEXT_WIDTH], uri)
+    })?;
+    Some(schema[i * ENTRY_WIDTH + URI_WIDTH])
 }
 
 // The code of the least type of a slot's term: it has exactly the types above it.
@@ -69,10 +58,10 @@ pub fn least_type(schema: &[u8], hashes: &[u16], slot: &[u8]) -> u8
     match kind {
         0x11 => {
             let datatype = datatype_of(schema, hashes, &slot[1..URI_WIDTH], hash_of(slot));
-            if datatype == 0 {
-                return 1;
+            match datatype {
+                Some(code) => 8 + code,
+                None => 1,
             }
-            8 + datatype
         }
         0x12 => 2,
         0x13 => 5,

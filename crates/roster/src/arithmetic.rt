@@ -57,30 +57,36 @@ fn show_decimal<W: Write>(out: &mut W, millionths: i64) -> io::Result<()> {
     print::byte(out, b'\n')
 }
 
-// One case of plus.
+// One case of plus or minus.
+fn show_result<W: Write>(
+    out: &mut W,
+    a: Value,
+    sign: &[u8],
+    b: Value,
+    given: Value,
+) -> io::Result<()>
+    requires good { Good a }
+    requires good_2 { Good b }
+    requires good_3 { Good given }
+{
+    print::pair(out, a, sign, b)?;
+    print::word(out, b" = ")?;
+    print::value(out, given)?;
+    print::byte(out, b'\n')
+}
+
 fn show_sum<W: Write>(out: &mut W, a: Value, b: Value) -> io::Result<()>
     requires good { Good a }
     requires good_2 { Good b }
 {
-    print::value(out, a)?;
-    print::word(out, b" + ")?;
-    print::value(out, b)?;
-    print::word(out, b" = ")?;
-    print::value(out, values::arithmetic::plus(a, b))?;
-    print::byte(out, b'\n')
+    show_result(out, a, b" + ", b, values::arithmetic::plus(a, b))
 }
 
-// One case of minus.
 fn show_difference<W: Write>(out: &mut W, a: Value, b: Value) -> io::Result<()>
     requires good { Good a }
     requires good_2 { Good b }
 {
-    print::value(out, a)?;
-    print::word(out, b" - ")?;
-    print::value(out, b)?;
-    print::word(out, b" = ")?;
-    print::value(out, values::arithmetic::minus(a, b))?;
-    print::byte(out, b'\n')
+    show_result(out, a, b" - ", b, values::arithmetic::minus(a, b))
 }
 
 // One case of abs.
@@ -95,19 +101,15 @@ fn show_distance<W: Write>(out: &mut W, a: Value) -> io::Result<()>
 }
 
 fn integers<W: Write>(out: &mut W) -> io::Result<()> {
-    let mut i = 0;
-    while i < 8 {
-        show_integer(out, INTEGERS[i])?;
-        i += 1;
+    for n in INTEGERS {
+        show_integer(out, n)?;
     }
     Ok(())
 }
 
 fn decimals<W: Write>(out: &mut W) -> io::Result<()> {
-    let mut i = 0;
-    while i < 15 {
-        show_decimal(out, DECIMALS[i])?;
-        i += 1;
+    for millionths in DECIMALS {
+        show_decimal(out, millionths)?;
     }
     Ok(())
 }

@@ -50,12 +50,7 @@ pub fn compare<W: Write>(out: &mut W, a: Value, b: Value) -> io::Result<()>
     requires good { Good a }
     requires good_2 { Good b }
 {
-    let between = relation(a, b);
-    print::value(out, a)?;
-    print::byte(out, b' ')?;
-    print::byte(out, between)?;
-    print::byte(out, b' ')?;
-    print::value(out, b)?;
+    print::pair(out, a, &[b' ', relation(a, b), b' '], b)?;
     print::byte(out, b'\n')
 }
 
@@ -99,15 +94,8 @@ fn compare_strings<W: Write>(out: &mut W, a: &[u8], b: &[u8]) -> io::Result<()>
 
 // Each byte of an order with the byte after it, as strings of one byte.
 fn neighbours<W: Write>(out: &mut W, order: &[u8]) -> io::Result<()> {
-    let mut i = 1;
-    while i < order.len() {
-        let last = i - 1;
-        let a = order[last];
-        let b = order[i];
-        let first = [a];
-        let second = [b];
-        compare_strings(out, &first, &second)?;
-        i += 1;
+    for i in 1..order.len() {
+        compare_strings(out, &order[i - 1..i], &order[i..i + 1])?;
     }
     Ok(())
 }

@@ -59,10 +59,8 @@ fn show<W: Write>(out: &mut W, seconds: i64) -> io::Result<()> {
 
 // 35 lines.
 pub fn cases<W: Write>(out: &mut W) -> io::Result<()> {
-    let mut i = 0;
-    while i < 35 {
-        show(out, SECONDS[i])?;
-        i += 1;
+    for seconds in SECONDS {
+        show(out, seconds)?;
     }
     Ok(())
 }

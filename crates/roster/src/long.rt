@@ -10,15 +10,21 @@ use definitions::TEXT_WIDTH;
 use std::io::{self, Write};
 use values::Value;
 
+// A field of bytes `a`, with another where a text of so many bytes ends.
+fn text(n: usize, last: u8) -> [u8; TEXT_WIDTH]
+    requires { (1 ≤ n) × (n ≤ text_width) }
+{
+    let mut text = [b'a'; TEXT_WIDTH];
+    text[n - 1] = last;
+    text
+}
+
 // A string with no tag.
 fn string(n: usize, last: u8) -> Value
     requires { (1 ≤ n) × (n ≤ text_width) }
     ensures { Good result }
 {
-    let mut text = [b'a'; TEXT_WIDTH];
-    let end = n - 1;
-    text[end] = last;
-    made::string(b"", &text[0..n])
+    made::string(b"", &text(n, last)[..n])
 }
 
 // A URI.
@@ -26,10 +32,7 @@ fn uri(n: usize, last: u8) -> Value
     requires { (1 ≤ n) × (n ≤ text_width) }
     ensures { Good result }
 {
-    let mut text = [b'a'; TEXT_WIDTH];
-    let end = n - 1;
-    text[end] = last;
-    made::uri(&text[0..n])
+    made::uri(&text(n, last)[..n])
 }
 
 // The end comes first, and the last byte counts.

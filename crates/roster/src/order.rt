@@ -18,6 +18,5 @@ pub fn less(a: Value, b: Value) -> Truth
     requires good_2 { Good b }
     ensures { Tells result (compared (less_pair built_in) (meaning a) (meaning b)) }
 {
-    let ranks = BUILT_IN;
-    comparison::less(&ranks, a, b)
+    comparison::less(&BUILT_IN, a, b)
 }

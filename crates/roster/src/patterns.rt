@@ -14,7 +14,7 @@ pub fn show_on<W: Write>(out: &mut W, pattern: &[u8], v: Value) -> io::Result<()
     requires pattern_len_bound { length pattern.now ≤ pattern_width }
     requires good { Good v }
 {
-    let field = made::pattern_field(pattern);
+    let field: [u8; PATTERN_WIDTH] = made::field(pattern);
     print::word(out, b"pattern /")?;
     print::word(out, pattern)?;
     print::word(out, b"/ on ")?;

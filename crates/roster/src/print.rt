@@ -1,5 +1,4 @@
 // Words, numbers and values as bytes of a writer.
-ghost use Rattle.std.specs.Prelude.{◌≡◌, nat_abs};
 ghost use Rattle.values.specs.Meaning.{Good};
 
 use cases::rows;
@@ -14,27 +13,13 @@ pub fn word<W: Write>(out: &mut W, text: &[u8]) -> io::Result<()> {
 
 // One byte.
 pub fn byte<W: Write>(out: &mut W, b: u8) -> io::Result<()> {
-    let one = [b];
-    out.write_all(&one)
+    out.write_all(&[b])
 }
 
 // The text of a field, without the zeros after it.
 fn field<W: Write>(out: &mut W, text: &[u8]) -> io::Result<()> {
-    let width = text.len();
-    let end = rows::find(text, 0, width, 0);
-    out.write_all(&text[0..end])
-}
-
-// The distance of a number from 0.
-fn distance(n: i64) -> u64
-    ensures { result ≡ nat_abs n }
-{
-    if n < 0 {
-        let past = -1 - n;
-        let far = past as u64;
-        return far + 1;
-    }
-    n as u64
+    let end = rows::find(text, 0, text.len(), 0);
+    out.write_all(&text[..end])
 }
 
 // A number with its sign.
@@ -42,20 +27,18 @@ pub fn number<W: Write>(out: &mut W, n: i64) -> io::Result<()> {
     if n < 0 {
         byte(out, b'-')?;
     }
-    let far = distance(n);
+    let far = n.unsigned_abs();
     write!(out, "{far}")
 }
 
 // A string in quotes, with its tag where it has one.
 fn quoted<W: Write>(out: &mut W, v: Value) -> io::Result<()> {
-    let text = v.text;
-    let tag = v.tag;
     byte(out, b'"')?;
-    field(out, &text)?;
+    field(out, &v.text)?;
     byte(out, b'"')?;
-    if tag[0] != 0 {
+    if v.tag[0] != 0 {
         byte(out, b'@')?;
-        field(out, &tag)?;
+        field(out, &v.tag)?;
     }
     Ok(())
 }
@@ -71,8 +54,17 @@ pub fn value<W: Write>(out: &mut W, v: Value) -> io::Result<()>
     if v.kind == values::STRING {
         return quoted(out, v);
     }
-    let text = line.text;
-    field(out, &text)
+    field(out, &line.text)
+}
+
+// Two values with a sign between them.
+pub fn pair<W: Write>(out: &mut W, a: Value, sign: &[u8], b: Value) -> io::Result<()>
+    requires good { Good a }
+    requires good_2 { Good b }
+{
+    value(out, a)?;
+    word(out, sign)?;
+    value(out, b)
 }
 
 // A boolean.

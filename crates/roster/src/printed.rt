@@ -1,7 +1,7 @@
 // Numbers as makers print them.
 use crate::print;
 use cases::rows;
-use definitions::NumberAnswer;
+use definitions::Number;
 use fields::numbers::to_signed;
 use std::io::{self, Write};
 
@@ -14,14 +14,14 @@ fn show<W: Write>(out: &mut W, text: &[u8]) -> io::Result<()> {
     print::word(out, text)?;
     print::word(out, b": ")?;
     match numbers::read_number(text) {
-        NumberAnswer::Integer(n) => print::number(out, to_signed(n))?,
-        NumberAnswer::Decimal(n) => {
+        Ok(Number::Integer(n)) => print::number(out, to_signed(n))?,
+        Ok(Number::Decimal(n)) => {
             print::number(out, to_signed(n))?;
             print::word(out, b" millionths")?;
         }
-        NumberAnswer::Refused(n) => {
+        Err(refusal) => {
             print::word(out, b"refused ")?;
-            print::number(out, n as i64)?;
+            print::number(out, i64::from(refusal.number()))?;
         }
     }
     print::byte(out, b'\n')

@@ -14,7 +14,7 @@ fn show_on<W: Write>(out: &mut W, range: &[u8], v: Value) -> io::Result<()>
     requires range_len_bound { length range.now ≤ language_range_width }
     requires good { Good v }
 {
-    let field = made::tag_field(range);
+    let field: [u8; LANGUAGE_RANGE_WIDTH] = made::field(range);
     print::word(out, b"range ")?;
     print::word(out, range)?;
     print::word(out, b" on ")?;

@@ -8,43 +8,46 @@ use std::io::{self, Write};
 use truth::{and_of, not_of, or_of};
 use values::{Value, arithmetic};
 
+const TRUTHS: [Truth; 3] = [Truth::True, Truth::False, Truth::Unknown];
+
 fn show_not<W: Write>(out: &mut W, a: Truth) -> io::Result<()> {
     print::word(out, b"not ")?;
     print::truth(out, a)?;
     print::answer(out, not_of(a))
 }
 
-fn show_and<W: Write>(out: &mut W, a: Truth, b: Truth) -> io::Result<()> {
+fn show_both<W: Write>(
+    out: &mut W,
+    a: Truth,
+    sign: &[u8],
+    b: Truth,
+    given: Truth,
+) -> io::Result<()> {
     print::truth(out, a)?;
-    print::word(out, b" and ")?;
+    print::word(out, sign)?;
     print::truth(out, b)?;
-    print::answer(out, and_of(a, b))
-}
-
-fn show_or<W: Write>(out: &mut W, a: Truth, b: Truth) -> io::Result<()> {
-    print::truth(out, a)?;
-    print::word(out, b" or ")?;
-    print::truth(out, b)?;
-    print::answer(out, or_of(a, b))
+    print::answer(out, given)
 }
 
 // Three rows of both tables.
 fn show_rows<W: Write>(out: &mut W, a: Truth) -> io::Result<()> {
-    show_and(out, a, Truth::True)?;
-    show_and(out, a, Truth::False)?;
-    show_and(out, a, Truth::Unknown)?;
-    show_or(out, a, Truth::True)?;
-    show_or(out, a, Truth::False)?;
-    show_or(out, a, Truth::Unknown)
+    for b in TRUTHS {
+        show_both(out, a, b" and ", b, and_of(a, b))?;
+    }
+    for b in TRUTHS {
+        show_both(out, a, b" or ", b, or_of(a, b))?;
+    }
+    Ok(())
 }
 
 fn tables<W: Write>(out: &mut W) -> io::Result<()> {
-    show_not(out, Truth::True)?;
-    show_not(out, Truth::False)?;
-    show_not(out, Truth::Unknown)?;
-    show_rows(out, Truth::True)?;
-    show_rows(out, Truth::False)?;
-    show_rows(out, Truth::Unknown)
+    for a in TRUTHS {
+        show_not(out, a)?;
+    }
+    for a in TRUTHS {
+        show_rows(out, a)?;
+    }
+    Ok(())
 }
 
 // The end of a line: whether a value is less than 5.
@@ -59,9 +62,7 @@ fn show_sum<W: Write>(out: &mut W, a: Value, b: Value) -> io::Result<()>
     requires good { Good a }
     requires good_2 { Good b }
 {
-    print::value(out, a)?;
-    print::word(out, b" + ")?;
-    print::value(out, b)?;
+    print::pair(out, a, b" + ", b)?;
     show_less(out, arithmetic::plus(a, b))
 }
 
@@ -69,9 +70,7 @@ fn show_difference<W: Write>(out: &mut W, a: Value, b: Value) -> io::Result<()>
     requires good { Good a }
     requires good_2 { Good b }
 {
-    print::value(out, a)?;
-    print::word(out, b" - ")?;
-    print::value(out, b)?;
+    print::pair(out, a, b" - ", b)?;
     show_less(out, arithmetic::minus(a, b))
 }
 

@@ -26,9 +26,7 @@ fn wanted_graph(state: RunState) -> u16
 {
     match state {
         RunState::Wanted(graph) => graph,
-        RunState::Ended => 0,
-        RunState::Waiting => 0,
-        RunState::Spent => 0,
+        _ => 0,
     }
 }
 
@@ -37,11 +35,11 @@ pub fn write_run_report(answer: RunAnswer, out: &mut [u8])
     requires { length out.old ≡ run_report_width }
     ensures { out.new ≡ run_report out.old answer }
 {
-    let RunAnswer::Ran(steps, state) = answer else {
+    let Ok(end) = answer else {
         return;
     };
-    writing::write_number(steps as u64, &mut out[0..4]);
-    out[4] = state_number(state);
+    writing::write_number(end.steps as u64, &mut out[0..4]);
+    out[4] = state_number(end.state);
     out[5] = 0;
-    writing::write_word(wanted_graph(state), &mut out[6..8]);
+    writing::write_word(wanted_graph(end.state), &mut out[6..8]);
 }

@@ -1,4 +1,7 @@
 -- The run call, refusal by refusal, and its result where nothing is refused.
+use Rattle.std.specs.Prelude.{Ok, Err}
+use Rattle.definitions.specs.declared.Refusal.{Refusal}
+use Rattle.definitions.specs.declared.Refusal.TheVariants.{BadRun}
 use Prim.Native.Nat.{ℕ, ◌≤◌}
 use mathlib.Core.Path.{◌≡◌, refl, sym, ap, ◌∙◌}
 use mathlib.Core.List.{List}
@@ -15,14 +18,13 @@ use Rattle.definitions.specs.Outcome.{Outcome, ok}
 use Rattle.definitions.specs.Machine.{State, Run, last_of}
 use Rattle.definitions.specs.Machine as Machine
 use Rattle.definitions.specs.Saved.{saved_control, saved_store}
-use Rattle.definitions.specs.Result.{Result, refused, passed, ◌>>=◌}
+use Rattle.definitions.specs.Result.{Result, OrRefusal, refused, passed, ◌>>=◌}
 use Rattle.definitions.specs.Calls as Calls
 use Rattle.definitions.specs.Calls.{Checked, reported, setting_of, Lent, entry_tests, run_in, Running, run_tests, ran_of, run_result, run_call}
 use Rattle.definitions.specs.declared.SavedControl.{SavedControl}
 use Rattle.definitions.specs.declared.SavedStore.{SavedStore}
 use Rattle.definitions.specs.declared.SavedRun.{SavedRun}
 use Rattle.definitions.specs.declared.Ran.{Ran}
-use Rattle.definitions.specs.declared.RunAnswer.TheVariants as RunAnswers
 use Rattle.laws.proofs.Tests.{true_is, and_left, and_right}
 use Rattle.laws.proofs.Results.{require-after, require-refused, bind-refused, bind-passed}
 use Rattle.laws.proofs.SoundIn.{SoundIn}
@@ -33,7 +35,7 @@ use Rattle.answers.specs.Lends.{LendsStore}
 use Rattle.machine.specs.Running.{RunOf}
 use Rattle.answers.proofs.StartLaws.{lends_held}
 use Rattle.entry.specs.declared.Entered.{Entered}
-use Rattle.running.specs.Refused.{refused_ran}
+use Rattle.running.specs.Refused.{handed_back}
 use Rattle.lengths.specs.Lent.{lent_of}
 use Rattle.entry.specs.Entry.{context_of, Found}
 use Rattle.entry.proofs.PassedLaws.{passed-10, ranked, types-kept, types-reported, control-held, store-saved}
@@ -45,9 +47,9 @@ module _ (l : Lent) (saved : SavedRun) (budget : ℕ) (now : ℤ) where
   abbrev after : Calls.Sound → Result Running
   after x = run_in x.checked l.ranks budget now x.state >>= λ r. passed (record { checked = x.checked; state = x.state; run = r })
 
-  pub entry-refused : {n : ℕ} → entry_tests l saved ≡ refused n → {r : Ran} → r ≡ refused_ran saved n → run_call l saved budget now ≡ ok r
+  pub entry-refused : {n : Refusal} → entry_tests l saved ≡ refused n → {r : OrRefusal Ran} → r ≡ Err n → run_call l saved budget now ≡ ok (handed_back saved r)
   unfolding run_call run_tests run_result
-  entry-refused e k = ap (run_result saved) (bind-refused after e) ∙ ap ok (sym k)
+  entry-refused e k = ap (run_result saved) (bind-refused after e) ∙ ap (λ (r : OrRefusal Ran). ok (handed_back saved r)) (sym k)
 
   module _ (x : Calls.Sound) (entered : entry_tests l saved ≡ passed x) where
     goes_on : run_call l saved budget now ≡ run_result saved (after x)
@@ -66,18 +68,17 @@ module _ (l : Lent) (saved : SavedRun) (budget : ℕ) (now : ℤ) where
     abbrev limits : Bool
     limits = leb budget budget_limit && is_date_time now
 
-    pub refused-11 : limits ≡ false → {r : Ran} → r ≡ refused_ran saved 11 → run_call l saved budget now ≡ ok r
+    pub refused-11 : limits ≡ false → run_call l saved budget now ≡ ok (handed_back saved (Err BadRun))
     unfolding run_in run_result ◌>>=◌
-    refused-11 e k =
+    refused-11 e =
         goes_on
-        ∙ ap (λ m. run_result saved (m >>= λ r. passed (record { checked = c; state = s; run = r }))) (require-refused 11 (passed machine) e)
-        ∙ ap ok (sym k)
+        ∙ ap (λ m. run_result saved (m >>= λ r. passed (record { checked = c; state = s; run = r }))) (require-refused BadRun (passed machine) e)
 
     pub ran : limits ≡ true → (m : Run) → machine ≡ ok m → {r : Ran} → r ≡ ran_of c s m → run_call l saved budget now ≡ ok r
     unfolding run_in run_result ◌>>=◌ Outcomes.◌>>=◌
     ran e m h k =
         goes_on
-        ∙ ap (λ m. run_result saved (m >>= λ r. passed (record { checked = c; state = s; run = r }))) (require-after 11 limits (passed machine) (true_is limits e))
+        ∙ ap (λ m. run_result saved (m >>= λ r. passed (record { checked = c; state = s; run = r }))) (require-after BadRun limits (passed machine) (true_is limits e))
         ∙ ap (λ (o : Outcome Run). Outcomes.◌>>=◌ o (λ r. ok (ran_of c s r))) h
         ∙ ap ok (sym k)
 
@@ -85,7 +86,7 @@ module _ (l : Lent) (saved : SavedRun) (budget : ℕ) (now : ℤ) where
 
 module _ (ranks terms schema script table store : List ℕ) (saved : SavedRun)
     (x : Calls.Sound) (entered : entry_tests (lent_of ranks terms schema script table store) saved ≡ passed x) (r : Entered) (rows leasts : List ℕ)
-    (f : Found (lent_of ranks terms schema script table store) saved x r rows leasts)
+    (f : Found (lent_of ranks terms schema script table store) saved rows leasts x r)
     (sixteen : length saved.control.bound ≡ variable_limit) (places : length saved.store.fetched ≡ graph_limit) (levels : length saved.control.items ≡ depth_limit)
     (clean : SavedControl) (e : clean ≡ canonical_control script saved.control) (kept : SavedStore) (q : kept ≡ canonical_store saved.store)
     (budget clock : ℕ) (limits : leb budget budget_limit && is_date_time (signed clock) ≡ true) where
@@ -110,7 +111,7 @@ module _ (ranks terms schema script table store : List ℕ) (saved : SavedRun)
 
   -- its result is the call's
   pub ran-is : (end : Stopped) → ((w : LendsStore script ranks table rows leasts (context_of r saved clock) clean kept) → RunOf w.lends budget end)
-      → {a : Ran} → a ≡ record { answer = RunAnswers.Ran end.steps end.ending; saved = record { control = end.control; store = kept } }
+      → {a : Ran} → a ≡ record { answer = Ok (record { steps = end.steps; state = end.ending }); saved = record { control = end.control; store = kept } }
       → run_call l saved budget (signed clock) ≡ ok a
   unfolding ran_of
   ran-is end h k =
@@ -124,4 +125,4 @@ module _ (ranks terms schema script table store : List ℕ) (saved : SavedRun)
       (run-keeps (setting_of c ranks (signed clock)) (type_at c.types) budget x.state o.ran o.no_fault) in
       let stored : kept ≡ saved_store last.store = store-saved ranks terms schema script table store saved x entered places q ∙ ap saved_store (sym same) in
       ran l saved budget (signed clock) x entered limits o.ran o.no_fault
-      (k ∙ (λ i. record { answer = RunAnswers.Ran (o.steps i) (o.ending i); saved = record { control = control i; store = stored i } }))
+      (k ∙ (λ i. record { answer = Ok (record { steps = (o.steps i); state = (o.ending i) }); saved = record { control = control i; store = stored i } }))

@@ -1,8 +1,10 @@
--- What a refused run answers.
-use Rattle.std.specs.Prelude.{ℕ}
+-- What a run hands back.
+use Rattle.std.specs.Prelude.{Ok, Err}
+use Rattle.definitions.specs.Result.{OrRefusal}
 use Rattle.definitions.specs.declared.SavedRun.{SavedRun}
 use Rattle.definitions.specs.declared.Ran.{Ran}
-use Rattle.definitions.specs.declared.RunAnswer.TheVariants as RunAnswers
 
-abbrev pub refused_ran : SavedRun → ℕ → Ran
-refused_ran saved n = record { answer = RunAnswers.Refused n; saved = saved }
+-- a refused one the saved run that it was lent
+abbrev pub handed_back : SavedRun → OrRefusal Ran → Ran
+handed_back saved (Ok r) = r
+handed_back saved (Err n) = record { answer = Err n; saved = saved }

@@ -1,4 +1,7 @@
 -- Tuples on a saved run: refusals in their order, and what the machine is lent.
+use Rattle.definitions.specs.Numbers.{refusal_number}
+use Rattle.definitions.specs.declared.Refusal.{Refusal}
+use Rattle.definitions.specs.declared.Refusal.TheVariants.{Unsound, BadRun, BadRanks}
 use Prim.Native.Nat.{ℕ}
 use mathlib.Core.Path.{◌≡◌, refl, sym, ap, ◌∙◌}
 use mathlib.Core.List.{List, [], ◌∷◌, ◌++◌}
@@ -27,7 +30,7 @@ use Rattle.store.specs.Canonical.{canonical_control, canonical_store}
 use Rattle.answers.specs.Lends.{Lends}
 use Rattle.answers.proofs.StartLaws.{lends_held}
 use Rattle.entry.specs.declared.Entered.{Entered}
-use Rattle.alphabet.specs.Unread.{unread_number}
+use Rattle.alphabet.specs.Unread.{unread_refusal}
 use Rattle.entry.specs.Entry.{context_of, Found}
 use Rattle.entry.proofs.PassedLaws.{passed-10, ranked, types-kept, control-held, store-saved}
 use Rattle.lengths.specs.Lent.{lent_of}
@@ -41,31 +44,31 @@ use Rattle.tuples.specs.Lines.{lines_here}
 
 module _ (l : Lent) (saved : List ℕ) (now : ℤ) (tuples : List ℕ) where
   abbrev goes_on : Calls.Sound → Result Calls.Sound
-  goes_on x = require 11 (is_date_time now) >> passed x
+  goes_on x = require BadRun (is_date_time now) >> passed x
 
   abbrev says : Result Calls.Sound → List ℕ
   says m = entered_lines l.ranks now (tuples_in tuples) m
 
   abbrev unread : (alphabet : Bool) → Result Calls.Sound
-  unread a = refused (cond a 10 21)
+  unread a = refused (cond a Unsound BadRanks)
 
   -- after the ranks
   abbrev from_run : Result Calls.Sound
-  from_run = given 10 (saved_from saved) >>= λ r. entry_tests l r >>= goes_on
+  from_run = given Unsound (saved_from saved) >>= λ r. entry_tests l r >>= goes_on
 
-  refusal : {n : ℕ} → entered l saved now ≡ refused n → line (ascii "refused " ++ natural_text n) ≡ says (entered l saved now)
+  refusal : {n : Refusal} → entered l saved now ≡ refused n → line (ascii "refused " ++ natural_text (refusal_number n)) ≡ says (entered l saved now)
   unfolding entered_lines
   refusal e = sym (ap says e)
 
-  pub no-saved : saved_from saved ≡ none → {n : ℕ} → n ≡ unread_number l.ranks → line (ascii "refused " ++ natural_text n) ≡ says (entered l saved now)
+  pub no-saved : saved_from saved ≡ none → {n : Refusal} → n ≡ unread_refusal l.ranks → line (ascii "refused " ++ natural_text (refusal_number n)) ≡ says (entered l saved now)
   unfolding entered
   no-saved e number = refusal (by-ranks (is_alphabet l.ranks) refl ∙ ap refused (sym number))
     where
-      by-ranks : (a : Bool) → is_alphabet l.ranks ≡ a → entered l saved now ≡ refused (unread_number l.ranks)
+      by-ranks : (a : Bool) → is_alphabet l.ranks ≡ a → entered l saved now ≡ refused (unread_refusal l.ranks)
       by-ranks true good =
-          require-after 21 (is_alphabet l.ranks) from_run (true_is (is_alphabet l.ranks) good)
-          ∙ (given-refused 10 (λ r. entry_tests l r >>= goes_on) e ∙ ap unread (sym good))
-      by-ranks false bad = require-refused 21 from_run bad ∙ ap unread (sym bad)
+          require-after BadRanks (is_alphabet l.ranks) from_run (true_is (is_alphabet l.ranks) good)
+          ∙ (given-refused Unsound (λ r. entry_tests l r >>= goes_on) e ∙ ap unread (sym good))
+      by-ranks false bad = require-refused BadRanks from_run bad ∙ ap unread (sym bad)
 
   module _ (fit : T (lengths_fit l)) (r : SavedRun) (read : saved_from saved ≡ some r) where
     -- of a saved run the entry tests the ranks
@@ -75,18 +78,18 @@ module _ (l : Lent) (saved : List ℕ) (now : ℤ) (tuples : List ℕ) where
       where
         by-ranks : (a : Bool) → is_alphabet l.ranks ≡ a → entered l saved now ≡ (entry_tests l r >>= goes_on)
         by-ranks true good =
-            require-after 21 (is_alphabet l.ranks) from_run (true_is (is_alphabet l.ranks) good) ∙ given-bind 10 (λ r. entry_tests l r >>= goes_on) read
-        by-ranks false bad = require-refused 21 from_run bad ∙ sym (bind-refused goes_on (entry-ranks l r fit bad))
+            require-after BadRanks (is_alphabet l.ranks) from_run (true_is (is_alphabet l.ranks) good) ∙ given-bind Unsound (λ r. entry_tests l r >>= goes_on) read
+        by-ranks false bad = require-refused BadRanks from_run bad ∙ sym (bind-refused goes_on (entry-ranks l r fit bad))
 
-    pub not_in : {n : ℕ} → entry_tests l r ≡ refused n → line (ascii "refused " ++ natural_text n) ≡ says (entered l saved now)
+    pub not_in : {n : Refusal} → entry_tests l r ≡ refused n → line (ascii "refused " ++ natural_text (refusal_number n)) ≡ says (entered l saved now)
     not_in e = refusal (enters ∙ bind-refused goes_on e)
 
     module _ (x : Calls.Sound) (e : entry_tests l r ≡ passed x) where
-      pub bad-now : is_date_time now ≡ false → line (ascii "refused " ++ natural_text 11) ≡ says (entered l saved now)
-      bad-now f = refusal (enters ∙ (bind-passed goes_on e ∙ require-refused 11 (passed x) f))
+      pub bad-now : is_date_time now ≡ false → line (ascii "refused " ++ natural_text (refusal_number BadRun)) ≡ says (entered l saved now)
+      bad-now f = refusal (enters ∙ (bind-passed goes_on e ∙ require-refused BadRun (passed x) f))
 
       pub is-in : is_date_time now ≡ true → entered l saved now ≡ passed x
-      is-in t = enters ∙ (bind-passed goes_on e ∙ require-after 11 (is_date_time now) (passed x) (true_is (is_date_time now) t))
+      is-in t = enters ∙ (bind-passed goes_on e ∙ require-after BadRun (is_date_time now) (passed x) (true_is (is_date_time now) t))
 
 -- ── what the machine is lent ────────────────────────────────────────────────────────────────
 
@@ -95,7 +98,7 @@ module _ (ranks terms schema script table store : List ℕ) (run : SavedRun)
   abbrev l : Lent
   l = lent_of ranks terms schema script table store
 
-  module _ (r : Entered) (rows leasts : List ℕ) (f : Found l run x r rows leasts)
+  module _ (r : Entered) (rows leasts : List ℕ) (f : Found l run rows leasts x r)
       (sixteen : length run.control.bound ≡ variable_limit) (places : length run.store.fetched ≡ graph_limit) (levels : length run.control.items ≡ depth_limit)
       (clean : SavedControl) (c : clean ≡ canonical_control script run.control) (clock : ℕ) (timely : is_date_time (signed clock) ≡ true) where
     abbrev pub lends-now : Lends script ranks table rows leasts (context_of r run clock) clean

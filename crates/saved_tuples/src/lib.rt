@@ -11,11 +11,12 @@ ghost use Rattle.evaluator_input.specs.Input.{tuple_width, tuples_in};
 ghost use Rattle.tuples.specs.Asking.{entered, entered_lines};
 ghost use Rattle.tuple_lines.specs.TriedLine.{line_room};
 
-use alphabet::unread_number;
-use definitions::{BAD_RUN, QUAD_LIMIT, TERM_LIMIT};
+use alphabet::unread_refusal;
+use definitions::{QUAD_LIMIT, Refusal, SCRIPT_LIMIT, TERM_LIMIT};
+use ends::fill_ends;
 use entry::enter;
 use layout::reading::read_saved;
-use query::Context;
+use query::{Context, View};
 use run_limits::is_date_time;
 use store::canonical::canonical_control;
 use tuple_lines::put_refused;
@@ -46,12 +47,12 @@ pub fn put_entered(
 {
     let read = read_saved(saved);
     if !read.ok {
-        return put_refused(unread_number(ranks), out);
+        return put_refused(unread_refusal(ranks), out);
     }
     let run = read.saved;
     let mut keys = [0u64; QUAD_LIMIT];
     let mut leasts = [0u8; TERM_LIMIT];
-    let found = enter(
+    let entered = enter(
         ranks,
         terms,
         schema,
@@ -62,23 +63,31 @@ pub fn put_entered(
         &mut keys,
         &mut leasts,
     );
-    if found.refusal != 0 {
-        return put_refused(found.refusal, out);
-    }
+    let found = match entered {
+        Ok(found) => found,
+        Err(refusal) => return put_refused(refusal, out),
+    };
     if !is_date_time(clock) {
-        return put_refused(BAD_RUN, out);
+        return put_refused(Refusal::BadRun, out);
     }
     let control = run.control;
     let kept = run.store;
     let clean = canonical_control(control, script);
-    let quads = kept.quads as usize;
-    let context = Context {
-        loaded: found.loaded,
-        count: found.count,
-        quads,
-        clock,
+    let mut ends = [0u16; SCRIPT_LIMIT];
+    fill_ends(script, &mut ends);
+    let view = View {
+        script,
+        ends: &ends,
+        ranks,
+        table,
+        quads: &keys,
+        leasts: &leasts,
+        context: Context {
+            loaded: found.loaded,
+            count: found.count,
+            quads: kept.quads as usize,
+            clock,
+        },
     };
-    put_lines(
-        clean, script, context, ranks, table, &keys, &leasts, tuples, out,
-    )
+    put_lines(clean, &view, tuples, out)
 }

@@ -1,17 +1,18 @@
 -- What the codes stand for, and what a quad that fits says of its numbers.
+use Rattle.std.specs.Prelude.{Option, Some, None}
+use Rattle.std.specs.Option.{option_eq}
 use Prim.Native.Nat.{ℕ, ◌/◌, ◌%◌, ◌^◌, ◌≤◌, ◌<◌}
 use native.Mathlib.Omega.{arith}
-use mathlib.Core.Path.{◌≡◌, refl, ◌∙◌}
-use mathlib.Core.Bool.{Bool, true, false, cond, ◌&&◌}
+use mathlib.Core.Path.{◌≡◌, refl, sym, ◌∙◌, ap}
+use mathlib.Core.Bool.{Bool, true, false, cond, ◌&&◌, true≢false}
 use lib.Dec.{eqb, leb, ltb}
-use borrow.Author.Tests.{eq-eqb, ne_eqb, lt-ltb, le-ltb, eqb-true, eqb-false, leb-true}
+use borrow.Author.Tests.{eq-eqb, ne_eqb, lt-ltb, le-ltb, eqb-true, leb-true}
 use Rattle.definitions.specs.Evaluate.{Quad}
 use Rattle.keys.specs.Keys.{place_limit, quad_of}
 use Rattle.keys.proofs.Rise.{and_left, and_right}
 use Rattle.scan.specs.Scan.{fixed, sought, free, agrees, pick, candidate, fits}
 use Rattle.scan.specs.Codes.{sought_code, property_shift, subject_shift, graph_shift, place_at, places_at, GivenBy, given_at, place_number}
 use Rattle.scan.specs.declared.Four.{Four}
-use Rattle.scan.specs.declared.Given.{Given}
 
 module _ (n : ℕ) where
   pub at-sought : n ≡ sought_code → place_at n ≡ sought
@@ -100,29 +101,34 @@ module _ (codes : Four) (lo : ℕ) (q : Quad) where
 -- ── the same of keys ────────────────────────────────────────────────────────────────────────
 
 module _ (codes : Four) where
-  pub from-graph : codes.graph ≡ sought_code → GivenBy codes (record { sought = true; shift = graph_shift })
+  pub from-graph : codes.graph ≡ sought_code → GivenBy codes (Some graph_shift)
   unfolding given_at place_number quad_of
   from-graph e lo k h = omega (arith, gives-graph codes lo (quad_of k) e)
 
   module _ (g : codes.graph ≡ sought_code → ⊥) where
-    pub from-subject : codes.subject ≡ sought_code → GivenBy codes (record { sought = true; shift = subject_shift })
+    pub from-subject : codes.subject ≡ sought_code → GivenBy codes (Some subject_shift)
     unfolding given_at place_number quad_of
     from-subject e lo k h = gives-subject codes lo (quad_of k) g e
 
     module _ (s : codes.subject ≡ sought_code → ⊥) where
-      pub from-property : codes.property ≡ sought_code → GivenBy codes (record { sought = true; shift = property_shift })
+      pub from-property : codes.property ≡ sought_code → GivenBy codes (Some property_shift)
       unfolding given_at place_number quad_of
       from-property e lo k h = gives-property codes lo (quad_of k) g s e
 
-      pub from_last : (codes.property ≡ sought_code → ⊥) → GivenBy codes (record { sought = eqb codes.object sought_code; shift = 0 })
-      unfolding given_at place_number quad_of
-      from_last p lo k h = go (eqb codes.object sought_code) refl
-        where
-          go : (b : Bool) → eqb codes.object sought_code ≡ b → cond b (k / 2 ^ 0 % place_limit) lo ≡ candidate (places_at codes) lo (quad_of k)
-          go true e = omega (arith, gives-object codes lo (quad_of k) g s p (eqb-true codes.object sought_code e))
-          go false e = gives-floor codes lo (quad_of k) g s p (eqb-false codes.object sought_code e)
+      module _ (p : codes.property ≡ sought_code → ⊥) where
+        pub from-object : codes.object ≡ sought_code → GivenBy codes (Some 0)
+        unfolding given_at place_number quad_of
+        from-object e lo k h = omega (arith, gives-object codes lo (quad_of k) g s p e)
+
+        pub from-none : (codes.object ≡ sought_code → ⊥) → GivenBy codes None
+        unfolding given_at
+        from-none o lo k h = gives-floor codes lo (quad_of k) g s p o
 
 -- where the place sought stands last in a key
-pub gives-last : (g : Given) (lo k : ℕ) → g.sought ≡ true → g.shift ≡ 0 → given_at g lo k ≡ k / 2 ^ 0 % place_limit
+pub gives-last : (lo k : ℕ) → given_at (Some 0) lo k ≡ k / 2 ^ 0 % place_limit
 unfolding given_at place_number
-gives-last g lo k s e = rw (s, e) refl
+gives-last lo k = refl
+
+pub is-last : (given : Option ℕ) → true ≡ option_eq eqb given (Some 0) → given ≡ Some 0
+is-last (Some n) e = ap Some (eqb-true n 0 (sym e))
+is-last None e = absurd (true≢false e)

@@ -1,20 +1,19 @@
 -- The scan of a stretch, and that it gives what the whole table gives.
-use Prim.Native.Nat.{ℕ, zero, suc, ◌+◌, ◌-◌, ◌*◌, ◌%◌, ◌≤◌, ◌<◌}
+use Rattle.std.specs.Prelude.{Some}
+use Prim.Native.Nat.{ℕ, zero, suc, ◌+◌, ◌-◌, ◌*◌, ◌%◌, ◌≤◌, ◌<◌, min}
 use native.Mathlib.Omega.{arith}
 use mathlib.Core.Path.{◌≡◌, refl, sym, ◌∙◌, ap}
 use mathlib.Core.List.{List}
 use mathlib.Core.Bool.{Bool, true, false, cond, ◌&&◌, ◌||◌, false≢true}
-use lib.Dec.{eqb, leb, ltb}
+use lib.Dec.{leb, ltb}
 use lib.ListN.{get_or}
-use borrow.Author.Tests.{lt-ltb, le-leb, ltb-true, ltb-false, leb-true, leb-false, eqb-true}
+use borrow.Author.Tests.{lt-ltb, le-leb, ltb-true, ltb-false, leb-true, leb-false}
 use Rattle.definitions.specs.Evaluate.{Quad}
 use Rattle.keys.specs.Keys.{place_limit, key_limit, property_weight, subject_weight, quad_of, keys_from, rising, Splits, rows_from}
-use Rattle.keys.proofs.Order.{quad-path}
-use Rattle.keys.proofs.Rise.{and_left, and_right, from_on}
+use Rattle.keys.proofs.Rise.{from_on}
 use Rattle.scan.specs.Scan.{Places, agrees, candidate, fits, better, scan}
-use Rattle.scan.specs.Codes.{sought_code, place_at, places_at, StretchOf, GivenBy, Lacks, Avoids, PassedOver}
+use Rattle.scan.specs.Codes.{sought_code, place_at, places_at, row_of, StretchOf, GivenBy, PassedOver}
 use Rattle.scan.specs.declared.Four.{Four}
-use Rattle.scan.specs.declared.Given.{Given}
 use Rattle.scan.specs.declared.Stretch.{Stretch}
 use Rattle.scan.proofs.ScanLaws.{better-top, scan-top, scan-floor}
 use Rattle.scan.proofs.Places.{Fit, fit, gives-last}
@@ -117,9 +116,6 @@ module _ (P : Places) (lo : ℕ) where
       pub done : best ≤ lo → best ≡ whole
       done h = idle P lo best (rows_from (n - i) f i) h ∙ sym so_far
 
-abbrev row_of : Four → Quad
-row_of r = record { graph = r.graph; subject = r.subject; property = r.property; object = r.object }
-
 -- ── one key, as the code has it ─────────────────────────────────────────────────────────────
 
 module _ (codes : Four) (lo best key c : ℕ) (ec : c ≡ candidate (places_at codes) lo (quad_of key)) where
@@ -136,9 +132,8 @@ module _ (codes : Four) (lo best key c : ℕ) (ec : c ≡ candidate (places_at c
       go false true p q e = sym (no-better (places_at codes) lo best (quad_of key) (λ t. omega (arith, leb-true best c q)))
       go false false p q e = absurd (false≢true e)
 
-  module _ (near : ltb c lo || leb best c ≡ false) (row : Four) (eg : row.graph ≡ (quad_of key).graph) (es : row.subject ≡ (quad_of key).subject)
-      (ep : row.property ≡ (quad_of key).property) (eo : row.object ≡ (quad_of key).object) (stands : Bool)
-      (er : stands ≡ agrees (place_at codes.graph) c row.graph && (agrees (place_at codes.subject) c row.subject
+  module _ (near : ltb c lo || leb best c ≡ false) (row : Four) (er : row_of row ≡ quad_of key) (stands : Bool)
+      (es : stands ≡ agrees (place_at codes.graph) c row.graph && (agrees (place_at codes.subject) c row.subject
       && (agrees (place_at codes.property) c row.property && agrees (place_at codes.object) c row.object))) where
     within : (lo ≤ c) × (c < best)
     within = go (ltb c lo) (leb best c) refl refl near
@@ -150,10 +145,10 @@ module _ (codes : Four) (lo best key c : ℕ) (ec : c ≡ candidate (places_at c
 
     one-row : cond (leb lo c && stands && ltb c best) c best ≡ better (places_at codes) lo best (row_of row)
     unfolding better fits
-    one-row = let e = ec ∙ sym (ap (candidate (places_at codes) lo) (quad-path (row_of row) (quad_of key) eg es ep eo)) in rw (er, e) refl
+    one-row = let e = ec ∙ sym (ap (candidate (places_at codes) lo) er) in rw (es, e) refl
 
     row_is : cond (leb lo c && stands && ltb c best) c best ≡ result
-    row_is = one-row ∙ ap (better (places_at codes) lo best) (quad-path (row_of row) (quad_of key) eg es ep eo)
+    row_is = one-row ∙ ap (better (places_at codes) lo best) er
 
     pub row-taken : stands ≡ true → c ≡ result
     row-taken e = rw (e, le-leb lo c within.0, lt-ltb c best within.1) at row_is
@@ -163,48 +158,29 @@ module _ (codes : Four) (lo best key c : ℕ) (ec : c ≡ candidate (places_at c
 
 -- ── keys passed over ────────────────────────────────────────────────────────────────────────
 
--- one key more that has another number
-pub one_more : (f : List ℕ) (place : Quad → ℕ) (number from i x : ℕ) → Lacks f place number from i → x ≡ place (quad_of (get_or f i 0))
-    → (x ≡ number → ⊥) → Lacks f place number from (i + 1)
-one_more f place number from i x over e d j a b t = go (ltb j i) refl
-  where
-    go : (s : Bool) → ltb j i ≡ s → ⊥
-    go true q = over j a (ltb-true j i q) t
-    go false q = let z : i ≡ j = omega (arith, ltb-false j i q) in d (e ∙ (ap (λ m. place (quad_of (get_or f m 0))) z ∙ t))
-
-pub one_outside : (f : List ℕ) (low high from i : ℕ) → Avoids f low high from i
-    → leb low (get_or f i 0 % subject_weight) && ltb (get_or f i 0 % subject_weight) high ≡ false → Avoids f low high from (i + 1)
-one_outside f low high from i over e j a b s t = go (ltb j i) refl
-  where
-    go : (s : Bool) → ltb j i ≡ s → ⊥
-    go true q = over j a (ltb-true j i q) s t
-    go false q =
-        let z : j ≡ i = omega (arith, ltb-false j i q) in
-        let k : get_or f j 0 ≡ get_or f i 0 = ap (λ m. get_or f m 0) z in
-        false≢true (sym (rw (le-leb low (get_or f i 0 % subject_weight) (omega arith), lt-ltb (get_or f i 0 % subject_weight) high (omega arith)) at e))
-
 -- a known place has its number in a quad that fits
 module _ (f : List ℕ) (codes : Four) (lo best from to : ℕ) where
-  pub by-subject : codes.subject < sought_code → Lacks f (λ q. q.subject) codes.subject from to → PassedOver f codes lo best from to
+  pub by-subject : codes.subject < sought_code → ((j : ℕ) → from ≤ j → j < to → (quad_of (get_or f j 0)).subject ≡ codes.subject → ⊥) → PassedOver f codes lo best from to
   by-subject h over j a b t = absurd (over j a b ((fit codes lo (quad_of (get_or f j 0)) t).subject h))
 
-  pub by-property : codes.property < sought_code → Lacks f (λ q. q.property) codes.property from to → PassedOver f codes lo best from to
+  pub by-property : codes.property < sought_code → ((j : ℕ) → from ≤ j → j < to → (quad_of (get_or f j 0)).property ≡ codes.property → ⊥) → PassedOver f codes lo best from to
   by-property h over j a b t = absurd (over j a b ((fit codes lo (quad_of (get_or f j 0)) t).property h))
 
-  pub by-object : codes.object < sought_code → Lacks f (λ q. q.object) codes.object from to → PassedOver f codes lo best from to
+  pub by-object : codes.object < sought_code → ((j : ℕ) → from ≤ j → j < to → (quad_of (get_or f j 0)).object ≡ codes.object → ⊥) → PassedOver f codes lo best from to
   by-object h over j a b t = absurd (over j a b ((fit codes lo (quad_of (get_or f j 0)) t).object h))
 
   -- where the object is what a quad gives
-  pub by-range : (g : Given) → GivenBy codes g → g.sought && eqb g.shift 0 ≡ true → ((j : ℕ) → get_or f j 0 < key_limit) → codes.property < sought_code
-      → Avoids f (codes.property * property_weight + lo) (codes.property * property_weight + best) from to → PassedOver f codes lo best from to
+  pub by-range : GivenBy codes (Some 0) → ((j : ℕ) → get_or f j 0 < key_limit) → codes.property < sought_code
+      → ((j : ℕ) → from ≤ j → j < to → codes.property * property_weight + lo ≤ get_or f j 0 % subject_weight
+      → get_or f j 0 % subject_weight < codes.property * property_weight + best → ⊥) → PassedOver f codes lo best from to
   unfolding quad_of
-  by-range g gives last small h over j a b t = go (ltb (candidate (places_at codes) lo (quad_of (get_or f j 0))) best) refl
+  by-range gives small h over j a b t = go (ltb (candidate (places_at codes) lo (quad_of (get_or f j 0))) best) refl
     where
       k : ℕ
       k = get_or f j 0
 
       object : k % place_limit ≡ candidate (places_at codes) lo (quad_of k)
-      object = omega (arith, gives-last g lo k (and_left g.sought (eqb g.shift 0) last) (eqb-true g.shift 0 (and_right g.sought (eqb g.shift 0) last)), gives lo k (small j))
+      object = omega (arith, gives-last lo k, gives lo k (small j))
 
       F : Fit codes lo (quad_of k)
       F = fit codes lo (quad_of k) t
@@ -250,6 +226,14 @@ module _ (codes : Four) (lo : ℕ) (f : List ℕ) (n : ℕ) (small : (j : ℕ) �
         first-low l h =
             sym (turn (places_at codes) lo f n whole best i so_far inside c (taken l h)
             ∙ keeps (places_at codes) lo f (n - (i + 1)) (i + 1) c (λ j a b t. no_less j (omega arith) (omega arith) t))
+
+        -- the lesser of the two
+        pub first-is : get_or f i 0 ≤ part.top → (m : ℕ) → m ≡ min best c → m ≡ whole
+        first-is l m e = go (ltb c best) refl
+          where
+            go : (s : Bool) → ltb c best ≡ s → m ≡ whole
+            go true q = let h = ltb-true c best q in let k : m ≡ c = omega arith in k ∙ first-low l h
+            go false q = let h = ltb-false c best q in let k : m ≡ best = omega arith in k ∙ first-high h
 
       module _ (end c : ℕ) (still : part.rises ≡ true → best ≡ end) (e : c ≡ better (places_at codes) lo best (quad_of (get_or f i 0))) where
         next : whole ≡ scan (places_at codes) lo c (rows_from (n - (i + 1)) f (i + 1))

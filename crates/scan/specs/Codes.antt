@@ -1,11 +1,10 @@
 -- Numbers as the code has them. A place of a pattern: a number below 65,536 is fixed, 65,536 is sought, any other is free.
-use Rattle.std.specs.Prelude.{ℕ, ◌+◌, ◌*◌, ◌/◌, ◌%◌, ◌^◌, ◌≤◌, ◌<◌, ◌≡◌, List, Bool, true, false, cond, eqb, ltb, get_or}
+use Rattle.std.specs.Prelude.{ℕ, ◌+◌, ◌*◌, ◌/◌, ◌%◌, ◌^◌, ◌≤◌, ◌<◌, ◌≡◌, List, Bool, true, false, cond, eqb, ltb, get_or, Option, Some, None}
 use Rattle.definitions.specs.Evaluate.{Quad}
-use Rattle.keys.specs.Keys.{place_limit, key_limit, subject_weight, quad_of}
+use Rattle.keys.specs.Keys.{place_limit, key_limit, quad_of}
 use Rattle.scan.specs.Scan.{Place, fixed, sought, free, Places, candidate, fits}
 use Rattle.scan.specs.declared.Four.{Four}
 use Rattle.scan.specs.declared.Stretch.{Stretch}
-use Rattle.scan.specs.declared.Given.{Given}
 
 abbrev pub sought_code : ℕ
 sought_code = place_limit
@@ -18,6 +17,10 @@ place_at n = cond (eqb n sought_code) sought (cond (ltb n sought_code) (fixed n)
 
 abbrev pub places_at : Four → Places
 places_at c = record { graph = place_at c.graph; subject = place_at c.subject; property = place_at c.property; object = place_at c.object }
+
+-- four numbers as a quad
+abbrev pub row_of : Four → Quad
+row_of r = record { graph = r.graph; subject = r.subject; property = r.property; object = r.object }
 
 -- the keys of quads that fit lie from low to top
 abbrev pub Covers : Four → (lo low top : ℕ) → Type 0
@@ -62,24 +65,17 @@ graph_shift = 3 * property_shift
 unfoldable pub place_number : (shift key : ℕ) → ℕ
 place_number shift key = key / 2 ^ shift % place_limit
 
--- what a quad gives the variable, by the place sought
-unfoldable pub given_at : Given → (lo key : ℕ) → ℕ
-given_at g lo key = cond g.sought (place_number g.shift key) lo
+-- what a quad gives the variable, by how many bits from the right the place sought stands
+unfoldable pub given_at : Option ℕ → (lo key : ℕ) → ℕ
+given_at (Some shift) lo key = place_number shift key
+given_at None lo key = lo
 
-abbrev pub GivenBy : Four → Given → Type 0
+abbrev pub GivenBy : Four → Option ℕ → Type 0
 GivenBy codes g = (lo k : ℕ) → k < key_limit → given_at g lo k ≡ candidate (places_at codes) lo (quad_of k)
 
 -- ── keys passed over ────────────────────────────────────────────────────────────────────────
 
--- the quads of the keys from a place on, up to another, have another number there
-abbrev pub Lacks : List ℕ → (place : Quad → ℕ) → (number from to : ℕ) → Type 0
-Lacks f place number from to = (j : ℕ) → from ≤ j → j < to → place (quad_of (get_or f j 0)) ≡ number → ⊥
-
--- their properties and objects, as one number, lie elsewhere
-abbrev pub Avoids : List ℕ → (low high from to : ℕ) → Type 0
-Avoids f low high from to = (j : ℕ) → from ≤ j → j < to → low ≤ get_or f j 0 % subject_weight → get_or f j 0 % subject_weight < high → ⊥
-
--- they do not fit, or give no less than the best so far
+-- the quads of the keys from a place on, up to another, do not fit, or give no less than the best so far
 abbrev pub PassedOver : List ℕ → Four → (lo best from to : ℕ) → Type 0
 PassedOver f codes lo best from to = (j : ℕ) → from ≤ j → j < to → fits (places_at codes) lo (quad_of (get_or f j 0)) ≡ true
     → best ≤ candidate (places_at codes) lo (quad_of (get_or f j 0))

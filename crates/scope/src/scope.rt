@@ -1,7 +1,7 @@
 // The variables free and bound in a script (refusal 7), by walks over what reads well.
 ghost use Rattle.std.specs.Prelude.{◌≡◌, true, not, ◌+◌, ◌<◌};
+ghost use Rattle.std.specs.List.{list_all};
 ghost use Rattle.definitions.specs.Limits.{variable_limit, count_offset, pairs_offset};
-ghost use Rattle.definitions.specs.Lists.{every};
 ghost use Rattle.definitions.specs.Bytes.{byte};
 ghost use Rattle.definitions.specs.Scope.{is_free, binders_of, variables_of, in_scope};
 ghost use Rattle.definitions.specs.Reading.{read_script, parsed};
@@ -46,14 +46,11 @@ pub fn bind_pairs(script: &[u8], at: usize, bound: Bound) -> Bound
     ensures { result ≡ bind_all (pair_variables (byte script.now (at + count_offset)) script.now (at + pairs_offset)) bound }
 {
     let count = script[at + COUNT_OFFSET];
+    let first = at + PAIRS_OFFSET;
     let mut after = bound;
-    let mut place = at + PAIRS_OFFSET;
-    let mut k: u8 = 0;
-    while k < count {
-        let v = script[place] as usize;
+    for k in 0..count as usize {
+        let v = script[first + 2 * k] as usize;
         after = bind_one(after, v);
-        place += 2;
-        k += 1;
     }
     after
 }
@@ -152,16 +149,9 @@ pub fn bind_script(script: &[u8], terms: usize, at: usize, left: u8, bound: Boun
 
 // Whether no flag is set.
 fn none_set(flags: [bool; VARIABLE_LIMIT]) -> bool
-    ensures { result ≡ every not flags }
+    ensures { result ≡ list_all not flags }
 {
-    let mut i = 0;
-    while i < VARIABLE_LIMIT {
-        if flags[i] {
-            return false;
-        }
-        i += 1;
-    }
-    true
+    flags.iter().all(|&flag| !flag)
 }
 
 // Whether no variable is unbound at its use, nor bound by two pairs.

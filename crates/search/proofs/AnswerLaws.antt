@@ -6,7 +6,7 @@ use mathlib.Core.List.{List, ◌∷◌}
 use mathlib.Core.Bool.{Bool, true, false, cond, ◌||◌}
 use mathlib.Core.Option.{Option, none, some}
 use lib.Dec.{T, eqb, eqb→eq, eqb_refl}
-use lib.ListN.{length, get_or, set, take, drop, length-take}
+use lib.ListN.{length, get_or, set, take, length-take}
 use lib.Seq.{get_or-set_same, get_or-set_other}
 use Rattle.definitions.specs.Limits.{depth_limit}
 use Rattle.definitions.specs.Lists.{is_in}
@@ -20,11 +20,12 @@ use Rattle.query.specs.Codes.{number_at, bindings_of}
 use Rattle.query.specs.declared.Context.{Context}
 use Rattle.query.specs.StoreLent.{setting_in}
 use Rattle.seeking.specs.Seeking.{holds}
-use Rattle.seeking.specs.Parts.{parts_width, PartsOf}
+use Rattle.seeking.specs.Parts.{part_limit, PartsOf}
+use Rattle.seeking.specs.declared.Part.{Part}
 use Rattle.search.specs.Ready.{Ready}
 use Rattle.search.specs.Finding.{clear, numbers_from, tuple_of, last_of, World, Parted, First, is_after, From, Once, Cleared, setting, ReadyFor, Good, FirstOf, FindOf, AfterOf, AnswerOf}
 use Rattle.search.specs.declared.Block.{Block}
-use Rattle.search.specs.declared.Found.{Found}
+use Rattle.std.specs.Prelude.{Option as Maybe}
 use Rattle.search.proofs.FirstTuple.{first-map, Good as GoodAnswer, answer-first}
 use Rattle.search.proofs.Chosen.{distinct-once, clear-cleared, clear-bind}
 use Rattle.search.proofs.ReadyLaws.{ready-clear}
@@ -70,12 +71,10 @@ clear-start vars size γ = let e : size - 0 ≡ size = omega arith in rw e refl
 
 -- ── the parts of its query ──────────────────────────────────────────────────────────────────
 
-pub parted : (script : List ℕ) (x : Context) (block : Block) (size : ℕ) (list : List ℕ) → size ≤ parts_width
+pub parted : (script : List ℕ) (x : Context) (block : Block) (size : ℕ) (list : List Part) → size ≤ part_limit
     → ((q : Query) (m : ℕ) → read_query script x.loaded depth_limit block.«at» ≡ some (q, m) → PartsOf script x.loaded (take size list) q)
-    → Parted script (take (size - 0) (drop 0 list)) x block
-parted script x block size list h f =
-    let e : size - 0 ≡ size = omega arith in
-    subst⁻¹ (λ (n : ℕ). Parted script (take n list) x block) e (record { room = omega (arith, length-take size list, h); each = f })
+    → Parted script (take size list) x block
+parted script x block size list h f = record { room = omega (arith, length-take size list, h); each = f }
 
 -- ── the answer ──────────────────────────────────────────────────────────────────────────────
 
@@ -88,7 +87,7 @@ module _ {script ranks table quads leasts : List ℕ} {x : Context} {block : Blo
   last = last_of started block.last 0 block.size
 
   -- the first of the good tuples that pass a test is the machine's answer, where the test is to come after the last
-  from_first : (P : Tuple → Type 0) → ((t : Tuple) → P t → T (is_after last t)) → ((t : Tuple) → T (is_after last t) → P t) → (r : Found)
+  from_first : (P : Tuple → Type 0) → ((t : Tuple) → P t → T (is_after last t)) → ((t : Tuple) → T (is_after last t) → P t) → (r : Maybe (List ℕ))
       → FirstOf w opened 0 P r → AnswerOf w known started r
   unfolding setting_in
   from_first P into out r h apart ready =
@@ -110,10 +109,10 @@ module _ {script ranks table quads leasts : List ℕ} {x : Context} {block : Blo
       same : (u : Tuple) → Fits w.schema w.typing w.terms own u → bind own u (bindings_of opened) ≡ bind own u (bindings_of known)
       same u f = ap (bind own u) cleared ∙ clear-bind w.schema w.typing w.terms own (bindings_of known) u f
 
-  pub answer-begins : started ≡ false → (r : Found) → FindOf w opened 0 0 r → AnswerOf w known started r
+  pub answer-begins : started ≡ false → (r : Maybe (List ℕ)) → FindOf w opened 0 0 r → AnswerOf w known started r
   answer-begins e = from_first (From 0) (λ t q. rw e tt) (λ t q. from_zero t)
 
-  pub answer-goes-on : started ≡ true → (r : Found) → AfterOf w opened 0 r → AnswerOf w known started r
+  pub answer-goes-on : started ≡ true → (r : Maybe (List ℕ)) → AfterOf w opened 0 r → AnswerOf w known started r
   answer-goes-on e r h =
       let all : block.size - 0 ≡ block.size = omega arith in
       from_first (λ t. T (is_after (last_of true block.last 0 (block.size - 0)) t)) (λ t q. rw e (subst (λ (n : ℕ). T (is_after (last_of true block.last 0 n) t)) all q))

@@ -30,7 +30,7 @@ use Rattle.query.specs.StoreLent.{setting_in, Told, StoreLent}
 use Rattle.search.specs.Ready.{Ready}
 use Rattle.search.specs.Finding.{numbers_from, tuple_of, last_of, World, AnswerOf}
 use Rattle.search.specs.declared.Block.{Block}
-use Rattle.search.specs.declared.Found.{Found}
+use Rattle.std.specs.Prelude.{Option as Maybe}
 
 -- ── its variables are distinct ──────────────────────────────────────────────────────────────
 
@@ -126,7 +126,7 @@ module _ (c : Checked) (accepted : Accepted c) (s : State) (sound : Sound c s) w
             small = small;
           }
 
-      module _ (known : List ℕ) (started : Bool) (r : Found) (variables_are : numbers_from b.size b.vars 0 ≡ variables_of bs)
+      module _ (known : List ℕ) (started : Bool) (r : Maybe (List ℕ)) (variables_are : numbers_from b.size b.vars 0 ≡ variables_of bs)
           (bindings_are : bindings_of known ≡ s.control.bindings) where
         pub answer-now : AnswerOf world known started r
             → answer_now (setting_of c ranks (signed x.clock)) (type_at c.types) s (variables_of bs) q (last_of started b.last 0 b.size) ≡ ok (tuple_of r 0 b.size)

@@ -1,5 +1,5 @@
 -- The search over bytes and arrays: one law for each way through the code.
-use Prim.Native.Nat.{ℕ, zero, ◌+◌, ◌-◌, ◌≤◌, ◌<◌, min}
+use Prim.Native.Nat.{ℕ, ◌+◌, ◌-◌, ◌≤◌, ◌<◌, min}
 use native.Mathlib.Omega.{arith}
 use mathlib.Core.Path.{◌≡◌, refl, sym, ◌∙◌, ap, subst, subst⁻¹, fun_ext}
 use mathlib.Core.Logic.{⊎_elim}
@@ -11,9 +11,8 @@ use lib.ListN.{length, get_or, set}
 use lib.Seq.{get_or-set_same, get_or-set_other}
 use borrow.Author.Tests.{lt-ltb}
 use Rattle.definitions.specs.Limits.{depth_limit, term_limit, variable_limit}
-use Rattle.definitions.specs.Tree.{Query}
 use Rattle.definitions.specs.Reading.{read_query}
-use Rattle.definitions.specs.Evaluate.{Bindings, Quad, query}
+use Rattle.definitions.specs.Evaluate.{Bindings, Quad}
 use Rattle.definitions.specs.Search.{Tuple, earlier, bind}
 use Rattle.definitions.specs.Sound.{number_has}
 use Rattle.definitions.specs.Values.{before}
@@ -25,7 +24,6 @@ use Rattle.laws.specs.Walks.{Loads, Walked}
 use Rattle.laws.proofs.NoFault.{fine-ok}
 use Rattle.laws.specs.Bindings.{Holds}
 use Rattle.laws.proofs.Bindings.{test-holds, holds_test, is_below}
-use Rattle.query.specs.Known.{passes}
 use Rattle.scan.specs.Codes.{sought_code, free_code}
 use Rattle.query.specs.Codes.{number_at, bindings_of}
 use Rattle.query.specs.declared.Context.{Context}
@@ -35,11 +33,13 @@ use Rattle.query.proofs.Outcomes.{ok-passes}
 use Rattle.query.proofs.TermLaws.{few}
 use Rattle.seeking.specs.Seeking.{Keeps, holds, Reaches, SeekOf, Denies}
 use Rattle.seeking.specs.Parts.{PartsOf}
+use Rattle.seeking.specs.declared.Part.{Part}
 use Rattle.search.specs.Ready.{Ready}
 use Rattle.search.specs.Finding.{numbers_from, tuple_of, skip_types, skip, bind_to, World, Parted, later, First, From, Once, Cleared, setting, Has, ReadyFor, Passes, PassedTo, NextOf}
 use Rattle.search.specs.Finding.{HopeAt, HopeOf, WorthOf, Good, FirstOf, FindOf, AfterOf, is_after}
 use Rattle.search.specs.declared.Block.{Block}
-use Rattle.search.specs.declared.Found.{Found}
+use Rattle.std.specs.Prelude.{Option as Maybe, None, Some}
+use Rattle.std.specs.Bool.{then_some}
 use Rattle.search.proofs.TypeLaws.{has_code, skip_is, skip-low}
 use Rattle.search.proofs.TupleOrder.{lower, alike}
 use Rattle.search.proofs.FirstTuple.{first-map}
@@ -62,10 +62,6 @@ module _ (known : List ℕ) (v i : ℕ) (inside : v < length known) (small : i <
           go true e f = rw (e tt, get_or-set_same known v i free_code inside, lt-ltb i sought_code small) refl
           go false e f = rw (get_or-set_other known v x i free_code (λ e. f e)) refl
 
--- where it is known whether there is a tuple
-told : (P : Tuple → Type 0) (y : Found) (k n : ℕ) {b : Bool} → y.found ≡ b → First P (tuple_of y k n) → First P (cond b (some (numbers_from n y.tuple k)) none)
-told P y k n f h = subst (λ (b : Bool). First P (cond b (some (numbers_from n y.tuple k)) none)) f h
-
 pub from_zero : (t : Tuple) → From 0 t
 from_zero [] = tt
 from_zero (i ∷ t) = omega arith
@@ -79,7 +75,7 @@ module _ {script ranks table quads leasts : List ℕ} {x : Context} {block : Blo
   pub lent-here : (known : List ℕ) → length known ≡ variable_limit → RanksLent ranks table known x
   lent-here known h = record { ranked = w.ranked; terms = record { terms = w.terms; tabled = w.lent.tabled; told = w.told; variables = h } }
 
-  pub parts-here : {parts : List ℕ} → Parted script parts x block → PartsOf script x.loaded parts w.tree
+  pub parts-here : {parts : List Part} → Parted script parts x block → PartsOf script x.loaded parts w.tree
   parts-here p = p.each w.tree w.next w.read
 
   counted : x.count ≡ length w.terms
@@ -331,16 +327,16 @@ module _ {script ranks table quads leasts : List ℕ} {x : Context} {block : Blo
 
   module _ (known : List ℕ) (k : ℕ) (over : size ≤ k) where
     -- with no variable left to choose
-    abbrev Rest : (Tuple → Type 0) → Found → List ℕ → Type 0
+    abbrev Rest : (Tuple → Type 0) → Maybe (List ℕ) → List ℕ → Type 0
     Rest P r vs = Once vs → ReadyFor w known vs → Cleared vs (bindings_of known) → First (λ t. Good w known vs t × P t) (tuple_of r k (size - k))
 
-    at-end : (P : Tuple → Type 0) (r : Found) → Rest P r [] → FirstOf w known k P r
+    at-end : (P : Tuple → Type 0) (r : Maybe (List ℕ)) → Rest P r [] → FirstOf w known k P r
     at-end P r f = subst⁻¹ (Rest P r) (numbers-none vars size k over) f
 
     pub find-test : (lo : ℕ) (t : List ℕ) {b : Bool} {m n : ℕ} → Walked (HoldsOf ranks table known x (rows_of quads x) b m) (read_query script x.loaded depth_limit block.«at») n
-        → FindOf w known k lo (record { found = b; tuple = t })
+        → FindOf w known k lo (then_some b t)
     unfolding bind setting_in numbers_from before
-    find-test lo t {b} {m} s = at-end (From lo) (record { found = b; tuple = t }) (λ once ready cleared.
+    find-test lo t {b} {m} s = at-end (From lo) (then_some b t) (λ once ready cleared.
         let h : HoldsOf ranks table known x w.rows b m w.tree =
         subst (λ (rows : List Quad). HoldsOf ranks table known x rows b m w.tree) w.lent.quads_are
         (subst (HoldsOf ranks table known x (rows_of quads x) b m) (same_read s.read w.read).0 s.holds) in
@@ -351,7 +347,7 @@ module _ {script ranks table quads leasts : List ℕ} {x : Context} {block : Blo
         rw e (go b p))
       where
         go : (b : Bool) → b ≡ holds (setting w) w.terms w.rows (bindings_of known) w.tree
-            → First (λ u. Good w known [] u × From lo u) (cond b (some []) none)
+            → First (λ u. Good w known [] u × From lo u) (tuple_of (then_some b t) k 0)
         go true p = (((tt, subst T p tt), tt), least)
           where
             least : (u : Tuple) → Good w known [] u × From lo u → T (earlier u []) → ⊥
@@ -363,11 +359,11 @@ module _ {script ranks table quads leasts : List ℕ} {x : Context} {block : Blo
             out [] g = subst T (sym p) g.0.1
             out (i ∷ u) g = g.0.0
 
-    pub after-ends : (r : Found) → r.found ≡ false → AfterOf w known k r
+    pub after-ends : AfterOf w known k None
     unfolding numbers_from before
-    after-ends r f = at-end _ r (λ once ready cleared.
+    after-ends = at-end _ None (λ once ready cleared.
         let e : size - k ≡ 0 = omega arith in
-        rw (f, e) out)
+        rw e out)
       where
         out : (u : Tuple) → Good w known [] u × T (is_after (some []) u) → ⊥
         out [] g = g.1
@@ -386,19 +382,19 @@ module _ {script ranks table quads leasts : List ℕ} {x : Context} {block : Blo
     abbrev pub Given : Type 0 → Type 0
     Given A = Once both → ReadyFor w known both → Cleared both (bindings_of known) → A
 
-    at_level : (P : Tuple → Type 0) (r : Found) → Given (First (λ t. Good w known both t × P t) (tuple_of r k (size - k))) → FirstOf w known k P r
+    at_level : (P : Tuple → Type 0) (r : Maybe (List ℕ)) → Given (First (λ t. Good w known both t × P t) (tuple_of r k (size - k))) → FirstOf w known k P r
     at_level P r f =
         subst⁻¹ (λ (vs : List ℕ). Once vs → ReadyFor w known vs → Cleared vs (bindings_of known) → First (λ t. Good w known vs t × P t) (tuple_of r k (size - k)))
         (numbers_more vars size k below) f
 
-    of-level : (P : Tuple → Type 0) (r : Found) → FirstOf w known k P r → Given (First (λ t. Good w known both t × P t) (tuple_of r k (size - k)))
+    of-level : (P : Tuple → Type 0) (r : Maybe (List ℕ)) → FirstOf w known k P r → Given (First (λ t. Good w known both t × P t) (tuple_of r k (size - k)))
     of-level P r f =
         subst (λ (vs : List ℕ). Once vs → ReadyFor w known vs → Cleared vs (bindings_of known) → First (λ t. Good w known vs t × P t) (tuple_of r k (size - k)))
         (numbers_more vars size k below) f
 
     -- a tuple found after a number, with it
-    hit : (P : Tuple → Type 0) (y : Found) (i : ℕ) → k < length y.tuple → First P (some (i ∷ numbers_from (size - (k + 1)) y.tuple (k + 1)))
-        → First P (tuple_of (record { found = true; tuple = set y.tuple k i }) k (size - k))
+    hit : (P : Tuple → Type 0) (y : List ℕ) (i : ℕ) → k < length y → First P (some (i ∷ numbers_from (size - (k + 1)) y (k + 1)))
+        → First P (some (numbers_from (size - k) (set y k i) k))
     hit P y i h f = subst⁻¹ (λ (t : Tuple). First P (some t)) (tuple-set y size k i below h) f
 
     module _ (lo : ℕ) where
@@ -410,17 +406,17 @@ module _ {script ranks table quads leasts : List ℕ} {x : Context} {block : Blo
       level-starts o r c i t g l = l
 
       module _ (from : ℕ) (so_far : LevelFrom from) where
-        pub find_past : x.count ≤ from → (y : Found) → y.found ≡ false → FindOf w known k lo y
-        find_past h y f = at_level (From lo) y (λ o r c. rw f (no-tuple known k below o r c (From lo)
-            (λ i t g l. let a = good-small known k below o r c i t g in let b = so_far o r c i t g l in omega arith)))
+        pub find_past : x.count ≤ from → FindOf w known k lo None
+        find_past h = at_level (From lo) None (λ o r c. no-tuple known k below o r c (From lo)
+            (λ i t g l. let a = good-small known k below o r c i t g in let b = so_far o r c i t g l in omega arith))
 
         module _ (i : ℕ) (ei : NextOf w known k from i) where
           at-least' : Given ((j : ℕ) (t : Tuple) → Good w known both (j ∷ t) → lo ≤ j → i ≤ j)
           at-least' o r c j t g l = not-passed known k below o r c from i ei.2 j t g (so_far o r c j t g l)
 
-          pub find_none : x.count ≤ i → (y : Found) → y.found ≡ false → FindOf w known k lo y
-          find_none h y f = at_level (From lo) y (λ o r c. rw f (no-tuple known k below o r c (From lo)
-              (λ j t g l. let a = good-small known k below o r c j t g in let b = at-least' o r c j t g l in omega arith)))
+          pub find_none : x.count ≤ i → FindOf w known k lo None
+          find_none h = at_level (From lo) None (λ o r c. no-tuple known k below o r c (From lo)
+              (λ j t g l. let a = good-small known k below o r c j t g in let b = at-least' o r c j t g l in omega arith))
 
           -- where it has none either
           past-it : Given ((t : Tuple) → Good w known both (i ∷ t) → ⊥) → LevelFrom (i + 1)
@@ -433,24 +429,21 @@ module _ {script ranks table quads leasts : List ℕ} {x : Context} {block : Blo
             pub find-skip : {b : Bool} → WorthOf w (set known this i) k i b → b ≡ false → LevelFrom (i + 1)
             find-skip h e = past-it (λ o r c t g. not-worth known k below o r c i small inside (ei.1 small) h e t g)
 
-            module _ (y : Found) (ey : FindOf w (set known this i) (k + 1) 0 y) where
-              abbrev AfterIt : Tuple → Type 0
-              AfterIt t = Good w (set known this i) (later block (k + 1)) t × From 0 t
+            abbrev AfterIt : Tuple → Type 0
+            AfterIt t = Good w (set known this i) (later block (k + 1)) t × From 0 t
 
-              rest-first : Given (First AfterIt (tuple_of y (k + 1) (size - (k + 1))))
-              rest-first o r c = ey o.1 (chosen-ready known k below o r c i small inside (ei.1 small)) (chosen-cleared known k below o r c i small inside (ei.1 small))
+            rest-first : (y : Maybe (List ℕ)) → FindOf w (set known this i) (k + 1) 0 y → Given (First AfterIt (tuple_of y (k + 1) (size - (k + 1))))
+            rest-first y ey o r c = ey o.1 (chosen-ready known k below o r c i small inside (ei.1 small)) (chosen-cleared known k below o r c i small inside (ei.1 small))
 
-              pub find-on : y.found ≡ false → LevelFrom (i + 1)
-              find-on f = past-it (λ o r c t g.
-                  none_after known k below o r c i small inside (ei.1 small) (From 0) (λ t. Unit {0}) (λ t q. from_zero t)
-                  (told AfterIt y (k + 1) (size - (k + 1)) f (rest-first o r c)) t g tt)
+            pub find-on : FindOf w (set known this i) (k + 1) 0 None → LevelFrom (i + 1)
+            find-on ey = past-it (λ o r c t g.
+                none_after known k below o r c i small inside (ei.1 small) (From 0) (λ t. Unit {0}) (λ t q. from_zero t) (rest-first None ey o r c) t g tt)
 
-              pub find-hit : y.found ≡ true → lo ≤ i → k < length y.tuple → FindOf w known k lo (record { found = true; tuple = set y.tuple k i })
-              find-hit f l h = at_level (From lo) (record { found = true; tuple = set y.tuple k i }) (λ o r c.
-                  hit (λ t. Good w known both t × From lo t) y i h
-                  (first-after known k below o r c i small inside (ei.1 small) (From 0) (From lo) (λ t q. from_zero t) (λ t q. l) (λ j t g q. at-least' o r c j t g q)
-                  (numbers_from (size - (k + 1)) y.tuple (k + 1))
-                  (told AfterIt y (k + 1) (size - (k + 1)) f (rest-first o r c))))
+            pub find-hit : (y : List ℕ) → FindOf w (set known this i) (k + 1) 0 (Some y) → lo ≤ i → k < length y → FindOf w known k lo (Some (set y k i))
+            find-hit y ey l h = at_level (From lo) (Some (set y k i)) (λ o r c.
+                hit (λ t. Good w known both t × From lo t) y i h
+                (first-after known k below o r c i small inside (ei.1 small) (From 0) (From lo) (λ t q. from_zero t) (λ t q. l) (λ j t g q. at-least' o r c j t g q)
+                (numbers_from (size - (k + 1)) y (k + 1)) (rest-first (Some y) ey o r c)))
 
     -- ── after the last tuple ──────────────────────────────────────────────────────────────────
 
@@ -463,21 +456,21 @@ module _ {script ranks table quads leasts : List ℕ} {x : Context} {block : Blo
     abbrev After : Tuple → Type 0
     After t = T (is_after (some (own ∷ others)) t)
 
-    at_after : (r : Found) → Given (First (λ t. Good w known both t × After t) (tuple_of r k (size - k))) → AfterOf w known k r
+    at_after : (r : Maybe (List ℕ)) → Given (First (λ t. Good w known both t × After t) (tuple_of r k (size - k))) → AfterOf w known k r
     at_after r f = subst⁻¹ (λ (l : Tuple). FirstOf w known k (λ t. T (is_after (some l) t)) r) (numbers_more block.last size k below) (at_level After r f)
 
     from-own : (j : ℕ) (t : Tuple) → After (j ∷ t) → own ≤ j
     from-own j t h = earlier-cases own j others t (own ≤ j) (λ m. omega arith) (λ m e. omega arith) h
 
-    pub after-past : x.count ≤ own → (y : Found) → y.found ≡ false → AfterOf w known k y
-    after-past h y f = at_after y (λ o r c. rw f (no-tuple known k below o r c After
-        (λ j t g q. let a = good-small known k below o r c j t g in let b = from-own j t q in omega arith)))
+    pub after-past : x.count ≤ own → AfterOf w known k None
+    after-past h = at_after None (λ o r c. no-tuple known k below o r c After
+        (λ j t g q. let a = good-small known k below o r c j t g in let b = from-own j t q in omega arith))
 
     -- no tuple with the last one's number comes after it
     abbrev pub NoneOwn : Type 0
     NoneOwn = Given ((t : Tuple) → Good w known both (own ∷ t) → After (own ∷ t) → ⊥)
 
-    pub after-find : NoneOwn → (y : Found) → FindOf w known k (own + 1) y → AfterOf w known k y
+    pub after-find : NoneOwn → (y : Maybe (List ℕ)) → FindOf w known k (own + 1) y → AfterOf w known k y
     after-find n y ey = at_after y (λ o r c.
         first-map (λ t. Good w known both t × From (own + 1) t) (λ t. Good w known both t × After t) into (out o r c) (tuple_of y k (size - k)) (of-level (From (own + 1)) y ey o r c))
       where
@@ -501,24 +494,21 @@ module _ {script ranks table quads leasts : List ℕ} {x : Context} {block : Blo
         own-typed : Holds w.schema w.terms own (w.typing this)
         own-typed = test-holds w.schema w.terms (w.typing this) own (subst T (sym f ∙ (e ∙ coded known k below own small)) tt)
 
-        module _ (y : Found) (ey : AfterOf w (set known this own) (k + 1) y) where
-          abbrev AfterOwn : Tuple → Type 0
-          AfterOwn t = Good w (set known this own) (later block (k + 1)) t × T (is_after (some others) t)
+        abbrev AfterOwn : Tuple → Type 0
+        AfterOwn t = Good w (set known this own) (later block (k + 1)) t × T (is_after (some others) t)
 
-          rest-after : Given (First AfterOwn (tuple_of y (k + 1) (size - (k + 1))))
-          rest-after o r c = ey o.1 (chosen-ready known k below o r c own small inside own-typed) (chosen-cleared known k below o r c own small inside own-typed)
+        rest-after : (y : Maybe (List ℕ)) → AfterOf w (set known this own) (k + 1) y → Given (First AfterOwn (tuple_of y (k + 1) (size - (k + 1))))
+        rest-after y ey o r c = ey o.1 (chosen-ready known k below o r c own small inside own-typed) (chosen-cleared known k below o r c own small inside own-typed)
 
-          own_out : (t : Tuple) → After (own ∷ t) → T (is_after (some others) t)
-          own_out t q = earlier-cases own own others t (T (earlier others t)) (λ (m : own < own). absurd (omega arith)) (λ m n. n) q
+        own_out : (t : Tuple) → After (own ∷ t) → T (is_after (some others) t)
+        own_out t q = earlier-cases own own others t (T (earlier others t)) (λ (m : own < own). absurd (omega arith)) (λ m n. n) q
 
-          pub own-none : y.found ≡ false → NoneOwn
-          own-none g o r c t a q =
-              none_after known k below o r c own small inside own-typed (λ t. T (is_after (some others) t)) After own_out
-              (told AfterOwn y (k + 1) (size - (k + 1)) g (rest-after o r c)) t a q
+        pub own-none : AfterOf w (set known this own) (k + 1) None → NoneOwn
+        own-none ey o r c t a q =
+            none_after known k below o r c own small inside own-typed (λ t. T (is_after (some others) t)) After own_out (rest-after None ey o r c) t a q
 
-          pub own-hit : y.found ≡ true → k < length y.tuple → AfterOf w known k (record { found = true; tuple = set y.tuple k own })
-          own-hit g h = at_after (record { found = true; tuple = set y.tuple k own }) (λ o r c.
-              hit (λ t. Good w known both t × After t) y own h
-              (first-after known k below o r c own small inside own-typed (λ t. T (is_after (some others) t)) After own_out (λ t q. alike own others t q) (λ j t g q. from-own j t q)
-              (numbers_from (size - (k + 1)) y.tuple (k + 1))
-              (told AfterOwn y (k + 1) (size - (k + 1)) g (rest-after o r c))))
+        pub own-hit : (y : List ℕ) → AfterOf w (set known this own) (k + 1) (Some y) → k < length y → AfterOf w known k (Some (set y k own))
+        own-hit y ey h = at_after (Some (set y k own)) (λ o r c.
+            hit (λ t. Good w known both t × After t) y own h
+            (first-after known k below o r c own small inside own-typed (λ t. T (is_after (some others) t)) After own_out (λ t q. alike own others t q) (λ j t g q. from-own j t q)
+            (numbers_from (size - (k + 1)) y (k + 1)) (rest-after (Some y) ey o r c)))

@@ -1,9 +1,9 @@
 -- Trying a tuple, one variable at a time: past the last one the query is evaluated; before that a number is looked at and bound.
-use Prim.Native.Nat.{ℕ, zero, suc, ◌+◌, ◌-◌, ◌≤◌, ◌<◌}
+use Prim.Native.Nat.{ℕ, zero, suc, ◌+◌, ◌≤◌, ◌<◌}
 use native.Mathlib.Omega.{arith}
 use mathlib.Core.Path.{◌≡◌, refl, sym, ◌∙◌, ap, ap₂, subst, subst⁻¹, fun_ext}
 use mathlib.Core.List.{List, [], ◌∷◌}
-use mathlib.Core.Bool.{Bool, true, false, not, ◌&&◌, true≢false}
+use mathlib.Core.Bool.{Bool, true, false, not, ◌&&◌}
 use mathlib.Core.Option.{none}
 use lib.Dec.{T, eqb}
 use lib.ListN.{length, get_or, set, get_elem?}
@@ -12,6 +12,8 @@ use Rattle.definitions.specs.Lists.{every, distinct}
 use Rattle.definitions.specs.Terms.{Term}
 use Rattle.definitions.specs.Evaluate.{Bindings, Quad, query}
 use Rattle.definitions.specs.Search.{bind}
+use Rattle.definitions.specs.Evaluated.{query_records}
+use Rattle.std.specs.Prelude.{Option as Maybe, None, Some, IfSome}
 use Rattle.definitions.specs.Sound.{number_has}
 use Rattle.definitions.specs.Reading.{read_query}
 use Rattle.definitions.specs.Outcome.{ok}
@@ -50,7 +52,7 @@ module _ {script ranks table quads leasts : List ℕ} {x : Context} {block : Blo
   -- ── past the last variable ────────────────────────────────────────────────────────────────
 
   pub tried-all : size ≤ k → {b : Bool} {m n : ℕ} → Walked (HoldsOf ranks table known x (rows_of quads x) b m) (read_query script x.loaded depth_limit block.«at») n
-      → TriedOf w known tuple k (record { fits = true; holds = b; records = m })
+      → TriedOf w known tuple k (Some (record { holds = b; records = m }))
   unfolding setting_in tuple_fits bind
   tried-all over {b} {m} s d r =
       let e = numbers-none block.vars size k over in
@@ -60,7 +62,7 @@ module _ {script ranks table quads leasts : List ℕ} {x : Context} {block : Blo
       let r₀ : ReadyFor w known [] = subst (ReadyFor w known) e r in
       let f = fine-ok (ready-fine (setting w) w.typing w.terms w.rows (bindings_of known) w.tree r₀) in
       let p = h w.schema w.terms w.lent.tabled.reads f.0 f.1 in
-      rw e (refl, λ t. (f.1 ∙ ap ok (sym p.0), p.1))
+      rw e (refl, (f.1 ∙ ap ok (sym p.0), p.1))
 
   -- ── a variable ────────────────────────────────────────────────────────────────────────────
 
@@ -83,20 +85,20 @@ module _ {script ranks table quads leasts : List ℕ} {x : Context} {block : Blo
     fits_more = rw (numbers_more block.vars size k below, numbers_more tuple size k below) refl
 
     -- a number that does not fit
-    unfit : has ≡ false → TriedOf w known tuple k (record { fits = false; holds = false; records = 0 })
-    unfit e d r = (sym (fits_more ∙ rw e refl), λ t. absurd (true≢false (sym t)))
+    unfit : has ≡ false → TriedOf w known tuple k None
+    unfit e d r = (sym (fits_more ∙ rw e refl), tt)
 
-    pub no-term : x.count ≤ i → TriedOf w known tuple k (record { fits = false; holds = false; records = 0 })
+    pub no-term : x.count ≤ i → TriedOf w known tuple k None
     no-term h = unfit (rw (past_end w.terms i (omega (arith, w.lent.tabled.counted))) refl)
 
     module _ (small : i < x.count) where
       coded : code_leq (get_or leasts i 0) (get_or block.types k 0) ≡ has
       coded = has_code w.schema w.terms leasts w.lent.least_of (get_or block.types k 0) (w.typing v) (w.types k below) i (omega (arith, w.lent.tabled.counted))
 
-      pub wrong_type : {t : Bool} → t ≡ code_leq (get_or leasts i 0) (get_or block.types k 0) → t ≡ false → TriedOf w known tuple k (record { fits = false; holds = false; records = 0 })
+      pub wrong_type : {t : Bool} → t ≡ code_leq (get_or leasts i 0) (get_or block.types k 0) → t ≡ false → TriedOf w known tuple k None
       wrong_type e f = unfit (sym coded ∙ (sym e ∙ f))
 
-      pub one_more : {t : Bool} → t ≡ code_leq (get_or leasts i 0) (get_or block.types k 0) → t ≡ true → v < length known → (y : Tried)
+      pub one_more : {t : Bool} → t ≡ code_leq (get_or leasts i 0) (get_or block.types k 0) → t ≡ true → v < length known → (y : Maybe Tried)
           → TriedOf w (set known v i) tuple (k + 1) y → TriedOf w known tuple k y
       unfolding setting_in bind
       one_more e f inside y h d r =
@@ -114,7 +116,10 @@ module _ {script ranks table quads leasts : List ℕ} {x : Context} {block : Blo
           let same : bind (later block k) (numbers_at w known tuple k) (bindings_of known) ≡ bind rest t (bindings_of (set known v i)) =
           ap₂ (λ (vs u : List ℕ). bind vs u (bindings_of known)) more (numbers_more tuple size k below)
           ∙ (fun_ext (set-bind-at v i rest t (bindings_of known) once.0) ∙ ap (bind rest t) (sym with-is)) in
-          (z.0 ∙ sym (fits_more ∙ rw fits refl), λ q. rw same (z.1 q))
+          (z.0 ∙ sym (fits_more ∙ rw fits refl), subst⁻¹ Comes same z.1)
         where
+          Comes : Bindings → Type 0
+          Comes β = IfSome y (λ t. (query (setting w) w.terms w.rows β w.tree ≡ ok t.holds) × (t.records ≡ query_records (setting w) w.terms w.rows β w.tree))
+
           holds : has ≡ true → Holds w.schema w.terms i (w.typing v)
           holds e = test-holds w.schema w.terms (w.typing v) i (true_is has e)

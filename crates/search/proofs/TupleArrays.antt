@@ -11,7 +11,6 @@ use Rattle.definitions.specs.Lists.{is_in}
 use Rattle.laws.proofs.Ranges.{split}
 use Rattle.laws.proofs.Tests.{or_left, or_right}
 use Rattle.search.specs.Finding.{numbers_from}
-use Rattle.search.specs.declared.Found.{Found}
 
 -- ── numbers of arrays ───────────────────────────────────────────────────────────────────────
 
@@ -30,11 +29,9 @@ numbers-set f j i zero k h = refl
 numbers-set f j i (suc m) k h = ap₂ {C = List ℕ} ◌∷◌ (get_or-set_other f j k i 0 (λ e. omega arith)) (numbers-set f j i m (k + 1) (omega arith))
 
 -- a tuple found at the next level, with its number here
-pub tuple-set : (r : Found) (size k i : ℕ) → k < size → k < length r.tuple
-    → numbers_from (size - k) (set r.tuple k i) k ≡ i ∷ numbers_from (size - (k + 1)) r.tuple (k + 1)
-tuple-set r size k i h l =
-    numbers_more (set r.tuple k i) size k h
-    ∙ ap₂ {C = List ℕ} ◌∷◌ (get_or-set_same r.tuple k i 0 l) (numbers-set r.tuple k i (size - (k + 1)) (k + 1) (omega arith))
+pub tuple-set : (t : List ℕ) (size k i : ℕ) → k < size → k < length t → numbers_from (size - k) (set t k i) k ≡ i ∷ numbers_from (size - (k + 1)) t (k + 1)
+tuple-set t size k i h l =
+    numbers_more (set t k i) size k h ∙ ap₂ {C = List ℕ} ◌∷◌ (get_or-set_same t k i 0 l) (numbers-set t k i (size - (k + 1)) (k + 1) (omega arith))
 
 -- a number of the array is among those from a place on
 pub in-later : (f : List ℕ) (size k j : ℕ) → k ≤ j → j < size → T (is_in (get_or f j 0) (numbers_from (size - k) f k))

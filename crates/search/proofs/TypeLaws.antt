@@ -45,21 +45,22 @@ module _ (least : ℕ) where
   or-false true = refl
   or-false false = refl
 
-  pub under-uri : (ty : ℕ) → ty ≡ 1 → is_under (record { own = ty; other = ty; ranges = true }) least ≡ code_leq least ty
-  unfolding is_under
-  under-uri ty e = rw e (twice (eqb least 1) (leb 9 least) ∙ sym (swap (eqb least 1) false true false))
+  module _ (ty other : ℕ) where
+    abbrev Right : Type 0
+    Right = is_under (record { own = ty; other = other; ranges = eqb ty 1 }) least ≡ code_leq least ty
 
-  pub under-decimal : (ty : ℕ) → ty ≡ 3 → is_under (record { own = ty; other = 5; ranges = false }) least ≡ code_leq least ty
-  unfolding is_under
-  under-decimal ty e = rw e (sym (swap (eqb least 3) true false false))
+    pub under-decimal : ty ≡ 3 → other ≡ 5 → Right
+    unfolding is_under
+    under-decimal e f = rw (e, f) (sym (swap (eqb least 3) true false false))
 
-  pub under-range : (ty : ℕ) → ty ≡ 13 → is_under (record { own = ty; other = 11; ranges = false }) least ≡ code_leq least ty
-  unfolding is_under
-  under-range ty e = rw e (ap (λ b. eqb least 13 || b) (sym (or-false (eqb least 11))) ∙ sym (swap (eqb least 13) false false true))
+    pub under-range : ty ≡ 13 → other ≡ 11 → Right
+    unfolding is_under
+    under-range e f = rw (e, f) (ap (λ b. eqb least 13 || b) (sym (or-false (eqb least 11))) ∙ sym (swap (eqb least 13) false false true))
 
-  pub under-other : (ty : ℕ) → (ty ≡ 1 → ⊥) → (ty ≡ 3 → ⊥) → (ty ≡ 13 → ⊥) → is_under (record { own = ty; other = ty; ranges = false }) least ≡ code_leq least ty
-  unfolding is_under
-  under-other ty a b c = rw (ne_eqb ty 1 a, ne_eqb ty 3 b, ne_eqb ty 13 c) (twice (eqb least ty) false ∙ sym (swap (eqb least ty) false false false))
+    pub under-other : (ty ≡ 3 → ⊥) → (ty ≡ 13 → ⊥) → other ≡ ty → Right
+    unfolding is_under
+    under-other b c f =
+        rw (f, ne_eqb ty 3 b, ne_eqb ty 13 c) (twice (eqb least ty) (eqb ty 1 && leb 9 least) ∙ sym (swap (eqb least ty) false (eqb ty 1) false))
 
 -- ── the loop ────────────────────────────────────────────────────────────────────────────────
 

@@ -1,5 +1,5 @@
 -- What the search over a block's variables is given, and what it promises: the first tuple, from a level on, with which the query holds.
-use Rattle.std.specs.Prelude.{ℕ, zero, suc, ◌+◌, ◌-◌, ◌≤◌, ◌<◌, min, ◌≡◌, List, [], ◌∷◌, Bool, true, false, cond, ◌&&◌, ◌||◌, T, eqb, leb, length, get_or}
+use Rattle.std.specs.Prelude.{ℕ, zero, suc, ◌+◌, ◌-◌, ◌≤◌, ◌<◌, min, ◌≡◌, List, [], ◌∷◌, Bool, true, false, cond, ◌&&◌, ◌||◌, T, eqb, leb, length, get_or, Option as Maybe, None, Some}
 use Rattle.std.proofs.Math.Option.{Option, none, some}
 use Rattle.definitions.specs.Lists.{is_in, distinct}
 use Rattle.definitions.specs.Limits.{depth_limit, ranks_width, variable_limit, pair_limit}
@@ -16,11 +16,13 @@ use Rattle.laws.specs.Bindings.{Holds, Fits}
 use Rattle.query.specs.Codes.{bindings_of}
 use Rattle.query.specs.StoreLent.{setting_in, Told, StoreLent}
 use Rattle.query.specs.declared.Context.{Context}
+use Rattle.query.specs.declared.View.{View}
 use Rattle.seeking.specs.Seeking.{Keeps, holds}
-use Rattle.seeking.specs.Parts.{parts_width, PartsOf}
+use Rattle.seeking.specs.Parts.{part_limit, PartsOf}
+use Rattle.seeking.specs.declared.Part.{Part}
 use Rattle.search.specs.Ready.{Ready}
 use Rattle.search.specs.declared.Block.{Block}
-use Rattle.search.specs.declared.Found.{Found}
+use Rattle.search.specs.declared.Search.{Search}
 use Rattle.search.specs.declared.Under.{Under}
 
 -- so many numbers of an array, from a place on
@@ -29,8 +31,9 @@ numbers_from zero f k = []
 numbers_from (suc count) f k = get_or f k 0 ∷ numbers_from count f (k + 1)
 
 -- a result's tuple from place k on, where there is one
-abbrev pub tuple_of : Found → (k count : ℕ) → Option Tuple
-tuple_of r k count = cond r.found (some (numbers_from count r.tuple k)) none
+abbrev pub tuple_of : Maybe (List ℕ) → (k count : ℕ) → Option Tuple
+tuple_of None k count = none
+tuple_of (Some t) k count = some (numbers_from count t k)
 
 -- the last tuple from place k on, where the numbers before it are the last tuple's
 abbrev pub last_of : (tight : Bool) → List ℕ → (k count : ℕ) → Option Tuple
@@ -91,9 +94,19 @@ pub record World (script ranks table quads leasts : List ℕ) (x : Context) (blo
   pub small : (j : ℕ) → get_or block.vars j 0 < variable_limit
 
 -- the parts of the block's query are listed
-pub record Parted (script parts : List ℕ) (x : Context) (block : Block) : Type 0 where
-  pub room : length parts ≤ parts_width
+pub record Parted (script : List ℕ) (parts : List Part) (x : Context) (block : Block) : Type 0 where
+  pub room : length parts ≤ part_limit
   pub each : (q : Query) (m : ℕ) → read_query script x.loaded depth_limit block.«at» ≡ some (q, m) → PartsOf script x.loaded parts q
+
+-- the same of what a search is given
+abbrev pub WorldIn : View → Block → Type 0
+WorldIn v block = World v.script.now v.ranks.now v.table.now v.quads.now v.leasts.now v.context block
+
+abbrev pub WorldOf : Search → Type 0
+WorldOf s = WorldIn s.view.now s.block
+
+abbrev pub PartedOf : Search → Type 0
+PartedOf s = Parted s.view.now.script.now s.parts.now s.view.now.context s.block
 
 -- the block's variables from place k on
 abbrev pub later : Block → (k : ℕ) → List ℕ
@@ -171,19 +184,19 @@ module _ {script ranks table quads leasts : List ℕ} {x : Context} {block : Blo
     Good vs t = Fits w.schema w.typing w.terms vs t × T (holds setting w.terms w.rows (bind vs t (bindings_of known)) w.tree)
 
     -- the first tuple from place k on that passes a test
-    abbrev pub FirstOf : (k : ℕ) (P : Tuple → Type 0) → Found → Type 0
+    abbrev pub FirstOf : (k : ℕ) (P : Tuple → Type 0) → Maybe (List ℕ) → Type 0
     FirstOf k P r =
         Once (later block k) → ReadyFor (later block k) → Cleared (later block k) (bindings_of known)
         → First (λ t. Good (later block k) t × P t) (tuple_of r k (block.size - k))
 
-    abbrev pub FindOf : (k lo : ℕ) → Found → Type 0
+    abbrev pub FindOf : (k lo : ℕ) → Maybe (List ℕ) → Type 0
     FindOf k lo r = FirstOf k (From lo) r
 
-    abbrev pub AfterOf : (k : ℕ) → Found → Type 0
+    abbrev pub AfterOf : (k : ℕ) → Maybe (List ℕ) → Type 0
     AfterOf k r = FirstOf k (λ t. T (is_after (last_of true block.last k (block.size - k)) t)) r
 
     -- the machine's answer, for distinct variables
-    abbrev pub AnswerOf : (started : Bool) → Found → Type 0
+    abbrev pub AnswerOf : (started : Bool) → Maybe (List ℕ) → Type 0
     AnswerOf started r =
         T (distinct eqb (numbers_from block.size block.vars 0)) → ReadyFor (numbers_from block.size block.vars 0)
         → answer setting w.typing w.terms w.rows (bindings_of known) (numbers_from block.size block.vars 0) w.tree

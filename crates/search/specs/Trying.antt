@@ -1,5 +1,5 @@
 -- What trying one tuple promises: the machine's outcome, and the number of records that Ask 4's rule evaluates.
-use Rattle.std.specs.Prelude.{ℕ, ◌-◌, ◌≡◌, List, [], ◌∷◌, Bool, true, false, ◌&&◌, T, eqb}
+use Rattle.std.specs.Prelude.{ℕ, ◌-◌, ◌≡◌, List, [], ◌∷◌, Bool, true, false, ◌&&◌, T, eqb, Option as Maybe, is_some, IfSome}
 use Rattle.definitions.specs.Lists.{distinct}
 use Rattle.definitions.specs.Terms.{Term, Schema}
 use Rattle.definitions.specs.Outcome.{ok}
@@ -24,9 +24,9 @@ module _ {script ranks table quads leasts : List ℕ} {x : Context} {block : Blo
   abbrev pub numbers_at : (k : ℕ) → Tuple
   numbers_at k = numbers_from (block.size - k) tuple k
 
-  abbrev pub TriedOf : (k : ℕ) → Tried → Type 0
+  abbrev pub TriedOf : (k : ℕ) → Maybe Tried → Type 0
   TriedOf k r =
       T (distinct eqb (later block k)) → ReadyFor w known (later block k)
-      → (r.fits ≡ tuple_fits w.schema w.typing w.terms (later block k) (numbers_at k))
-      × (r.fits ≡ true → let β = bind (later block k) (numbers_at k) (bindings_of known) in
-      (query (setting w) w.terms w.rows β w.tree ≡ ok r.holds) × (r.records ≡ query_records (setting w) w.terms w.rows β w.tree))
+      → (is_some r ≡ tuple_fits w.schema w.typing w.terms (later block k) (numbers_at k))
+      × IfSome r (λ t. let β = bind (later block k) (numbers_at k) (bindings_of known) in
+      (query (setting w) w.terms w.rows β w.tree ≡ ok t.holds) × (t.records ≡ query_records (setting w) w.terms w.rows β w.tree))

@@ -1,69 +1,31 @@
 // The first answer of a block, variable by variable.
-ghost use Rattle.std.specs.Prelude.{◌≡◌, false, length, ◌+◌, ◌<◌};
-ghost use Rattle.laws.specs.Ends.{EndsLent};
-ghost use Rattle.search.specs.Finding.{World, Parted, NextOf, HopeAt, HopeOf, WorthOf, FindOf, AfterOf};
+ghost use Rattle.std.specs.Prelude.{◌≡◌, length, ◌<◌, IfSome};
+ghost use Rattle.search.specs.Finding.{WorldOf, PartedOf, NextOf, HopeAt, HopeOf, WorthOf, FindOf, AfterOf};
 ghost use Rattle.definitions.specs.Limits.{pair_limit, variable_limit};
 
+use crate::Search;
 use crate::types::skip;
-use crate::{Block, Found};
 use codes::has_type;
 use definitions::{DEPTH_LIMIT, PAIR_LIMIT, VARIABLE_LIMIT};
-use query::Context;
 use query::eval::eval_query;
-use seeking::NO_BIT;
 use seeking::by_parts::{agree, seek_parts};
 
-fn nothing() -> Found
-    ensures { (result.found ≡ false) × (length result.tuple ≡ pair_limit) }
-{
-    Found {
-        found: false,
-        tuple: [0; PAIR_LIMIT],
-    }
-}
-
 // The next number for the variable at place k, from lo on: of its type, and with which no part that names it is out. The first variable is asked for all parts.
-fn next(
-    script: &[u8],
-    ends: &[u16],
-    context: Context,
-    block: Block,
-    parts: &[usize],
-    ranks: &[u8],
-    table: &[u8],
-    quads: &[u64],
-    leasts: &[u8],
-    known: &[usize],
-    k: usize,
-    lo: usize,
-) -> usize
-    requires world { World script.now ranks.now table.now quads.now leasts.now context block }
-    requires ends_lent { EndsLent script.now ends.now }
-    requires parted { Parted script.now parts.now context block }
+// The count of terms stands for none, as in the seek: it is compared with the other numbers, and an Option would be taken apart each time.
+fn next(search: &Search<'_>, known: &[usize], k: usize, lo: usize) -> usize
+    requires world { WorldOf search.now }
+    requires parted { PartedOf search.now }
     requires known_len { length known.now ≡ variable_limit }
-    requires k_lt_size { k < block.size }
-    ensures { (w : World script.now ranks.now table.now quads.now leasts.now context block) → NextOf w known.now k lo result }
+    requires k_lt_size { k < search.now.block.size }
+    ensures { (w : WorldOf search.now) → NextOf w known.now k lo result }
 {
-    let count = context.count;
-    let vars = block.vars;
-    let v = vars[k];
+    let view = search.view;
+    let count = view.context.count;
+    let v = search.block.vars[k];
     let mut from = lo;
     while from < count {
-        let s = seek_parts(
-            script,
-            ends,
-            context,
-            parts,
-            ranks,
-            table,
-            known,
-            quads,
-            v,
-            from,
-            k == 0,
-        );
-        let types = block.types;
-        let typed = skip(leasts, types[k], s, count);
+        let s = seek_parts(view, search.parts, known, v, from, k == 0);
+        let typed = skip(view.leasts, search.block.types[k], s, count);
         if typed == s {
             return s;
         }
@@ -74,41 +36,23 @@ fn next(
 
 // Whether the variable at place j still has a number with which the query may hold. What a filter says of that variable alone is so found out before
 // others are chosen.
-fn hope(
-    script: &[u8],
-    ends: &[u16],
-    context: Context,
-    block: Block,
-    parts: &[usize],
-    ranks: &[u8],
-    table: &[u8],
-    quads: &[u64],
-    leasts: &[u8],
-    known: [usize; VARIABLE_LIMIT],
-    j: usize,
-) -> bool
-    requires world { World script.now ranks.now table.now quads.now leasts.now context block }
-    requires ends_lent { EndsLent script.now ends.now }
-    requires parted { Parted script.now parts.now context block }
-    requires j_lt_size { j < block.size }
-    ensures { (w : World script.now ranks.now table.now quads.now leasts.now context block) → HopeAt w known j result }
+fn hope(search: &Search<'_>, known: [usize; VARIABLE_LIMIT], j: usize) -> bool
+    requires world { WorldOf search.now }
+    requires parted { PartedOf search.now }
+    requires j_lt_size { j < search.now.block.size }
+    ensures { (w : WorldOf search.now) → HopeAt w known j result }
 {
-    let count = context.count;
-    let vars = block.vars;
-    let v = vars[j];
+    let count = search.view.context.count;
+    let v = search.block.vars[j];
     let mut lo = 0;
     while lo < count {
-        let number = next(
-            script, ends, context, block, parts, ranks, table, quads, leasts, &known, j, lo,
-        );
+        let number = next(search, &known, j, lo);
         if count <= number {
             return false;
         }
         let mut with = known;
         with[v] = number;
-        if agree(
-            script, ends, context, parts, ranks, table, &with, quads, v, NO_BIT, number,
-        ) {
+        if agree(search.view, search.parts, &with, v, None, number) {
             return true;
         }
         lo = number + 1;
@@ -117,246 +61,104 @@ fn hope(
 }
 
 // Whether each variable from a place on still has a number.
-fn hopeful(
-    script: &[u8],
-    ends: &[u16],
-    context: Context,
-    block: Block,
-    parts: &[usize],
-    ranks: &[u8],
-    table: &[u8],
-    quads: &[u64],
-    leasts: &[u8],
-    known: [usize; VARIABLE_LIMIT],
-    from: usize,
-) -> bool
-    requires world { World script.now ranks.now table.now quads.now leasts.now context block }
-    requires ends_lent { EndsLent script.now ends.now }
-    requires parted { Parted script.now parts.now context block }
-    ensures { (w : World script.now ranks.now table.now quads.now leasts.now context block) → HopeOf w known from result }
+fn hopeful(search: &Search<'_>, known: [usize; VARIABLE_LIMIT], from: usize) -> bool
+    requires world { WorldOf search.now }
+    requires parted { PartedOf search.now }
+    ensures { (w : WorldOf search.now) → HopeOf w known from result }
 {
-    let size = block.size;
-    let mut j = from;
-    while j < size {
-        if !hope(
-            script, ends, context, block, parts, ranks, table, quads, leasts, known, j,
-        ) {
+    for j in from..search.block.size {
+        if !hope(search, known, j) {
             return false;
         }
-        j += 1;
     }
     true
 }
 
 // Whether a number chosen for the variable at place k is worth the search of the variables after it: not asked of the last one, which is tried at once.
-fn worth(
-    script: &[u8],
-    ends: &[u16],
-    context: Context,
-    block: Block,
-    parts: &[usize],
-    ranks: &[u8],
-    table: &[u8],
-    quads: &[u64],
-    leasts: &[u8],
-    known: [usize; VARIABLE_LIMIT],
-    k: usize,
-    number: usize,
-) -> bool
-    requires world { World script.now ranks.now table.now quads.now leasts.now context block }
-    requires ends_lent { EndsLent script.now ends.now }
-    requires parted { Parted script.now parts.now context block }
-    requires k_lt_size { k < block.size }
-    requires number_lt_count { number < context.count }
-    ensures { (w : World script.now ranks.now table.now quads.now leasts.now context block) → WorthOf w known k number result }
+fn worth(search: &Search<'_>, known: [usize; VARIABLE_LIMIT], k: usize, number: usize) -> bool
+    requires world { WorldOf search.now }
+    requires parted { PartedOf search.now }
+    requires k_lt_size { k < search.now.block.size }
+    requires number_lt_count { number < search.now.view.now.context.count }
+    ensures { (w : WorldOf search.now) → WorthOf w known k number result }
 {
-    let size = block.size;
     let after = k + 1;
-    if size <= after {
+    if search.block.size <= after {
         return true;
     }
-    let vars = block.vars;
-    let v = vars[k];
-    if !agree(
-        script,
-        ends,
-        context,
-        parts,
-        ranks,
-        table,
-        &known,
-        quads,
-        v,
-        vars[after],
-        number,
-    ) {
+    let v = search.block.vars[k];
+    let second = search.block.vars[after];
+    if !agree(search.view, search.parts, &known, v, Some(second), number) {
         return false;
     }
-    hopeful(
-        script,
-        ends,
-        context,
-        block,
-        parts,
-        ranks,
-        table,
-        quads,
-        leasts,
-        known,
-        after + 1,
-    )
+    hopeful(search, known, after + 1)
 }
 
 // The first tuple from level k on whose first number is lo or more.
 // Ruled out: a term skipped after each one tried; a number tried whatever its term's type is.
 pub fn find(
-    script: &[u8],
-    ends: &[u16],
-    context: Context,
-    block: Block,
-    parts: &[usize],
-    ranks: &[u8],
-    table: &[u8],
-    quads: &[u64],
-    leasts: &[u8],
+    search: &Search<'_>,
     known: [usize; VARIABLE_LIMIT],
     k: usize,
     lo: usize,
-) -> Found
-    requires world { World script.now ranks.now table.now quads.now leasts.now context block }
-    requires ends_lent { EndsLent script.now ends.now }
-    requires parted { Parted script.now parts.now context block }
-    ensures find_of { (w : World script.now ranks.now table.now quads.now leasts.now context block) → FindOf w known k lo result }
-    ensures tuple_len { length result.tuple ≡ pair_limit }
+) -> Option<[usize; PAIR_LIMIT]>
+    requires world { WorldOf search.now }
+    requires parted { PartedOf search.now }
+    ensures find_of { (w : WorldOf search.now) → FindOf w known k lo result }
+    ensures tuple_len { IfSome result (λ t. length t ≡ pair_limit) }
 {
-    let at = block.at;
-    let size = block.size;
-    let count = context.count;
-    if size <= k {
-        let t = eval_query(
-            script,
-            ends,
-            context,
-            at,
-            DEPTH_LIMIT,
-            ranks,
-            table,
-            &known,
-            quads,
-        );
-        return Found {
-            found: t.holds,
-            tuple: [0; PAIR_LIMIT],
-        };
+    if search.block.size <= k {
+        let t = eval_query(search.view, search.block.at, DEPTH_LIMIT, &known);
+        return t.holds.then_some([0; PAIR_LIMIT]);
     }
-    let vars = block.vars;
-    let v = vars[k];
+    let count = search.view.context.count;
+    let v = search.block.vars[k];
     let mut from = lo;
     while from < count {
-        let i = next(
-            script, ends, context, block, parts, ranks, table, quads, leasts, &known, k, from,
-        );
+        let i = next(search, &known, k, from);
         if count <= i {
-            return nothing();
+            return None;
         }
         let mut with = known;
         with[v] = i;
-        if worth(
-            script, ends, context, block, parts, ranks, table, quads, leasts, with, k, i,
-        ) {
-            let r = find(
-                script,
-                ends,
-                context,
-                block,
-                parts,
-                ranks,
-                table,
-                quads,
-                leasts,
-                with,
-                k + 1,
-                0,
-            );
-            if r.found {
-                let mut tuple = r.tuple;
+        if worth(search, with, k, i) {
+            if let Some(mut tuple) = find(search, with, k + 1, 0) {
                 tuple[k] = i;
-                return Found { found: true, tuple };
+                return Some(tuple);
             }
         }
         from = i + 1;
     }
-    nothing()
+    None
 }
 
 // The first tuple from level k on that comes after the last one: with its number here and a later one after it, or with a greater number here.
 // Ruled out: the last tuple found again; a tuple after it passed over that shares its first number.
 pub fn find_after(
-    script: &[u8],
-    ends: &[u16],
-    context: Context,
-    block: Block,
-    parts: &[usize],
-    ranks: &[u8],
-    table: &[u8],
-    quads: &[u64],
-    leasts: &[u8],
+    search: &Search<'_>,
     known: [usize; VARIABLE_LIMIT],
     k: usize,
-) -> Found
-    requires world { World script.now ranks.now table.now quads.now leasts.now context block }
-    requires ends_lent { EndsLent script.now ends.now }
-    requires parted { Parted script.now parts.now context block }
-    ensures after_of { (w : World script.now ranks.now table.now quads.now leasts.now context block) → AfterOf w known k result }
-    ensures tuple_len { length result.tuple ≡ pair_limit }
+) -> Option<[usize; PAIR_LIMIT]>
+    requires world { WorldOf search.now }
+    requires parted { PartedOf search.now }
+    ensures after_of { (w : WorldOf search.now) → AfterOf w known k result }
+    ensures tuple_len { IfSome result (λ t. length t ≡ pair_limit) }
 {
-    let size = block.size;
-    let count = context.count;
-    if size <= k {
-        return nothing();
+    if search.block.size <= k {
+        return None;
     }
-    let last = block.last;
-    let l = last[k];
-    if count <= l {
-        return nothing();
+    let l = search.block.last[k];
+    if search.view.context.count <= l {
+        return None;
     }
-    let types = block.types;
-    let vars = block.vars;
-    let v = vars[k];
-    if has_type(leasts[l], types[k]) {
+    if has_type(search.view.leasts[l], search.block.types[k]) {
+        let v = search.block.vars[k];
         let mut with = known;
         with[v] = l;
-        let r = find_after(
-            script,
-            ends,
-            context,
-            block,
-            parts,
-            ranks,
-            table,
-            quads,
-            leasts,
-            with,
-            k + 1,
-        );
-        if r.found {
-            let mut tuple = r.tuple;
+        if let Some(mut tuple) = find_after(search, with, k + 1) {
             tuple[k] = l;
-            return Found { found: true, tuple };
+            return Some(tuple);
         }
     }
-    find(
-        script,
-        ends,
-        context,
-        block,
-        parts,
-        ranks,
-        table,
-        quads,
-        leasts,
-        known,
-        k,
-        l + 1,
-    )
+    find(search, known, k, l + 1)
 }

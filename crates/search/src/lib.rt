@@ -2,6 +2,8 @@
 #![tactic(auto)]
 
 use definitions::PAIR_LIMIT;
+use query::View;
+use seeking::Part;
 
 pub mod answer;
 mod find;
@@ -19,18 +21,17 @@ pub struct Block {
     pub last: [usize; PAIR_LIMIT],
 }
 
-// A tuple, where there is one.
+// A block to search: what its query is evaluated over, and the parts of the query.
 #[derive(Clone, Copy)]
-pub struct Found {
-    pub found: bool,
-    pub tuple: [usize; PAIR_LIMIT],
+pub struct Search<'a> {
+    pub view: &'a View<'a>,
+    pub block: Block,
+    pub parts: &'a [Part],
 }
 
-// One tuple tried: whether its terms have the variables' types, and then whether the query holds, and how many records were
-// evaluated for it.
+// One tuple tried: whether the query holds, and how many records were evaluated for it.
 #[derive(Clone, Copy)]
 pub struct Tried {
-    pub fits: bool,
     pub holds: bool,
     pub records: usize,
 }

@@ -15,27 +15,15 @@ const NEAR: usize = 4;
 fn under(ty: u8) -> Under
     ensures { (least : ℕ) → is_under result least ≡ code_leq least ty }
 {
-    match ty {
-        1 => Under {
-            own: ty,
-            other: ty,
-            ranges: true,
-        },
-        3 => Under {
-            own: ty,
-            other: 5,
-            ranges: false,
-        },
-        13 => Under {
-            own: ty,
-            other: 11,
-            ranges: false,
-        },
-        _ => Under {
-            own: ty,
-            other: ty,
-            ranges: false,
-        },
+    let other = match ty {
+        3 => 5,
+        13 => 11,
+        _ => ty,
+    };
+    Under {
+        own: ty,
+        other,
+        ranges: ty == 1,
     }
 }
 
@@ -51,10 +39,8 @@ fn any_under(leasts: &[u8], below: Under, from: usize) -> bool
     ensures { result ≡ any_under leasts.now below from types_block }
 {
     let mut found = false;
-    let mut i = 0;
-    while i < TYPES_BLOCK {
-        found = found | is_under(leasts[from + i], below);
-        i += 1;
+    for i in 0..TYPES_BLOCK {
+        found |= is_under(leasts[from + i], below);
     }
     found
 }
@@ -76,17 +62,16 @@ fn past_blocks(leasts: &[u8], below: Under, from: usize, count: usize) -> usize
 }
 
 fn first_under(leasts: &[u8], below: Under, from: usize, count: usize) -> usize
-    requires { count ≤ length leasts.now }
+    requires from_le_count { from ≤ count }
+    requires count_in_bounds { count ≤ length leasts.now }
     ensures { result ≡ skip_under leasts.now below (count - from) from }
 {
-    let mut i = from;
-    while i < count {
+    for i in from..count {
         if is_under(leasts[i], below) {
             return i;
         }
-        i += 1;
     }
-    i
+    count
 }
 
 // Where the terms next to a number end.

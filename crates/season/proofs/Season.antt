@@ -1,4 +1,6 @@
 -- The definitions at work, by computation: a script loaded, run and given pages, call by call on bytes; and refusals 10 to 14.
+use Rattle.definitions.specs.declared.Refusal.TheVariants.{Unsound, BadRun, NoGraph, BadPage, NoRoom, NotFetched, ShortBuffer}
+use Rattle.std.specs.Prelude.{Ok, Err}
 use Prim.Native.Nat.{ℕ, ◌+◌}
 use mathlib.Core.Path.{◌≡◌, refl}
 use mathlib.Core.List.{List, [], ◌∷◌, ◌++◌}
@@ -15,9 +17,6 @@ use Rattle.definitions.specs.declared.SavedRun.{SavedRun}
 use Rattle.definitions.specs.declared.Ran.{Ran}
 use Rattle.definitions.specs.declared.RunState.{RunState}
 use Rattle.definitions.specs.declared.RunState.TheVariants.{Ended, Wanted, Spent}
-use Rattle.definitions.specs.declared.RunAnswer.TheVariants as RunAnswers
-use Rattle.definitions.specs.declared.PageAnswer.TheVariants as PageAnswers
-use Rattle.definitions.specs.declared.PublishAnswer.TheVariants as PublishAnswers
 use Rattle.definitions.proofs.Opened.{opened}
 use Rattle.definitions.proofs.Card.{with_tables, uri, number, card}
 
@@ -75,7 +74,7 @@ take : (graph : ℕ) → List ℕ → Call
 take g p = paging whole g p
 
 ran_for : ℕ → RunState → Answer
-ran_for steps state = ran (RunAnswers.Ran steps state)
+ran_for steps state = ran (Ok (record { steps = steps; state = state }))
 
 -- Wanted, with no step. The page: two records skipped. From named and the first answer with its script are three steps; then the second answer, its script and
 -- the end of the block. Budget over 60,000, now no date_time; a graph that is an integer, one past the table; a cut page.
@@ -84,15 +83,15 @@ season :
     run_for 10 ∷ take 1 page ∷ run_for 3 ∷ run_for 10 ∷ run_for 0
     ∷ run_for 60001 ∷ running whole 0 (pos 253402300800) ∷ take 0 [] ∷ take 600 [] ∷ take 1 (0x81 ∷ []) ∷ []
     ) (after_load card)).answers
-    ≡ ran_for 0 (Wanted 1) ∷ paged (PageAnswers.Taken 2) ∷ ran_for 3 Spent ∷ ran_for 3 Ended ∷ ran_for 0 Ended
-    ∷ ran (RunAnswers.Refused 11) ∷ ran (RunAnswers.Refused 11) ∷ paged (PageAnswers.Refused 12) ∷ paged (PageAnswers.Refused 12) ∷ paged (PageAnswers.Refused 13) ∷ []
+    ≡ ran_for 0 (Wanted 1) ∷ paged (Ok 2) ∷ ran_for 3 Spent ∷ ran_for 3 Ended ∷ ran_for 0 Ended
+    ∷ ran (Err BadRun) ∷ ran (Err BadRun) ∷ paged (Err NoGraph) ∷ paged (Err NoGraph) ∷ paged (Err BadPage) ∷ []
 unfolding with_tables after_run after_page after_call after_calls after_load uri number card triple page whole run_for take ran_for opened
 season = refl
 
 -- Answers are looked for in the store of that moment: an empty page between two answers, and the block is dropped.
 none_left :
     (after_calls (take 1 page ∷ run_for 3 ∷ take 1 [] ∷ run_for 10 ∷ []) (after_load card)).answers
-    ≡ paged (PageAnswers.Taken 2) ∷ ran_for 3 Spent ∷ paged (PageAnswers.Taken 0) ∷ ran_for 1 Ended ∷ []
+    ≡ paged (Ok 2) ∷ ran_for 3 Spent ∷ paged (Ok 0) ∷ ran_for 1 Ended ∷ []
 unfolding with_tables after_run after_page after_call after_calls after_load uri number card triple page whole run_for take ran_for opened
 none_left = refl
 
@@ -113,7 +112,7 @@ longer :
     (after_calls (
     take 1 old_page ∷ take 1 (old_page ++ (old_page ++ (old_page ++ old_page))) ∷ take 1 long_page ∷ run_for 10 ∷ []
     ) (after_load card)).answers
-    ≡ paged (PageAnswers.Refused 13) ∷ paged (PageAnswers.Refused 13) ∷ paged (PageAnswers.Taken 0) ∷ ran_for 6 Ended ∷ []
+    ≡ paged (Err BadPage) ∷ paged (Err BadPage) ∷ paged (Ok 0) ∷ ran_for 6 Ended ∷ []
 unfolding with_tables after_run after_page after_call after_calls after_load uri number card triple old_page long_page whole run_for take ran_for opened
 longer = refl
 
@@ -129,7 +128,7 @@ with_object600 x =
 
 unsound :
     (after_calls (run_for 10 ∷ take 1 [] ∷ []) (with_object600 filled_card)).answers
-    ≡ ran (RunAnswers.Refused 10) ∷ paged (PageAnswers.Refused 10) ∷ []
+    ≡ ran (Err Unsound) ∷ paged (Err Unsound) ∷ []
 unfolding with_tables after_run after_page after_call after_calls after_load uri number card triple page run_for take filled_card with_object600 opened
 unsound = refl
 
@@ -146,14 +145,14 @@ publishing :
     ∷ publish (with_object600 filled_card) 2 []
     ∷ []
     ≡ record {
-      returned = PublishAnswers.Published 402;
+      returned = Ok 402;
       page =
           triple 0x83 (ascii "l:1") (ascii "p:speed") (number (pos 3))
           ++ (triple 0x84 (ascii "l:2") (ascii "p:speed") (number (negsuc 4)) ++ (7 ∷ []));
     }
-    ∷ record { returned = PublishAnswers.Refused 22; page = [] }
-    ∷ record { returned = PublishAnswers.Refused 23; page = replicate 401 7 }
-    ∷ record { returned = PublishAnswers.Refused 10; page = [] }
+    ∷ record { returned = Err NotFetched; page = [] }
+    ∷ record { returned = Err ShortBuffer; page = replicate 401 7 }
+    ∷ record { returned = Err Unsound; page = [] }
     ∷ []
 unfolding with_tables after_run after_page after_call after_calls after_load uri number card triple page take filled_card with_object600 publish opened
 publishing = refl
@@ -177,6 +176,6 @@ with64 x = record { answers = []; lent = x.lent; saved = fetch64 x.saved }
     fetch64 r = record { control = r.control; store = record { quads = r.store.quads; graphs = 64; fetched = below 64 } }
 
 sixty_fifth :
-    (after_calls (take 64 [] ∷ []) (with64 (after_load graph_card))).answers ≡ paged (PageAnswers.Refused 14) ∷ []
+    (after_calls (take 64 [] ∷ []) (with64 (after_load graph_card))).answers ≡ paged (Err NoRoom) ∷ []
 unfolding with_tables after_run after_page after_call after_calls after_load uri take below graph_ur_is graph_card with64 opened
 sixty_fifth = refl

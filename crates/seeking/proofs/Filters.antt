@@ -4,7 +4,6 @@ use mathlib.Core.Path.{◌≡◌, refl, ap, subst, subst⁻¹}
 use mathlib.Core.Logic.{⊎_elim}
 use mathlib.Core.List.{List}
 use mathlib.Core.Bool.{Bool, true, false, not, ◌&&◌, ◌||◌}
-use mathlib.Core.Option.{some}
 use lib.Dec.{T, eqb→eq}
 use Rattle.definitions.specs.Tree.{Name, var, const, Expr, Cond}
 use Rattle.definitions.specs.Scope.{in_name, in_expr, in_cond}

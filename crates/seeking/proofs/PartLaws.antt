@@ -1,7 +1,7 @@
 -- The parts of a query: they hold where it holds, and the walk that lists them lists nothing else.
 use Prim.Native.Nat.{ℕ, zero, suc, ◌+◌, ◌*◌, ◌-◌, ◌≤◌, ◌<◌, min}
 use native.Mathlib.Omega.{arith}
-use mathlib.Core.Path.{◌≡◌, refl, sym, ap, ◌∙◌, subst, subst⁻¹}
+use mathlib.Core.Path.{◌≡◌, sym, ap, ◌∙◌, subst, subst⁻¹}
 use mathlib.Core.Logic.{⊎_elim}
 use mathlib.Core.List.{List}
 use mathlib.Core.Bool.{Bool, true, false, cond}
@@ -27,7 +27,8 @@ use Rattle.query.specs.Codes.{bindings_of}
 use Rattle.query.specs.StoreLent.{setting_in}
 use Rattle.query.specs.declared.Context.{Context}
 use Rattle.seeking.specs.Seeking.{Sure, holds, SeekOf, Denies}
-use Rattle.seeking.specs.Parts.{part_limit, parts_width, Within, itself, first, second, PartOf, PartsOf, Pending}
+use Rattle.seeking.specs.declared.Part.{Part}
+use Rattle.seeking.specs.Parts.{part_limit, no_part, Within, itself, first, second, PartOf, PartsOf, Pending}
 use Rattle.seeking.proofs.SeekLaws.{both-pass}
 
 -- ── what holds of a query holds of its parts ────────────────────────────────────────────────
@@ -114,32 +115,28 @@ module _ (s : List ℕ) (loaded : ℕ) where
       pub ends-within : (at < next) × (next ≤ length s)
       ends-within = let b = query-within s loaded depth_limit at this.part this.end this.read in (omega (arith, b.from, ends_at), omega (arith, b.to, ends_at))
 
-    unfoldable pub Listed : (list : List ℕ) → (count : ℕ) → Type 0
-    Listed list count = (i : ℕ) → i < count → PartOf s loaded (get_or list (2 * i) 0) q
+    unfoldable pub Listed : (list : List Part) → (count : ℕ) → Type 0
+    Listed list count = (i : ℕ) → i < count → PartOf s loaded (get_or list i no_part).«at» q
 
-    pub listed-none : (list : List ℕ) → Listed list 0
+    pub listed-none : (list : List Part) → Listed list 0
     unfolding Listed
     listed-none list i h = absurd (omega arith)
 
-    pub listed_more : (list : List ℕ) (count named at : ℕ) → count < part_limit → length list ≡ parts_width → Listed list count → PartOf s loaded at q
-        → Listed (set (set list (2 * count) at) (2 * count + 1) named) (count + 1)
+    pub listed_more : (list : List Part) (count : ℕ) (p : Part) → count < length list → Listed list count → PartOf s loaded p.«at» q → Listed (set list count p) (count + 1)
     unfolding Listed
-    listed_more list count named at room size l h i b =
+    listed_more list count p room l h i b =
         ⊎_elim
         (λ k.
         let e : i ≡ count = omega arith in
-        subst⁻¹ (λ x. PartOf s loaded x q) (passed i (omega arith) ∙ (ap (λ x. get_or (set list (2 * count) at) (2 * x) 0) e ∙ get_or-set_same list (2 * count) at 0 (omega arith))) h)
-        (λ k. subst⁻¹ (λ x. PartOf s loaded x q) (passed i (omega arith) ∙ get_or-set_other list (2 * count) (2 * i) at 0 (λ e. omega arith)) (l i k))
+        subst⁻¹ (λ (x : Part). PartOf s loaded x.«at» q) (ap (λ x. get_or (set list count p) x no_part) e ∙ get_or-set_same list count p no_part room) h)
+        (λ k. subst⁻¹ (λ (x : Part). PartOf s loaded x.«at» q) (get_or-set_other list count i p no_part (λ e. omega arith)) (l i k))
         (split count i)
-      where
-        passed : (i : ℕ) → 2 * i < 2 * count + 1 → get_or (set (set list (2 * count) at) (2 * count + 1) named) (2 * i) 0 ≡ get_or (set list (2 * count) at) (2 * i) 0
-        passed i h = get_or-set_other (set list (2 * count) at) (2 * count + 1) (2 * i) named 0 (λ e. omega arith)
 
-    pub listed-all : (list : List ℕ) (count size : ℕ) → size ≡ 2 * count → Listed list count → PartsOf s loaded (take size list) q
+    pub listed-all : (list : List Part) (count : ℕ) → Listed list count → PartsOf s loaded (take count list) q
     unfolding Listed
-    listed-all list count size e l i h =
-        let b : 2 * i + 1 < size = omega (arith, length-take size list) in
-        subst⁻¹ (λ x. PartOf s loaded x q) (get_or-take size list (2 * i) 0 (omega arith)) (l i (omega arith))
+    listed-all list count l i h =
+        let b : i < count = omega (arith, length-take count list) in
+        subst⁻¹ (λ (x : Part). PartOf s loaded x.«at» q) (get_or-take count list i no_part b) (l i b)
 
 -- ── the seek part by part ───────────────────────────────────────────────────────────────────
 

@@ -17,7 +17,7 @@ use Rattle.scan.specs.Scan.{sought, scan}
 use Rattle.scan.specs.Codes.{places_at}
 use Rattle.scan.specs.declared.Four.{Four}
 use Rattle.scan.proofs.ScanLaws.{Meets, Matches, row-top, row_fits, scan-floor, scan-here}
-use Rattle.query.specs.Known.{passes, known as known_place, place_of, places_of, comes_to, may}
+use Rattle.query.specs.Known.{passes, known as known_place, place_of, places_of, comes_to}
 use Rattle.query.specs.Codes.{bindings_of, Coded}
 use Rattle.query.specs.StoreLent.{setting_in}
 use Rattle.query.specs.Eval.{MayOf}

@@ -1,12 +1,13 @@
 -- Quads in bytes and in numbers: the table that holds them, its numbers, a look through them.
 use Prim.Native.Nat.{ℕ, zero, suc, ◌+◌, ◌-◌, ◌*◌, ◌≤◌, ◌<◌}
 use native.Mathlib.Omega.{arith}
-use native.Mathlib.Nat.{sub-zero}
-use mathlib.Core.Path.{◌≡◌, sym, ap, ◌∙◌}
-use mathlib.Core.List.{List, [], ◌∷◌}
+use mathlib.Core.Path.{◌≡◌, refl, sym, ap, ◌∙◌}
+use mathlib.Core.List.{List}
 use mathlib.Core.Bool.{Bool, true, false, not, ◌&&◌}
 use lib.Dec.{leb, leb→le}
-use lib.ListN.{length, get_or, drop}
+use lib.ListN.{length, get_or, take, drop}
+use Rattle.std.proofs.Common.{drop-cons}
+use Rattle.std.specs.List.{list_all}
 use borrow.Author.Tests.{le-leb, lt-leb, not-false}
 use Rattle.definitions.specs.Limits.{quad_width, quad_limit}
 use Rattle.definitions.specs.Bytes.{part, all_zero, provided}
@@ -58,29 +59,13 @@ module _ (table : List ℕ) (bytes : AreBytes table) where
 
 -- ── a look through them ─────────────────────────────────────────────────────────────────────
 
-module _ (rows : List ℕ) (n : ℕ) where
-  abbrev pub rows_left : ℕ → List Quad
-  rows_left i = rows_from (n - i) rows i
+rows-pass : (p : Quad → Bool) (f : List ℕ) (n i : ℕ) → i + n ≤ length f → list_all (λ k. p (quad_of k)) (take n (drop i f)) ≡ every p (rows_from n f i)
+unfolding rows_from
+rows-pass p f zero i h = refl
+rows-pass p f (suc n) i h =
+    let e : i + 1 ≡ suc i = omega arith in
+    rw (drop-cons f i 0 (omega arith), e) (ap (λ (b : Bool). p (quad_of (get_or f i 0)) && b) (rows-pass p f n (suc i) (omega arith)))
 
-  pub rows_all : rows_from n rows 0 ≡ rows_left 0
-  rows_all = ap (λ (m : ℕ). rows_from m rows 0) (sym (sub-zero n))
-
-  rows-here : (i : ℕ) → i < n → rows_left i ≡ quad_of (get_or rows i 0) ∷ rows_left (i + 1)
-  unfolding rows_from
-  rows-here i h = let a : n - i ≡ suc (n - (i + 1)) = omega arith in ap (λ (m : ℕ). rows_from m rows i) a
-
-  rows_end : (i : ℕ) → n ≤ i → rows_left i ≡ []
-  unfolding rows_from
-  rows_end i h = let a : n - i ≡ 0 = omega arith in ap (λ (m : ℕ). rows_from m rows i) a
-
-  -- `whole` is what the look from its beginning gives
-  module _ (p : Quad → Bool) (i : ℕ) {whole : Bool} where
-    module _ (far : whole ≡ every p (rows_left i)) where
-      pub row-fails : i < n → p (quad_of (get_or rows i 0)) ≡ false → false ≡ whole
-      row-fails h e = sym (far ∙ ap (every p) (rows-here i h) ∙ ap (λ (b : Bool). b && every p (rows_left (i + 1))) e)
-
-      pub row-passes : i < n → p (quad_of (get_or rows i 0)) ≡ true → whole ≡ every p (rows_left (i + 1))
-      row-passes h e = far ∙ ap (every p) (rows-here i h) ∙ ap (λ (b : Bool). b && every p (rows_left (i + 1))) e
-
-      pub rows_pass : n ≤ i → true ≡ whole
-      rows_pass h = sym (far ∙ ap (every p) (rows_end i h))
+-- what is asked of the first n keys is asked of their quads
+pub all-rows : (p : Quad → Bool) (f : List ℕ) (n : ℕ) (r : Bool) → n ≤ length f → r ≡ list_all (λ k. p (quad_of k)) (take n f) → r ≡ every p (rows_from n f 0)
+all-rows p f n r h a = a ∙ rows-pass p f n 0 (omega arith)

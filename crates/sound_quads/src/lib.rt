@@ -33,63 +33,44 @@ pub fn quads_in_order(keys: &[u64], n: usize) -> bool
     requires { n ≤ length keys.now }
     ensures { result ≡ in_order (rows_from n keys.now 0) }
 {
-    rising(keys, n)
+    rising(&keys[..n])
 }
 
 // Whether a number is that of a URI. Ruled out: a number past the terms; a schema URI refused.
+#[tactic(auto, unfolding(crate::specs::TermNumbers::uri_number))]
 pub fn is_uri(leasts: &[u8], count: usize, i: u16) -> bool
     requires { count ≤ length leasts.now }
     ensures { result ≡ uri_number leasts.now count i }
 {
     let at = i as usize;
-    if count <= at {
-        return false;
-    }
-    let code = leasts[at];
-    (code == 1) | (9 <= code)
+    at < count && (leasts[at] == 1 || 9 <= leasts[at])
 }
 
 // Whether a property is one of the schema, and the object of its datatype.
+#[tactic(auto, unfolding(crate::specs::TermNumbers::pair_numbers))]
 fn pair_fits(leasts: &[u8], count: usize, property: u16, object: u16) -> bool
     requires { count ≤ length leasts.now }
     ensures { result ≡ pair_numbers leasts.now count property object }
 {
     let p = property as usize;
     let o = object as usize;
-    if count <= p {
-        return false;
-    }
-    if count <= o {
-        return false;
-    }
-    let range = leasts[p];
-    if range < 9 {
-        return false;
-    }
-    let least = leasts[o];
-    let datatype = range - 8;
-    has_type(least, datatype)
+    p < count && o < count && 9 <= leasts[p] && has_type(leasts[o], leasts[p] - 8)
 }
 
 // Whether a key's quad is well typed, in a fetched graph.
+#[tactic(auto, unfolding(crate::specs::TermNumbers::quad_numbers))]
 fn quad_sound(leasts: &[u8], count: usize, fetched: &[u16], key: u64) -> bool
     requires { count ≤ length leasts.now }
     ensures { result ≡ quad_numbers leasts.now count fetched.now (quad_of key) }
 {
     let graph = graph_of(key) as u16;
-    if !is_in(fetched, graph) {
-        return false;
-    }
-    if !is_uri(leasts, count, graph) {
-        return false;
-    }
     let subject = subject_of(key) as u16;
-    if !is_uri(leasts, count, subject) {
-        return false;
-    }
     let property = property_of(key) as u16;
     let object = object_of(key) as u16;
-    pair_fits(leasts, count, property, object)
+    is_in(fetched, graph)
+        && is_uri(leasts, count, graph)
+        && is_uri(leasts, count, subject)
+        && pair_fits(leasts, count, property, object)
 }
 
 // Whether each quad is well typed, in a fetched graph.
@@ -99,12 +80,7 @@ pub fn quads_sound(leasts: &[u8], count: usize, fetched: &[u16], keys: &[u64], n
     requires n_in_bounds { n ≤ length keys.now }
     ensures { result ≡ every (quad_numbers leasts.now count fetched.now) (rows_from n keys.now 0) }
 {
-    let mut i = 0;
-    while i < n {
-        if !quad_sound(leasts, count, fetched, keys[i]) {
-            return false;
-        }
-        i += 1;
-    }
-    true
+    keys[..n]
+        .iter()
+        .all(|&key| quad_sound(leasts, count, fetched, key))
 }

@@ -2,13 +2,19 @@
 use Prim.Native.Nat.{ℕ, ◌+◌, ◌-◌, ◌≤◌, ◌<◌}
 use native.Mathlib.Omega.{arith}
 use native.Mathlib.Numerals.{add-one}
-use mathlib.Core.Path.{◌≡◌, ap, sym, ◌∙◌}
-use mathlib.Core.List.{List}
+use mathlib.Core.Path.{◌≡◌, refl, ap, sym, ◌∙◌}
+use mathlib.Core.List.{List, [], ◌∷◌}
 use mathlib.Core.Bool.{Bool, true, false, not, ◌&&◌}
 use lib.ListN.{length, get_or, take, drop, length-drop, drop_of_length-le}
 use lib.Seq.{drop-cons, take_all}
 use Rattle.definitions.specs.Lists.{every, some?, distinct}
+use Rattle.std.specs.List.{list_all}
 use Rattle.table.proofs.CountLaws.{none_of}
+
+-- std's word for the same test
+pub all-every : {A : Type 0} (p : A → Bool) (l : List A) → list_all p l ≡ every p l
+all-every p [] = refl
+all-every p (x ∷ l) = ap (λ (b : Bool). p x && b) (all-every p l)
 
 -- all are different; the rest is looked through as the code hands it on, `&l[i + 1..]`
 module _ {A : Type 0} (same : A → A → Bool) (l : List A) (i : ℕ) (d : A) (far : distinct same l ≡ distinct same (drop i l)) where

@@ -1,5 +1,5 @@
 -- The store's half of soundness: the definition's clauses as tests on numbers, as the code makes them.
-use Rattle.std.specs.Prelude.{ℕ, ◌-◌, List, ◌≡◌, Bool, true, false, ◌&&◌, eqb, leb, take}
+use Rattle.std.specs.Prelude.{ℕ, List, ◌≡◌, Bool, true, false, ◌&&◌, eqb, leb, take}
 use Rattle.std.proofs.Math.Option.{Option, none, some}
 use Rattle.definitions.specs.Limits.{graph_limit}
 use Rattle.definitions.specs.Lists.{every, distinct}

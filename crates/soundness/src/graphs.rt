@@ -1,5 +1,6 @@
 // The list of fetched graphs.
 ghost use Rattle.std.specs.Prelude.{◌≡◌, ◌&&◌, ◌≤◌, eqb, length};
+ghost use Rattle.std.specs.List.{list_all};
 ghost use Rattle.definitions.specs.Lists.{every, distinct};
 ghost use Rattle.sound_quads.specs.TermNumbers.{uri_number};
 
@@ -10,11 +11,8 @@ use table::hashes::is_in;
 fn numbers_distinct(list: &[u16]) -> bool
     ensures { result ≡ distinct eqb list.now }
 {
-    let mut i = 0;
-    while i < list.len() {
-        let x = list[i];
-        i += 1;
-        if is_in(&list[i..], x) {
+    for (i, &x) in list.iter().enumerate() {
+        if is_in(&list[i + 1..], x) {
             return false;
         }
     }
@@ -24,16 +22,9 @@ fn numbers_distinct(list: &[u16]) -> bool
 // Whether the numbers of a list are those of URIs.
 fn all_uris(leasts: &[u8], count: usize, list: &[u16]) -> bool
     requires { count ≤ length leasts.now }
-    ensures { result ≡ every (uri_number leasts.now count) list.now }
+    ensures { result ≡ list_all (uri_number leasts.now count) list.now }
 {
-    let mut i = 0;
-    while i < list.len() {
-        if !is_uri(leasts, count, list[i]) {
-            return false;
-        }
-        i += 1;
-    }
-    true
+    list.iter().all(|&x| is_uri(leasts, count, x))
 }
 
 // Whether the fetched graphs are different URIs. Ruled out: one twice; the number of a literal.

@@ -2,13 +2,12 @@
 use Prim.Native.Nat.{ℕ, suc, ◌+◌, ◌-◌, ◌≤◌, ◌<◌}
 use native.Mathlib.Omega.{arith}
 use native.Mathlib.Numerals.{add-one}
-use mathlib.Core.Path.{◌≡◌, refl, ap, sym, ◌∙◌}
+use mathlib.Core.Path.{◌≡◌, ap, sym, ◌∙◌}
 use mathlib.Core.List.{List, [], ◌∷◌, ◌++◌, map, map-append, map-id}
-use mathlib.Core.Bool.{Bool, true, false, ◌||◌}
-use lib.ListN.{length, set, get_or, take, drop, replicate, length-take, length-map, drop_of_length-le}
-use lib.Seq.{take-suc, take_all, drop-cons, get_or-take}
+use lib.ListN.{length, set, get_or, take, drop, replicate, length-take, length-map}
+use lib.Seq.{take-suc}
+use Rattle.fields.proofs.PartLaws.{drop-replicate}
 use Rattle.definitions.specs.Bytes.{filled}
-use Rattle.definitions.specs.Lists.{some?}
 use Rattle.definitions.specs.Scope.{variables}
 use Rattle.laws.proofs.Fill.{set-end}
 use Rattle.laws.proofs.Variables.{at-variable}
@@ -35,50 +34,14 @@ module _ {A B : Type 0} (f : A → B) (z : B) (old : List A) (n : ℕ) where
       (λ t. set (e t) i (q t))
       ∙ (put_next z (f (get_or old i d)) (map f (take i old)) n i size k ∙ ap (λ (l : List B). l ++ replicate (n - (i + 1)) z) (sym more))
 
-module _ {A : Type 0} (z : A) (old : List A) (n : ℕ) where
-  -- the first places of a list, zeros after them
-  abbrev pub copied_to : ℕ → List A
-  copied_to i = take i old ++ replicate (n - i) z
-
-  pub copied_next : (i : ℕ) (d : A) → i < length old → i < n → (array : List A) → array ≡ copied_to i → set array i (get_or old i d) ≡ copied_to (i + 1)
-  copied_next i d h k array e =
-      let size : length (take i old) ≡ i = omega (arith, length-take i old) in
-      let more : take (i + 1) old ≡ take i old ++ (get_or old i d ∷ []) = ap (λ (j : ℕ). take j old) (add-one i) ∙ take-suc old i d h in
-      ap (λ (a : List A). set a i (get_or old i d)) e
-      ∙ (put_next z (get_or old i d) (take i old) n i size k ∙ ap (λ (l : List A). l ++ replicate (n - (i + 1)) z) (sym more))
-
--- all that were asked for
-pub copied_all : (old : List ℕ) (n i count : ℕ) (array : List ℕ) → array ≡ copied_to 0 old n i → i ≡ count → count ≤ length old → count ≤ n
-    → array ≡ filled n (take count old)
+-- the first places of a list, zeros after them
+pub copied-front : (old : List ℕ) (w n count : ℕ) {front : List ℕ} → front ≡ take n old → take n old ≡ take count old → n ≤ length old → n ≤ w
+    → front ++ drop n (replicate w 0) ≡ filled w (take count old)
 unfolding filled
-copied_all old n i count array e q h k =
-    let size : length (take count old) ≡ count = omega (arith, length-take count old) in
-    e ∙ (ap (λ (j : ℕ). take j old ++ replicate (n - j) 0) q ∙ ap (λ (j : ℕ). take count old ++ replicate (n - j) 0) (sym size))
-
--- all that there are
-pub copied-whole : (old : List ℕ) (n i count : ℕ) (array : List ℕ) → array ≡ copied_to 0 old n i → i ≡ length old → i ≡ n → i ≤ count
-    → array ≡ filled n (take count old)
-copied-whole old n i count array e h k l =
-    copied_all old n i i array e refl (omega arith) (omega arith)
-    ∙ ap (filled n) (take_all i old (omega arith) ∙ sym (take_all count old (omega arith)))
-
--- a look through the first n of a list
-module _ {A : Type 0} (p : A → Bool) (l : List A) (n i : ℕ) (d : A) (size : n ≤ length l) where
-  left : i < n → drop i (take n l) ≡ get_or l i d ∷ drop (i + 1) (take n l)
-  left h =
-      drop-cons (take n l) i d (omega (arith, length-take n l))
-      ∙ ((λ t. get_or-take n l i d h t ∷ drop (suc i) (take n l)) ∙ ap (λ (j : ℕ). get_or l i d ∷ drop j (take n l)) (sym (add-one i)))
-
-  -- none so far
-  module _ (far : some? p (take n l) ≡ some? p (drop i (take n l))) where
-    pub some_next : i < n → p (get_or l i d) ≡ false → some? p (take n l) ≡ some? p (drop (i + 1) (take n l))
-    some_next h e = far ∙ (ap (some? p) (left h) ∙ ap (λ (b : Bool). b || some? p (drop (i + 1) (take n l))) e)
-
-    pub some-stop : i < n → p (get_or l i d) ≡ true → true ≡ some? p (take n l)
-    some-stop h e = sym (far ∙ (ap (some? p) (left h) ∙ ap (λ (b : Bool). b || some? p (drop (i + 1) (take n l))) e))
-
-    pub some-none : n ≤ i → false ≡ some? p (take n l)
-    some-none h = sym (far ∙ ap (some? p) (drop_of_length-le (take n l) {i = i} (omega (arith, length-take n l))))
+copied-front old w n count e f h k =
+    let size : length (take n old) ≡ n = omega (arith, length-take n old) in
+    rw (e, drop-replicate)
+    (ap (λ (j : ℕ). take n old ++ replicate (w - j) 0) (sym size) ∙ ap (λ (l : List ℕ). l ++ replicate (w - length l) 0) f)
 
 -- the numbers of the variables
 pub made-variable : {B : Type 0} (f : ℕ → B) (z : B) (v : ℕ) (array : List B) → array ≡ made_to f z variables 16 v → v < 16 → (x : B) → x ≡ f v

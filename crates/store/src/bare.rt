@@ -3,20 +3,16 @@ ghost use Rattle.std.specs.Prelude.{◌≡◌};
 ghost use Rattle.definitions.specs.Saved.{zero_item};
 ghost use Rattle.store.specs.Bare.{bare_run};
 
+use crate::stack::fresh_item;
 use definitions::{
-    GRAPH_LIMIT, ITEM_LIMIT, PAIR_LIMIT, SavedControl, SavedItem, SavedRun, SavedStore,
-    VARIABLE_LIMIT,
+    GRAPH_LIMIT, ITEM_LIMIT, SavedControl, SavedItem, SavedRun, SavedStore, VARIABLE_LIMIT,
 };
 
 // What stands in a place that is not in use. Ruled out: an item at another offset; one that has used a tuple.
 pub fn zero_item() -> SavedItem
     ensures { result ≡ zero_item }
 {
-    SavedItem {
-        at: 0,
-        started: false,
-        last: [0; PAIR_LIMIT],
-    }
+    fresh_item(0)
 }
 
 // Nothing is bound, fetched or stored; only so many of the stack's items count. Ruled out: a variable bound to term 0; a stack of another height.

@@ -1,5 +1,5 @@
 // The saved run as a call hands it back: what means nothing in the one that was lent is zero.
-ghost use Rattle.std.specs.Prelude.{◌≡◌, cond, ◌+◌, ◌≤◌, take};
+ghost use Rattle.std.specs.Prelude.{◌≡◌, ◌+◌, ◌≤◌, take};
 ghost use Rattle.definitions.specs.Bytes.{byte, filled};
 ghost use Rattle.store.specs.Canonical.{clean_item, clean_items, clean_bindings, canonical_control, canonical_store};
 ghost use Rattle.definitions.specs.Limits.{depth_limit, graph_limit, pair_limit};
@@ -25,16 +25,9 @@ pub fn byte_at(script: &[u8], at: usize) -> u8
 pub fn first_numbers(count: u8, numbers: [u16; PAIR_LIMIT]) -> [u16; PAIR_LIMIT]
     ensures { result ≡ filled pair_limit (take count numbers) }
 {
-    let n = count as usize;
+    let n = (count as usize).min(PAIR_LIMIT);
     let mut kept = [0u16; PAIR_LIMIT];
-    let mut k = 0;
-    while k < n {
-        if k == PAIR_LIMIT {
-            return kept;
-        }
-        kept[k] = numbers[k];
-        k += 1;
-    }
+    kept[..n].copy_from_slice(&numbers[..n]);
     kept
 }
 
@@ -48,13 +41,7 @@ fn clean_item(item: SavedItem, script: &[u8]) -> SavedItem
     let kind = byte_at(script, at);
     let mode = byte_at(script, at + 1);
     let count = byte_at(script, at + 2);
-    if !started {
-        return fresh_item(place);
-    }
-    if kind != 0x73 {
-        return fresh_item(place);
-    }
-    if mode != 1 {
+    if !started || kind != 0x73 || mode != 1 {
         return fresh_item(place);
     }
     let numbers = item.last;
@@ -78,20 +65,10 @@ fn clean_items(
     let n = height as usize;
     let empty = fresh_item(0);
     let mut clean = [empty; ITEM_LIMIT];
-    let mut i = 0;
-    while i < n {
-        let item = items[i];
-        clean[i] = clean_item(item, script);
-        i += 1;
+    for i in 0..n {
+        clean[i] = clean_item(items[i], script);
     }
     clean
-}
-
-// The number, where it means something.
-fn number_if(meant: bool, number: u16) -> u16
-    ensures { result ≡ cond meant number 0 }
-{
-    if meant { number } else { 0 }
 }
 
 // The terms of the bound variables.
@@ -102,10 +79,8 @@ fn clean_bindings(
     ensures { result ≡ clean_bindings bound bindings }
 {
     let mut clean = [0u16; VARIABLE_LIMIT];
-    let mut v = 0;
-    while v < VARIABLE_LIMIT {
-        clean[v] = number_if(bound[v], bindings[v]);
-        v += 1;
+    for v in 0..VARIABLE_LIMIT {
+        clean[v] = if bound[v] { bindings[v] } else { 0 };
     }
     clean
 }
@@ -117,11 +92,7 @@ fn clean_fetched(graphs: u16, fetched: [u16; GRAPH_LIMIT]) -> [u16; GRAPH_LIMIT]
 {
     let n = graphs as usize;
     let mut clean = [0u16; GRAPH_LIMIT];
-    let mut i = 0;
-    while i < n {
-        clean[i] = fetched[i];
-        i += 1;
-    }
+    clean[..n].copy_from_slice(&fetched[..n]);
     clean
 }
 

@@ -14,14 +14,7 @@ pub fn is_fetched(store: SavedStore, graph: u16) -> bool
 {
     let fetched = store.fetched;
     let n = store.graphs as usize;
-    let mut i = 0;
-    while i < n {
-        if fetched[i] == graph {
-            return true;
-        }
-        i += 1;
-    }
-    false
+    fetched[..n].contains(&graph)
 }
 
 // Whether a graph is in the fetched list or has room there.

@@ -60,12 +60,7 @@ pub fn pop(control: SavedControl) -> SavedControl
     let mut next = control;
     let n = next.height - 1;
     let place = n as usize;
-    let empty = SavedItem {
-        at: 0,
-        started: false,
-        last: [0; PAIR_LIMIT],
-    };
-    next.items[place] = empty;
+    next.items[place] = fresh_item(0);
     next.height = n;
     next
 }
@@ -101,9 +96,7 @@ pub fn bind_tuple(
     let mut next = control;
     let mut bound = next.bound;
     let mut bindings = next.bindings;
-    let mut k = count;
-    while 0 < k {
-        k -= 1;
+    for k in (0..count).rev() {
         let from = at + 2 * k;
         let v = index(script[from]);
         let term = tuple[k];

@@ -13,16 +13,19 @@ pub struct Line {
     pub len: usize,
 }
 
+pub const EMPTY: Line = Line {
+    bytes: [0; TEXT_WIDTH],
+    len: 0,
+};
+
 // A byte at the end. Ruled out: a byte over the last one; a length that stays.
-pub fn push(line: Line, b: u8) -> Line
+pub fn push(mut line: Line, b: u8) -> Line
     requires { line.len < text_width }
     ensures { Puts line result (b ∷ []) }
 {
-    let mut next = line;
-    let at = line.len;
-    next.bytes[at] = b;
-    next.len = at + 1;
-    next
+    line.bytes[line.len] = b;
+    line.len += 1;
+    line
 }
 
 // The last digit of a number. Ruled out: the first digit; the digit as a number from 0 to 9.
@@ -30,8 +33,7 @@ pub fn push_digit(line: Line, n: u64) -> Line
     requires { line.len < text_width }
     ensures { Puts line result (last_digit n ∷ []) }
 {
-    let digit = (n % 10) as u8;
-    push(line, b'0' + digit)
+    push(line, b'0' + (n % 10) as u8)
 }
 
 // The last count digits of a number. Ruled out: 7 for 07; the digits from the back.

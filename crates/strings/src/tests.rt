@@ -19,9 +19,7 @@ pub fn lang_matches(v: Value, script: &[u8], at: usize) -> Truth
     ensures { (q : LanguageRange) → language_range_of (part script.now at language_range_width) ≡ some q → Tells result (text_test (λ s. matches q s.tag) (meaning v)) }
 {
     let end = at + LANGUAGE_RANGE_WIDTH;
-    let tag = v.tag;
-    let accepted = range::accepts(&script[at..end], &tag);
-    told(v.present, accepted)
+    told(v.present, range::accepts(&script[at..end], &v.tag))
 }
 
 // Whether a pattern, in the bytes of a script from an offset on, accepts a string's text.
@@ -32,7 +30,5 @@ pub fn regex(v: Value, script: &[u8], at: usize) -> Truth
     ensures { (p : Pattern) → pattern_of (part script.now at pattern_width) ≡ some p → Tells result (text_test (λ s. accepts p s.text) (meaning v)) }
 {
     let end = at + PATTERN_WIDTH;
-    let text = v.text;
-    let accepted = pattern::accepts(&script[at..end], &text);
-    told(v.present, accepted)
+    told(v.present, pattern::accepts(&script[at..end], &v.text))
 }

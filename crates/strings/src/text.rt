@@ -10,44 +10,31 @@ ghost use Rattle.values.specs.Means.{Holds, plain_string};
 ghost use Rattle.calendar.specs.Dates.{meant_date};
 
 use crate::line;
-use crate::line::Line;
+use crate::line::{EMPTY, Line};
 use calendar::Date;
 use definitions::{SECONDS_BEFORE, TAG_WIDTH, TEXT_WIDTH};
-use values::{STRING, Value, number};
+use values::{DATE_TIME, DECIMAL, INTEGER, STRING, Value, number};
 
 // The seconds from 0001-01-01T00:00:00Z to 1970.
 const FROM_START: i64 = SECONDS_BEFORE as i64;
-
-// A number's distance from 0.
-fn amount(n: i64) -> u64
-    requires { T (is_decimal n) }
-    ensures { result ≡ nat_abs n }
-{
-    let far = number::distance(n);
-    far as u64
-}
 
 // The seconds from 0001-01-01T00:00:00Z to a date_time.
 fn since_start(n: i64) -> u64
     requires { T (is_date_time n) }
     ensures { (result ≡ nat_abs (n +ℤ pos seconds_before)) × (result ≤ seconds_before + seconds_after) }
 {
-    let seconds = number::sum(n, FROM_START);
-    seconds as u64
+    number::sum(n, FROM_START) as u64
 }
 
 // An empty line, with a minus sign for a number below 0.
 fn sign(n: i64) -> Line
     ensures { (result ≡ line_of (sign_text n)) × (result.len ≤ 1) }
 {
-    let empty = Line {
-        bytes: [0; TEXT_WIDTH],
-        len: 0,
-    };
     if n < 0 {
-        return line::push(empty, 45);
+        line::push(EMPTY, b'-')
+    } else {
+        EMPTY
     }
-    empty
 }
 
 // An integer's digits. Ruled out: +3; no digits for 0.
@@ -55,7 +42,7 @@ pub fn integer(n: i64) -> Line
     requires { T (is_decimal n) }
     ensures { Written result (integer_text n) }
 {
-    let far = amount(n);
+    let far = n.unsigned_abs();
     let start = sign(n);
     line::natural(start, 20, far)
 }
@@ -65,10 +52,10 @@ pub fn decimal(n: i64) -> Line
     requires { T (is_decimal n) }
     ensures { Written result (decimal_text n) }
 {
-    let far = amount(n);
+    let far = n.unsigned_abs();
     let start = sign(n);
     let whole = line::natural(start, 20, far / 1000000);
-    let point = line::push(whole, 46);
+    let point = line::push(whole, b'.');
     line::fraction(point, 6, far % 1000000)
 }
 
@@ -78,9 +65,9 @@ fn put_date(start: Line, date: Date) -> Line
     ensures { Puts start result (date_text (meant_date date)) }
 {
     let year = line::digits(start, 4, date.year);
-    let first = line::push(year, 45);
+    let first = line::push(year, b'-');
     let month = line::digits(first, 2, date.month);
-    let second = line::push(month, 45);
+    let second = line::push(month, b'-');
     line::digits(second, 2, date.day)
 }
 
@@ -90,9 +77,9 @@ fn put_time(start: Line, second: u64) -> Line
     ensures { Puts start result (time_text second) }
 {
     let hours = line::digits(start, 2, second / 3600);
-    let first = line::push(hours, 58);
+    let first = line::push(hours, b':');
     let minutes = line::digits(first, 2, second / 60 % 60);
-    let next = line::push(minutes, 58);
+    let next = line::push(minutes, b':');
     line::digits(next, 2, second % 60)
 }
 
@@ -103,14 +90,10 @@ pub fn date_time(n: i64) -> Line
 {
     let seconds = since_start(n);
     let date = calendar::date_of(seconds / 86400);
-    let empty = Line {
-        bytes: [0; TEXT_WIDTH],
-        len: 0,
-    };
-    let day = put_date(empty, date);
-    let mark = line::push(day, 84);
+    let day = put_date(EMPTY, date);
+    let mark = line::push(day, b'T');
     let time = put_time(mark, seconds % 86400);
-    line::push(time, 90)
+    line::push(time, b'Z')
 }
 
 // A string with no tag.
@@ -132,27 +115,11 @@ pub fn text_of(v: Value) -> Value
     requires { Good v }
     ensures { Holds result (Meant.string (text_of (meaning v))) }
 {
-    let kind = v.kind;
-    let present = v.present;
-    let n = v.number;
-    let bytes = v.text;
-    match kind {
-        2 => untagged(present, bytes),
-        3 => {
-            let line = decimal(n);
-            let digits = line.bytes;
-            untagged(present, digits)
-        }
-        4 => {
-            let line = date_time(n);
-            let digits = line.bytes;
-            untagged(true, digits)
-        }
-        5 => {
-            let line = integer(n);
-            let digits = line.bytes;
-            untagged(present, digits)
-        }
-        _ => untagged(true, bytes),
+    match v.kind {
+        STRING => untagged(v.present, v.text),
+        DECIMAL => untagged(v.present, decimal(v.number).bytes),
+        DATE_TIME => untagged(true, date_time(v.number).bytes),
+        INTEGER => untagged(v.present, integer(v.number).bytes),
+        _ => untagged(true, v.text),
     }
 }

@@ -9,10 +9,10 @@ use mathlib.Core.Bool.{Bool, true, false, not}
 use mathlib.Core.Option.{Option, none, some}
 use lib.Dec.{T}
 use lib.ListN.{length, get_or, set, take, length-append, get_or-append}
-use lib.Seq.{get_or_at, get_or-set_same, get_or-set_other}
+use lib.Seq.{get_or_at, get_or-take, length-take-le, get_or-set_same, get_or-set_other}
 use borrow.Author.Count.{below_more}
 use Rattle.definitions.specs.Limits.{text_width, property_offset, object_offset}
-use Rattle.definitions.specs.Lists.{some?, distinct}
+use Rattle.definitions.specs.Lists.{some?}
 use Rattle.definitions.specs.Bytes.{part, same_bytes}
 use Rattle.definitions.specs.Types.{Datatype, any_uri, string, decimal, date_time, integer, datatype_code, leq_datatype}
 use Rattle.definitions.specs.Terms.{Text, Triple, uri_text}
@@ -28,8 +28,9 @@ use Rattle.codes.specs.TypeCodes.{datatype_of}
 use Rattle.fields.specs.Answers.{code_of}
 use Rattle.fields.proofs.PartLaws.{some-part}
 use Rattle.fields.proofs.SameLaws.{same-uris, compared}
-use Rattle.table.specs.Hashes.{hash_of, place_in, uri_slot}
-use Rattle.table.proofs.PlaceLaws.{to-place, place-within}
+use Rattle.table.specs.Hashes.{hash_of, uri_slot, NoneWith, FirstWith}
+use Rattle.std.specs.Prelude.{Some, None}
+use Rattle.std.specs.declared.option.Option as Answer
 use Rattle.subjects.specs.declared.Subjects.{Subjects}
 use Rattle.subjects.specs.Noted.{field_at, FieldsHashed, First, Meeting, NotedOf, Noted, one_more}
 
@@ -99,10 +100,6 @@ module _ (held code : ℕ) (o : Option Datatype) (d : Datatype) (e : held ≡ co
 
 -- ── the place of a subject ──────────────────────────────────────────────────────────────────
 
--- no field before a place is the same
-abbrev pub NoneBefore : (page offsets uri : List ℕ) → ℕ → Type 0
-NoneBefore page offsets uri i = (j : ℕ) → j < i → same_bytes (field_at page offsets j) uri ≡ false
-
 module _ (page offsets hashes : List ℕ) (n : ℕ) (uri : List ℕ) (hash : ℕ) (few : n ≤ length hashes) (w : FieldsHashed page offsets n hashes)
     (e : hash ≡ hash_of (uri_slot uri)) where
   abbrev test : ℕ → Bool
@@ -116,35 +113,32 @@ module _ (page offsets hashes : List ℕ) (n : ℕ) (uri : List ℕ) (hash : ℕ
           absurd (d (w i l ∙ ap (λ (f : List ℕ). hash_of (uri_slot f)) (same_bytes_lem (field_at page offsets i) uri (true_is (test i) q)) ∙ sym e))
       go false q = refl
 
-  to-next : (i : ℕ) → i ≤ n → NoneBefore page offsets uri i → {r : ℕ} → r ≡ place_in hash (part hashes i (n - i)) → (i + r ≤ n) × NoneBefore page offsets uri (i + r)
-  to-next i l b q = (
-    place-within hash hashes n i few l q,
-    to-place (NoneBefore page offsets uri) hash hashes n few (λ j k d p. below_more (λ j. test j ≡ false) j p (hashes-differ j k d)) i l b q,
-  )
+  -- what the code finds, where its test compares the fields
+  module _ (Test : ℕ → Bool → Type 0)
+      (same : (i : ℕ) → i < n → (t : Bool) → Test i t → t ≡ same_bytes (part page (get_or offsets i 0) (get_or offsets i 0 + text_width - get_or offsets i 0)) uri) where
+    tested : (i : ℕ) → i < n → (t : Bool) → Test i t → test i ≡ t
+    tested i l t p = sym (same i l t p ∙ ap (λ (f : List ℕ). same_bytes f uri) (some-part page (get_or offsets i 0) text_width))
 
-  pub to-first : {r : ℕ} → r ≡ place_in hash (take n hashes) → (r ≤ n) × NoneBefore page offsets uri r
-  to-first q =
-      let z : n - 0 ≡ n = omega arith in
-      let p = to-next 0 (omega arith) (λ j l. absurd (omega arith)) (q ∙ ap (λ (k : ℕ). place_in hash (take k hashes)) (sym z)) in
-      (omega (arith, p.0), λ j l. p.1 j (omega arith))
+    none-before : (k : ℕ) → k ≤ n → NoneWith Test (take n hashes) hash 0 k → (j : ℕ) → j < k → test j ≡ false
+    none-before k l d j b = go (ℕ_discrete (get_or (take n hashes) j 0) hash)
+      where
+        go : Dec (get_or (take n hashes) j 0 ≡ hash) → test j ≡ false
+        go (yes q) = tested j (omega arith) false (d j (omega arith) b q)
+        go (no q) = hashes-differ j (omega arith) (λ r. q (get_or-take n hashes j 0 (omega arith) ∙ r))
 
-  -- a field compared, as the code hands it on
-  module _ (i field : ℕ) (o : field ≡ get_or offsets i 0) {r : Bool} (q : r ≡ same_bytes (part page field (field + text_width - field)) uri) where
-    tested : r ≡ test i
-    tested = q ∙ ap (λ (f : List ℕ). same_bytes f uri) (some-part page field text_width ∙ ap (λ (k : ℕ). part page k text_width) o)
+    first_is : {r : Answer.Option ℕ} → FirstWith Test (take n hashes) hash 0 r → First test n r
+    first_is {r} x = record {
+      some = λ i q. let o = x.some i q in let l : i < n = omega (arith, o.1, all) in (l, tested i l true o.3, none-before i (omega arith) o.4);
+      none = λ q. none-before n (omega arith) (subst (λ (k : ℕ). NoneWith Test (take n hashes) hash 0 k) all (x.none q));
+    }
+      where
+        all : length (take n hashes) ≡ n
+        all = length-take-le n hashes few
 
-    pub place_found : NoneBefore page offsets uri i → i ≤ n → r ≡ true → First test n i
-    place_found b l t = record { within = l; before = b; here = λ k. sym tested ∙ t }
-
-    place-not : NoneBefore page offsets uri i → r ≡ false → NoneBefore page offsets uri (i + 1)
-    place-not b t = below_more (λ j. test j ≡ false) i b (sym tested ∙ t)
-
-    pub place-next : i < n → NoneBefore page offsets uri i → r ≡ false → {s : ℕ} → s ≡ place_in hash (part hashes (i + 1) (n - (i + 1)))
-        → (i + 1 + s ≤ n) × NoneBefore page offsets uri (i + 1 + s)
-    place-next l b t p = to-next (i + 1) (omega arith) (place-not b t) p
-
-  pub place_none : (i : ℕ) → NoneBefore page offsets uri i → n ≤ i → First test n n
-  place_none i b l = record { within = omega arith; before = λ j k. b j (omega arith); here = λ k. absurd (omega arith) }
+  pub place_found : {Test : ℕ → Bool → Type 0} {r : Answer.Option ℕ} → FirstWith Test (take n hashes) hash 0 r
+      → ((i : ℕ) → i < n → (t : Bool) → Test i t → t ≡ same_bytes (part page (get_or offsets i 0) (get_or offsets i 0 + text_width - get_or offsets i 0)) uri)
+      → First test n r
+  place_found {Test} x same = first_is Test same x
 
 pub record-inside : (page : List ℕ) (at next : ℕ) (x : Triple) → TripleAt page at x next → at + object_offset ≤ length page
 record-inside page at next x h = omega (arith, h.ends, h.fits)
@@ -166,20 +160,26 @@ module _ (page : List ℕ) (all : List Asking) (s : Subjects) (h : Noted page al
   text-test : (j : ℕ) → j < s.count → same_bytes (field_at page s.offsets j) uri ≡ same_bytes (get_or us j []) u
   text-test j l = same-uris (field_at page s.offsets j) uri (get_or us j []) u (h.texts j l) e (compared (field_at page s.offsets j) uri (same_bytes (field_at page s.offsets j) uri) refl)
 
-  module _ (i : ℕ) (f : First (λ j. same_bytes (field_at page s.offsets j) uri) s.count i) where
-    other-before : (j : ℕ) → j < i → same_bytes (get_or us j []) u ≡ false
-    other-before j l = sym (text-test j (omega (arith, f.within))) ∙ f.before j l
-
+  module _ {r : Answer.Option ℕ} (f : First (λ j. same_bytes (field_at page s.offsets j) uri) s.count r) where
     -- the subject is there
-    module _ (l : i < s.count) where
+    module _ (i : ℕ) (e₁ : r ≡ Some i) where
+      l : i < s.count
+      l = (f.some i e₁).0
+
+      met-here : same_bytes (field_at page s.offsets i) uri ≡ true
+      met-here = (f.some i e₁).1
+
+      other-before : (j : ℕ) → j < i → same_bytes (get_or us j []) u ≡ false
+      other-before j k = sym (text-test j (omega (arith, l))) ∙ (f.some i e₁).2 j k
+
       here : get_or us i [] ≡ u
-      here = same_bytes_lem (get_or us i []) u (true_is (same_bytes (get_or us i []) u) (sym (text-test i l) ∙ f.here l))
+      here = same_bytes_lem (get_or us i []) u (true_is (same_bytes (get_or us i []) u) (sym (text-test i l) ∙ met-here))
 
       same-subjects : subjects_after [] more ≡ us
       same-subjects =
           subjects-one [] all (record { subject = u; least = d })
-          ∙ subject-there u us (is_true (some? (same_bytes u) us) (some-place (same_bytes u) [] us i (omega (arith, h.count))
-          (true_is (same_bytes u (get_or us i [])) (bytes-swap u (get_or us i []) ∙ sym (text-test i l) ∙ f.here l))))
+          ∙ subject-there u us (is_true (some? (same_bytes u) us) (some-place (same_bytes u) [] us i (omega (arith, h.count, l))
+          (true_is (same_bytes u (get_or us i [])) (bytes-swap u (get_or us i []) ∙ sym (text-test i l) ∙ met-here))))
 
       other : (j : ℕ) → j < s.count → (j ≡ i → ⊥) → same_bytes (get_or us j []) u ≡ false
       other j k ne = ⊎_elim (λ m. after (omega (arith, ne))) (λ m. other-before j m) (split i j)
@@ -210,7 +210,7 @@ module _ (page : List ℕ) (all : List Asking) (s : Subjects) (h : Noted page al
           go j k (yes q) =
               let m = h.codes i l in
               let asked : asked_of (get_or us i []) more ≡ asked_of (get_or us i []) all ++ (d ∷ []) =
-              asked-same (get_or us i []) all (record { subject = u; least = d }) (sym (text-test i l) ∙ f.here l) in
+              asked-same (get_or us i []) all (record { subject = u; least = d }) (sym (text-test i l) ∙ met-here) in
               subst (λ (j : ℕ). Meeting (get_or (set s.codes i c) j 0) (asked_of (get_or us j []) more)) (sym q) (
               record {
                 datatype = with_asked m.datatype d;
@@ -229,10 +229,10 @@ module _ (page : List ℕ) (all : List Asking) (s : Subjects) (h : Noted page al
               }
 
     -- it is not: it joins at the end
-    module _ (l : s.count ≤ i) where
+    module _ (e₁ : r ≡ None) where
       none-there : some? (same_bytes u) us ≡ false
       none-there =
-          some-nowhere (same_bytes u) [] us (λ j k. bytes-swap u (get_or us j []) ∙ other-before j (omega (arith, h.count)))
+          some-nowhere (same_bytes u) [] us (λ j k. bytes-swap u (get_or us j []) ∙ sym (text-test j (omega (arith, h.count))) ∙ f.none e₁ j (omega (arith, h.count)))
 
       more-subjects : subjects_after [] more ≡ us ++ (u ∷ [])
       more-subjects = subjects-one [] all (record { subject = u; least = d }) ∙ subject-joins u us none-there
@@ -267,7 +267,7 @@ module _ (page : List ℕ) (all : List Asking) (s : Subjects) (h : Noted page al
             let m = h.codes j k in
             let asked : asked_of (get_or (us ++ (u ∷ [])) j []) more ≡ asked_of (get_or us j []) all =
             ap (λ (v : Text). asked_of v more) (old-text j k)
-            ∙ asked-other (get_or us j []) all (record { subject = u; least = d }) (other-before j (omega arith)) in
+            ∙ asked-other (get_or us j []) all (record { subject = u; least = d }) (sym (text-test j k) ∙ f.none e₁ j k) in
             record {
               datatype = m.datatype;
               is = get_or-set_other s.codes s.count j code 0 (λ q. omega arith) ∙ m.is;

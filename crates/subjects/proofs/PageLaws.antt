@@ -1,10 +1,11 @@
 -- Laws of a page whose records are noted one by one.
-use Prim.Native.Nat.{ℕ, ◌+◌, ◌*◌, ◌≤◌, ◌<◌}
+use Rattle.std.specs.Prelude.{Some, None}
+use Rattle.std.specs.declared.option.Option as Answer
+use Prim.Native.Nat.{ℕ, ◌+◌, ◌≤◌, ◌<◌}
 use native.Mathlib.Omega.{arith}
 use native.Mathlib.Decide.{ℕ_discrete}
 use mathlib.Core.Path.{◌≡◌, refl, sym, ap, subst, ◌∙◌}
 use mathlib.Core.List.{List, [], ◌∷◌, ◌++◌, append_assoc, append-nil}
-use mathlib.Core.Bool.{true, false}
 use mathlib.Core.Option.{Option, none, some}
 use lib.ListN.{length}
 use Rattle.definitions.specs.Limits.{text_width, object_offset}
@@ -12,15 +13,16 @@ use Rattle.definitions.specs.Bytes.{byte, part, in_front}
 use Rattle.definitions.specs.Types.{Datatype, datatype_code}
 use Rattle.definitions.specs.Terms.{Text, Triple, body_width, uri_text, read_triple, read_page}
 use Rattle.definitions.specs.Gathering.{Asking, asking, asks, askings, subjects_after}
-use Rattle.definitions.specs.declared.Read.{Read}
-use Rattle.definitions.specs.declared.Read.TheVariants.{Next, Malformed}
 use Rattle.laws.specs.Records.{TripleAt, records_at}
-use Rattle.laws.specs.ReadAnswers.{is_some, next_of}
+use Rattle.laws.specs.ReadAnswers.{next_of}
 use Rattle.laws.proofs.ReadAnswers.{next-lost, next-got}
 use Rattle.laws.proofs.RecordsAt.{triple-inv, triple-forward, page-at, at-end, at-bad, at_one}
 use Rattle.laws.proofs.Options.{some_is}
 use Rattle.laws.proofs.Gathering.{askings-one}
-use Rattle.fields.specs.Answers.{code_of}
+use Rattle.std.specs.Prelude.{Some, None}
+use Rattle.std.specs.declared.option.Option as Answer
+use Rattle.fields.specs.Answers.{code_of, code_if}
+use Rattle.fields.proofs.NumberLaws.{code-is, code-not}
 use Rattle.subjects.specs.declared.Subjects.{Subjects}
 use Rattle.asks.specs.PageRecords.{RecordAt}
 use Rattle.subjects.specs.Noted.{Noted, one_more}
@@ -76,12 +78,12 @@ module _ (page : List ℕ) (at : ℕ) (s : Subjects) (g : Going page at s) where
   pub going-noted : length page ≤ at → (rs : List Triple) → read_page page ≡ some rs → Noted page (askings rs) s
   going-noted l rs e = subst (λ (rs : List Triple). Noted page (askings rs) s) (some_is (sym (going_end l) ∙ e)) g.noted
 
-  module _ (l : at < length page) {r : Read} (e : r ≡ next_of (read_triple page at)) where
+  module _ (l : at < length page) {r : Answer.Option ℕ} (e : r ≡ next_of (read_triple page at)) where
     -- a bad record
-    pub going-bad : r ≡ Malformed → read_page page ≡ none
+    pub going-bad : r ≡ None → read_page page ≡ none
     going-bad m = g.whole ∙ ap (after g.done) (at-bad read_triple triple-forward page at l (next-lost (read_triple page at) (sym e ∙ m)))
 
-    module _ {next : ℕ} (m : r ≡ Next next) where
+    module _ {next : ℕ} (m : r ≡ Some next) where
       one : (x : Triple) × (read_triple page at ≡ some (x, next))
       one = next-got (read_triple page at) (sym e ∙ m)
 
@@ -101,9 +103,9 @@ module _ (page : List ℕ) (at : ℕ) (s : Subjects) (g : Going page at s) where
           front none = unfold in_front in refl
           front (some rs) = unfold in_front in ap (λ (rs : List Triple). some rs) (sym (append_assoc g.done (one.0 ∷ []) rs))
 
-      module _ {code : ℕ} (c : (x : Triple) (next : ℕ) → TripleAt page at x next → code ≡ code_of (asks x.property x.object)) where
+      module _ {ask : Answer.Option ℕ} (c : (x : Triple) (next : ℕ) → TripleAt page at x next → ask ≡ code_if (code_of (asks x.property x.object))) where
         -- nothing is asked
-        pub going_on : code ≡ 0 → Going page next s
+        pub going_on : ask ≡ None → Going page next s
         unfolding code_of
         going_on z =
             record {
@@ -120,26 +122,30 @@ module _ (page : List ℕ) (at : ℕ) (s : Subjects) (g : Going page at s) where
             same =
                 askings-one g.done one.0
                 ∙ ap (λ (all : List Asking). askings g.done ++ all)
-                (nothing (asks one.0.property one.0.object) (sym z ∙ c one.0 next holds) one.0.subject)
+                (nothing (asks one.0.property one.0.object) (sym (code-not _ (c one.0 next holds) z)) one.0.subject)
                 ∙ append-nil (askings g.done)
 
         -- something is
-        pub record-long : (code ≡ 0 → ⊥) → at + asking_width ≤ next
-        record-long n = asking-long page at next one.0 holds (c one.0 next holds) n
+        module _ {code : ℕ} (y : ask ≡ Some code) where
+          told : (code ≡ code_of (asks one.0.property one.0.object)) × (0 < code_of (asks one.0.property one.0.object))
+          told = code-is _ (c one.0 next holds) y
 
-        pub going-noting : (code ≡ 0 → ⊥) → (after : Subjects)
-            → ((all : List Asking) (u : Text) (d : Datatype) → Noted page all s → uri_text (part page (at + 1) text_width) ≡ some u → code ≡ datatype_code d → Noted page (one_more all u d) after)
-            → Going page next after
-        unfolding code_of
-        going-noting n after note = go (asks one.0.property one.0.object) refl
-          where
-            go : (o : Option Datatype) → asks one.0.property one.0.object ≡ o → Going page next after
-            go none q = absurd (n (c one.0 next holds ∙ ap code_of q))
-            go (some d) q =
-                record {
-                  done = g.done ++ (one.0 ∷ []);
-                  noted = subst (λ (all : List Asking). Noted page all after)
-                      (sym (askings-one g.done one.0 ∙ ap (λ (o : Option Datatype). askings g.done ++ asking one.0.subject o) q))
-                      (note (askings g.done) one.0.subject d g.noted holds.subject (c one.0 next holds ∙ ap code_of q));
-                  whole = more;
-                }
+          pub record-long : at + asking_width ≤ next
+          record-long = asking-long page at next one.0 holds refl (λ z. omega (arith, told, z))
+
+          pub going-noting : (after : Subjects)
+              → ((all : List Asking) (u : Text) (d : Datatype) → Noted page all s → uri_text (part page (at + 1) text_width) ≡ some u → code ≡ datatype_code d → Noted page (one_more all u d) after)
+              → Going page next after
+          unfolding code_of
+          going-noting after note = go (asks one.0.property one.0.object) refl
+            where
+              go : (o : Option Datatype) → asks one.0.property one.0.object ≡ o → Going page next after
+              go none q = absurd (omega (arith, told, ap code_of q))
+              go (some d) q =
+                  record {
+                    done = g.done ++ (one.0 ∷ []);
+                    noted = subst (λ (all : List Asking). Noted page all after)
+                        (sym (askings-one g.done one.0 ∙ ap (λ (o : Option Datatype). askings g.done ++ asking one.0.subject o) q))
+                        (note (askings g.done) one.0.subject d g.noted holds.subject (told.0 ∙ ap code_of q));
+                    whole = more;
+                  }

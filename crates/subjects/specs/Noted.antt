@@ -1,5 +1,6 @@
 -- What is noted of a page: its subjects of which something is asked, and the datatype that meets it.
-use Rattle.std.specs.Prelude.{ℕ, ◌+◌, ◌≤◌, ◌<◌, Bool, true, false, List, [], ◌∷◌, ◌++◌, ◌≡◌, length, get_or}
+use Rattle.std.specs.Prelude.{ℕ, ◌+◌, ◌≤◌, ◌<◌, Bool, true, false, List, [], ◌∷◌, ◌++◌, ◌≡◌, length, get_or, Some, None}
+use Rattle.std.specs.declared.option.Option as Answer
 use Rattle.std.proofs.Math.Option.{Option, some}
 use Rattle.definitions.specs.Limits.{text_width}
 use Rattle.definitions.specs.Bytes.{part}
@@ -23,11 +24,10 @@ FieldsWithin page offsets n = (i : ℕ) → i < n → get_or offsets i 0 + text_
 abbrev pub FieldsHashed : (page offsets : List ℕ) → ℕ → (hashes : List ℕ) → Type 0
 FieldsHashed page offsets n hashes = HashesOf (λ i. hash_of (uri_slot (field_at page offsets i))) n hashes
 
--- the first place, of n, that passes a test; n where none does
-pub record First (test : ℕ → Bool) (n r : ℕ) : Type 0 where
-  pub within : r ≤ n
-  pub before : (i : ℕ) → i < r → test i ≡ false
-  pub here : r < n → test r ≡ true
+-- the first place, of n, that passes a test, where one does
+pub record First (test : ℕ → Bool) (n : ℕ) (r : Answer.Option ℕ) : Type 0 where
+  pub some : (i : ℕ) → r ≡ Some i → (i < n) × (test i ≡ true) × ((j : ℕ) → j < i → test j ≡ false)
+  pub none : r ≡ None → (j : ℕ) → j < n → test j ≡ false
 
 -- a code, 0 for none, is of the datatype above which all that is asked is met
 pub record Meeting (code : ℕ) (asked : List Datatype) : Type 0 where

@@ -18,10 +18,10 @@ ghost use Rattle.subjects.specs.Noted.{field_at, FieldsWithin, FieldsHashed, Fir
 
 use asks::asked;
 use codes::below;
-use definitions::{OBJECT_OFFSET, PAGE_LIMIT, PROPERTY_OFFSET, Read, TEXT_WIDTH};
+use definitions::{OBJECT_OFFSET, PAGE_LIMIT, PROPERTY_OFFSET, TEXT_WIDTH};
 use fields::numbers::{number_index, same_bytes};
 use record_reading::read_triple;
-use table::hashes::{hash_of, place_of};
+use table::hashes::{find, hash_of};
 use table::slots::slot_of;
 
 // A record that asks: its object is a URI. `Room` in specs/ has the same names and numbers.
@@ -64,7 +64,7 @@ pub fn join(held: u8, code: u8) -> u8
     0
 }
 
-// The place of a URI field of that hash among those at the first n offsets, or n. Bytes are compared only where hashes are the same.
+// The place of a URI field of that hash among those at the first n offsets.
 // Ruled out: fields with the same hash taken for the same; the last offset left out.
 pub fn find_subject(
     page: &[u8],
@@ -73,7 +73,7 @@ pub fn find_subject(
     n: usize,
     uri: &[u8],
     hash: u16,
-) -> usize
+) -> Option<usize>
     requires n_in_bounds { n ≤ length offsets.now }
     requires n_in_bounds_2 { n ≤ length hashes.now }
     requires fields_within { FieldsWithin page.now offsets.now n }
@@ -81,17 +81,10 @@ pub fn find_subject(
     requires hash_value { hash ≡ hash_of (uri_slot uri.now) }
     ensures { First (λ i. same_bytes (field_at page.now offsets.now i) uri.now) n result }
 {
-    let mut i = place_of(&hashes[..n], hash);
-    while i < n {
+    find(&hashes[..n], hash, 0, |i| {
         let field = number_index(offsets[i]);
-        let end = field + TEXT_WIDTH;
-        if same_bytes(&page[field..end], uri) {
-            return i;
-        }
-        let next = i + 1;
-        i = next + place_of(&hashes[next..n], hash);
-    }
-    n
+        same_bytes(&page[field..field + TEXT_WIDTH], uri)
+    })
 }
 
 // Notes a datatype that the record at an offset asks for.
@@ -112,9 +105,9 @@ fn note(page: &[u8], at: usize, code: u8, subjects: Subjects) -> Subjects
     let n = subjects.count;
     let offsets = subjects.offsets;
     let hashes = subjects.hashes;
-    let i = find_subject(page, &offsets, &hashes, n, &page[field..end], hash);
+    let found = find_subject(page, &offsets, &hashes, n, &page[field..end], hash);
     let mut next = subjects;
-    if i < n {
+    if let Some(i) = found {
         let held = subjects.codes[i];
         next.codes[i] = join(held, code);
         return next;
@@ -142,14 +135,13 @@ pub fn subjects_of(page: &[u8]) -> Noting
     };
     let mut at = 0;
     while at < page.len() {
-        let Read::Next(next) = read_triple(page, at) else {
+        let Some(next) = read_triple(page, at) else {
             return Noting {
                 good: false,
                 subjects,
             };
         };
-        let code = asked(page, at);
-        if code != 0 {
+        if let Some(code) = asked(page, at) {
             subjects = note(page, at, code, subjects);
         }
         at = next;

@@ -5,7 +5,7 @@ ghost use Rattle.std.specs.Prelude.{◌≡◌, [], ◌∷◌, length};
 ghost use Rattle.definitions.specs.Limits.{suggest_report_width};
 ghost use Rattle.definitions.specs.Exports.{suggest_report};
 
-use definitions::SuggestAnswer;
+use definitions::{SuggestAnswer, Suggested};
 
 // Three bytes and a zero.
 fn write_three(first: u8, second: u8, third: u8, out: &mut [u8])
@@ -24,10 +24,12 @@ pub fn write_suggest_report(answer: SuggestAnswer, out: &mut [u8])
     requires { length out.old ≡ suggest_report_width }
     ensures { out.new ≡ suggest_report out.old answer }
 {
-    match answer {
-        SuggestAnswer::Accepted => write_three(0, 0, 0, out),
-        SuggestAnswer::Named(variable, code) => write_three(1, variable, code, out),
-        SuggestAnswer::NoSingle => write_three(2, 0, 0, out),
-        SuggestAnswer::Refused(_) => {}
+    let Ok(suggested) = answer else {
+        return;
+    };
+    match suggested {
+        Suggested::Accepted => write_three(0, 0, 0, out),
+        Suggested::Named(variable, code) => write_three(1, variable, code, out),
+        Suggested::NoSingle => write_three(2, 0, 0, out),
     }
 }

@@ -1,5 +1,6 @@
 -- Document 02's row for Ask 13: `$p $o` with `p:speed $o`, variables numbered $g 0, $s 1, $p 2, $o 3. The definition lists some 40,000 assignments for it;
 -- the tables give the same at once.
+use Rattle.std.specs.Prelude.{Ok}
 use Prim.Native.Nat.{ℕ}
 use mathlib.Core.Path.{◌≡◌, refl, ap, sym, ◌∙◌}
 use mathlib.Core.List.{List, [], ◌∷◌, ◌++◌}
@@ -16,7 +17,7 @@ use Rattle.definitions.specs.Typing.{Written, no_greatest, written_types}
 use Rattle.definitions.specs.Suggest.{lowest_in}
 use Rattle.definitions.specs.Result.{passed}
 use Rattle.definitions.specs.Calls.{Parsed, read_tests, constants_of, suggest_answer, suggest_result, suggest}
-use Rattle.definitions.specs.declared.SuggestAnswer.TheVariants as SuggestAnswers
+use Rattle.definitions.specs.declared.Suggested.TheVariants as Suggests
 use Rattle.definitions.proofs.Opened.{open_lists, open_bytes, open_ascii, open_terms, open_text, open_reading, open_scope, open_typing, open_suggest, open_machine, open_result, open_calls}
 use Rattle.laws.specs.Lists.{up_from}
 use Rattle.laws.specs.Sorts.{least}
@@ -76,7 +77,7 @@ unfolding opened pattern_with root found open_terms open_ascii open_scope open_t
 lowest = refl
 
 -- it is variable 2, code 11
-document-row : suggest [] schema script ≡ SuggestAnswers.Named 2 11
+document-row : suggest [] schema script ≡ Ok (Suggests.Named 2 11)
 unfolding suggest suggest_result suggest_answer found
 document-row =
     ap suggest_result reads

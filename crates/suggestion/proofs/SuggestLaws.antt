@@ -1,4 +1,10 @@
 -- What is suggested for a script, read off its tables.
+use Rattle.std.specs.Prelude.{Ok, Err}
+use Rattle.definitions.specs.Result.{OrRefusal}
+use Rattle.definitions.specs.declared.Refusal.{Refusal}
+use Rattle.definitions.specs.declared.Refusal.TheVariants.{NoTyping, NoGreatest}
+use Rattle.definitions.specs.declared.Suggested.{Suggested}
+use Rattle.definitions.specs.declared.Suggested.TheVariants as Suggests
 use Prim.Native.Nat.{ℕ, ◌≤◌, ◌<◌}
 use native.Mathlib.Omega.{arith}
 use mathlib.Core.Path.{◌≡◌, refl, sym, ap, ap₂, ◌∙◌, fun_ext}
@@ -17,10 +23,7 @@ use Rattle.definitions.specs.Scope.{variables}
 use Rattle.definitions.specs.Typing.{Written, unbound, undecided, fixed, is_open, written_types, Verdict, no_typing, no_greatest, greatest, verdict}
 use Rattle.definitions.specs.Suggest.{Suggestion, is_accepted, lowest_type, lowest_in, would_do, suggestion}
 use Rattle.definitions.specs.Calls.{suggest_answer, suggest_for}
-use Rattle.definitions.specs.declared.SuggestAnswer.{SuggestAnswer}
-use Rattle.definitions.specs.declared.SuggestAnswer.TheVariants as SuggestAnswers
 use Rattle.laws.proofs.Ranges.{split}
-use Rattle.facts.specs.declared.Answer.{Answer}
 use Rattle.facts.specs.declared.noting.Tables.{Tables}
 use Rattle.facts.specs.Infer.{read_off, tables_of, infer}
 use Rattle.facts.specs.Codes.{sorts_in, all_written}
@@ -52,6 +55,15 @@ module _ (ws : List Written) (f g : ℕ → Ty → Bool) (same : (x : ℕ) → g
       ap₂ (λ (o : Option Ty) (rest : Option Suggestion). elim o as (λ c. Option Suggestion) [ none ↦ rest | some τ ↦ some (record { variable = x; type = τ }) ])
       (type-same x) (lowest-same xs)
 
+ok-not-err : {A : Type 0} {a : A} {n : Refusal} → ◌≡◌ {A = OrRefusal A} (Ok a) (Err n) → ⊥
+ok-not-err e = let z : ◌≡◌ {A = ℕ} 0 1 = cc in omega arith
+
+same-refusal : {A : Type 0} {m n : Refusal} → ◌≡◌ {A = OrRefusal A} (Err m) (Err n) → m ≡ n
+same-refusal e = cc
+
+not-eight : NoTyping ≡ NoGreatest → ⊥
+not-eight e = let z : ◌≡◌ {A = ℕ} 0 1 = cc in omega arith
+
 -- ── of a script ─────────────────────────────────────────────────────────────────────────────
 
 module _ (constants : ℕ → Sort) (ws : List Written) (per-variable : length ws ≡ variable_limit) (s : Script) where
@@ -71,71 +83,71 @@ module _ (constants : ℕ → Sort) (ws : List Written) (per-variable : length w
   unfolding suggestion
   lowest-is = lowest-same ws (does_in t ws) (would_do constants ws s) does-would variables
 
-  abbrev answered : Verdict → SuggestAnswer
-  answered v = elim v [ no_typing ↦ SuggestAnswers.Refused 8 | no_greatest ↦ suggest_answer (suggestion constants ws s) | greatest Γ ↦ SuggestAnswers.Accepted ]
+  abbrev answered : Verdict → OrRefusal Suggested
+  answered v = elim v [ no_typing ↦ Err NoTyping | no_greatest ↦ suggest_answer (suggestion constants ws s) | greatest Γ ↦ Ok Suggests.Accepted ]
 
   pub suggested-as : (v : Verdict) → read_off t ws ≡ v → suggest_for constants ws s ≡ answered v
   unfolding suggest_for infer
   suggested-as v e = ap answered (sym (infer-is-verdict constants ws per-variable s) ∙ e)
 
-  module _ {r : Answer} (e : r ≡ answer_of ws (read_off t ws)) where
-    number_of : (v : Verdict) → read_off t ws ≡ v → r.refusal ≡ (answer_of ws v).refusal
-    number_of v q = ap (λ (a : Answer). a.refusal) (e ∙ ap (answer_of ws) q)
+  module _ {r : OrRefusal (List ℕ)} (e : r ≡ answer_of ws (read_off t ws)) where
+    answer_as : (v : Verdict) → read_off t ws ≡ v → r ≡ answer_of ws v
+    answer_as v q = e ∙ ap (answer_of ws) q
 
-    pub told-accepted : r.refusal ≡ 0 → SuggestAnswers.Accepted ≡ suggest_for constants ws s
+    pub told-accepted : {types : List ℕ} → r ≡ Ok types → Ok Suggests.Accepted ≡ suggest_for constants ws s
     unfolding answer_of
-    told-accepted n = go (read_off t ws) refl
+    told-accepted {types} n = go (read_off t ws) refl
       where
-        go : (v : Verdict) → read_off t ws ≡ v → SuggestAnswers.Accepted ≡ suggest_for constants ws s
-        go no_typing q = absurd (omega (arith, n, number_of no_typing q))
-        go no_greatest q = absurd (omega (arith, n, number_of no_greatest q))
+        go : (v : Verdict) → read_off t ws ≡ v → Ok Suggests.Accepted ≡ suggest_for constants ws s
+        go no_typing q = absurd (ok-not-err (sym n ∙ answer_as no_typing q))
+        go no_greatest q = absurd (ok-not-err (sym n ∙ answer_as no_greatest q))
         go (greatest Γ) q = sym (suggested-as (greatest Γ) q)
 
-    pub told-refused : r.refusal ≡ 8 → SuggestAnswers.Refused 8 ≡ suggest_for constants ws s
+    pub told-refused : {n : Refusal} → r ≡ Err n → (n ≡ NoGreatest → ⊥) → Err n ≡ suggest_for constants ws s
     unfolding answer_of
-    told-refused n = go (read_off t ws) refl
+    told-refused {n} f m = go (read_off t ws) refl
       where
-        go : (v : Verdict) → read_off t ws ≡ v → SuggestAnswers.Refused 8 ≡ suggest_for constants ws s
-        go no_typing q = sym (suggested-as no_typing q)
-        go no_greatest q = absurd (omega (arith, n, number_of no_greatest q))
-        go (greatest Γ) q = absurd (omega (arith, n, number_of (greatest Γ) q))
+        go : (v : Verdict) → read_off t ws ≡ v → Err n ≡ suggest_for constants ws s
+        go no_typing q = ap Err (same-refusal (sym f ∙ answer_as no_typing q)) ∙ sym (suggested-as no_typing q)
+        go no_greatest q = absurd (m (same-refusal (sym f ∙ answer_as no_greatest q)))
+        go (greatest Γ) q = absurd (ok-not-err (sym (answer_as (greatest Γ) q) ∙ f))
 
-    pub told-lowest : (r.refusal ≡ 0 → ⊥) → (r.refusal ≡ 8 → ⊥) → {a : SuggestAnswer} → a ≡ suggest_answer (lowest_in ws (does_in t ws) variables)
-        → a ≡ suggest_for constants ws s
+    pub told-lowest : r ≡ Err NoGreatest → {a : Suggested} → Ok a ≡ suggest_answer (lowest_in ws (does_in t ws) variables)
+        → Ok a ≡ suggest_for constants ws s
     unfolding answer_of
-    told-lowest n m {a} q = go (read_off t ws) refl
+    told-lowest n {a} q = go (read_off t ws) refl
       where
-        go : (v : Verdict) → read_off t ws ≡ v → a ≡ suggest_for constants ws s
-        go no_typing k = absurd (m (number_of no_typing k))
+        go : (v : Verdict) → read_off t ws ≡ v → Ok a ≡ suggest_for constants ws s
+        go no_typing k = absurd (not-eight (same-refusal (sym (answer_as no_typing k) ∙ n)))
         go no_greatest k = q ∙ ap suggest_answer lowest-is ∙ sym (suggested-as no_greatest k)
-        go (greatest Γ) k = absurd (n (number_of (greatest Γ) k))
+        go (greatest Γ) k = absurd (ok-not-err (sym (answer_as (greatest Γ) k) ∙ n))
 
 -- ── of the bytes ────────────────────────────────────────────────────────────────────────────
 
 module _ (leasts s written : List ℕ) (per-variable : length written ≡ variable_limit)
     (pairs : (root : Script) → parsed (length leasts) s ≡ some root → all_written written ≡ written_types root)
     {t : Tables} (tables : (root : Script) → parsed (length leasts) s ≡ some root → t ≡ tables_of (sorts_in leasts) (all_written written) root)
-    {r : Answer} (e : r ≡ answer_of (all_written written) (read_off t (all_written written))) where
+    {r : OrRefusal (List ℕ)} (e : r ≡ answer_of (all_written written) (read_off t (all_written written))) where
   abbrev ws : List Written
   ws = all_written written
 
   -- what holds of the written types holds of those that the pairs say
-  abbrev Suggests : SuggestAnswer → Type 0
-  Suggests a = (root : Script) → parsed (length leasts) s ≡ some root → a ≡ suggest_for (sorts_in leasts) (written_types root) root
+  abbrev Says : OrRefusal Suggested → Type 0
+  Says a = (root : Script) → parsed (length leasts) s ≡ some root → a ≡ suggest_for (sorts_in leasts) (written_types root) root
 
-  as-paired : {a : SuggestAnswer} → ((root : Script) → parsed (length leasts) s ≡ some root → a ≡ suggest_for (sorts_in leasts) ws root) → Suggests a
+  as-paired : {a : OrRefusal Suggested} → ((root : Script) → parsed (length leasts) s ≡ some root → a ≡ suggest_for (sorts_in leasts) ws root) → Says a
   as-paired h root p = h root p ∙ ap (λ (ws : List Written). suggest_for (sorts_in leasts) ws root) (pairs root p)
 
   read : (root : Script) → parsed (length leasts) s ≡ some root → r ≡ answer_of ws (read_off (tables_of (sorts_in leasts) ws root) ws)
   read root p = e ∙ ap (λ (t : Tables). answer_of ws (read_off t ws)) (tables root p)
 
-  pub says-accepted : r.refusal ≡ 0 → Suggests SuggestAnswers.Accepted
+  pub says-accepted : {types : List ℕ} → r ≡ Ok types → Says (Ok Suggests.Accepted)
   says-accepted n = as-paired (λ root p. told-accepted (sorts_in leasts) ws (written-length written per-variable) root (read root p) n)
 
-  pub says-refused : r.refusal ≡ 8 → Suggests (SuggestAnswers.Refused 8)
-  says-refused n = as-paired (λ root p. told-refused (sorts_in leasts) ws (written-length written per-variable) root (read root p) n)
+  pub says-refused : {n : Refusal} → r ≡ Err n → (n ≡ NoGreatest → ⊥) → Says (Err n)
+  says-refused n m = as-paired (λ root p. told-refused (sorts_in leasts) ws (written-length written per-variable) root (read root p) n m)
 
-  pub says-lowest : (r.refusal ≡ 0 → ⊥) → (r.refusal ≡ 8 → ⊥) → {a : SuggestAnswer} → a ≡ suggest_answer (lowest_in ws (does_in t ws) variables) → Suggests a
-  says-lowest n m q =
-      as-paired (λ root p. told-lowest (sorts_in leasts) ws (written-length written per-variable) root (read root p) n m
+  pub says-lowest : r ≡ Err NoGreatest → {a : Suggested} → Ok a ≡ suggest_answer (lowest_in ws (does_in t ws) variables) → Says (Ok a)
+  says-lowest n q =
+      as-paired (λ root p. told-lowest (sorts_in leasts) ws (written-length written per-variable) root (read root p) n
       (q ∙ ap (λ (t : Tables). suggest_answer (lowest_in ws (does_in t ws) variables)) (tables root p)))

@@ -8,7 +8,7 @@ ghost use Rattle.definitions.specs.Calls.{suggest_for};
 ghost use Rattle.laws.specs.ReadAnswers.{is_some};
 ghost use Rattle.facts.specs.Codes.{sorts_in};
 
-use definitions::{NO_TYPING, SuggestAnswer};
+use definitions::{Refusal, SuggestAnswer, Suggested};
 use lowest_type::lowest;
 use readoff::read_off;
 use typer::tables_of;
@@ -23,12 +23,9 @@ pub fn suggest_for(script: &[u8], leasts: &[u8]) -> SuggestAnswer
 {
     let written = written_types(script, leasts.len());
     let tables = tables_of(script, leasts, &written);
-    let answer = read_off(tables, &written);
-    if answer.refusal == 0 {
-        return SuggestAnswer::Accepted;
+    match read_off(tables, &written) {
+        Ok(_) => Ok(Suggested::Accepted),
+        Err(Refusal::NoGreatest) => Ok(lowest(tables, &written)),
+        Err(refusal) => Err(refusal),
     }
-    if answer.refusal == NO_TYPING {
-        return SuggestAnswer::Refused(NO_TYPING);
-    }
-    lowest(tables, &written)
 }

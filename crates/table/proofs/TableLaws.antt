@@ -1,14 +1,17 @@
 -- Laws of the term table: its slots, the number of a term, slots that are all different, a slot written.
+use Rattle.std.specs.Prelude.{Some, None}
+use Rattle.std.specs.Bool.{then_some}
+use Rattle.std.specs.declared.option.Option as Answer
 use Prim.Native.Nat.{ℕ, zero, suc, ◌+◌, ◌-◌, ◌*◌, ◌<◌, ◌≤◌}
 use mathlib.Core.Bool.{Bool, true, false, true≢false, not, ◌&&◌, ◌||◌, and-false}
-use mathlib.Core.List.{List, [], ◌∷◌, ◌++◌, append-nil}
+use mathlib.Core.List.{List, [], ◌∷◌, ◌++◌}
 use mathlib.Core.Option.{Option, none, some}
 use mathlib.Core.Path.{◌≡◌, refl, sym, ap, ap₂, ◌∙◌}
 use native.Mathlib.Numerals.{add-one}
 use native.Mathlib.Omega.{arith}
 use lib.Dec.{ltb, leb-suc-suc}
 use lib.ListN.{length, get_or, take, drop, replicate, get_elem?, length-take, length-drop, drop_of_length-le, take-append-drop}
-use lib.Seq.{take-length, drop-length, get_or-take, get_or-drop}
+use lib.Seq.{get_or-take, get_or-drop}
 use borrow.Author.Tests.{eq-eqb, ne_eqb, lt-ltb, le-ltb, not-true, not-false}
 use borrow.Rule.Slice.PartMut.{put_mid}
 use Rattle.definitions.specs.Limits.{slot_width, term_limit, term_table_width}
@@ -23,9 +26,6 @@ use Rattle.laws.proofs.Equality.{same-term, term-refl}
 use Rattle.laws.proofs.Slots.{slot-inv}
 use Rattle.laws.proofs.SlotAt.{terms-few, slot_at}
 use Rattle.laws.proofs.RecordsAt.{term-forward}
-use Rattle.fields.specs.declared.Counted.TheVariants as Counts
-use Rattle.definitions.specs.declared.Read.{Read}
-use Rattle.definitions.specs.declared.Read.TheVariants.{Next, Malformed}
 use Rattle.laws.specs.ReadAnswers.{is_some, next_of}
 use Rattle.fields.specs.Answers.{count_of, distinct_in}
 use Rattle.table.specs.Table.{HoldsTerms, Begun, GoodSlot, number_from, number_in, slot_set}
@@ -37,12 +37,12 @@ use Rattle.fields.proofs.SameLaws.{Compared, test-is}
 
 -- ── a slot ──────────────────────────────────────────────────────────────────────────────────
 
-module _ (slot : List ℕ) {r : Read} (e : r ≡ next_of (read_term slot 0)) where
-  pub slot-bad : r ≡ Malformed → false ≡ is_some (slot_term slot)
+module _ (slot : List ℕ) {r : Answer.Option ℕ} (e : r ≡ next_of (read_term slot 0)) where
+  pub slot-bad : r ≡ None → false ≡ is_some (slot_term slot)
   unfolding slot_term onward
   slot-bad m = rw (next-lost (read_term slot 0) (sym e ∙ m))
 
-  module _ {n : ℕ} (m : r ≡ Next n) where
+  module _ {n : ℕ} (m : r ≡ Some n) where
     read : (t : Term) × (read_term slot 0 ≡ some (t, n))
     read = next-got (read_term slot 0) (sym e ∙ m)
 
@@ -63,9 +63,9 @@ same-slot-terms a b x y {r} ha hb la lb e f c =
 -- ── how many terms ──────────────────────────────────────────────────────────────────────────
 
 module _ (table : List ℕ) (n at : ℕ) where
-  pub from_end : term_limit ≤ n → count_from {A = Term} n (terms_from (term_limit - n) table at) ≡ Counts.Count n
+  pub from_end : term_limit ≤ n → count_from {A = Term} n (terms_from (term_limit - n) table at) ≡ Some n
   unfolding terms_from count_from
-  from_end h = let z : term_limit - n ≡ 0 = omega arith in rw z (ap Counts.Count (omega arith))
+  from_end h = let z : term_limit - n ≡ 0 = omega arith in rw z (ap Some (omega arith))
 
   module _ (h : n < term_limit) where
     one_left : term_limit - n ≡ suc (term_limit - (n + 1))
@@ -75,19 +75,26 @@ module _ (table : List ℕ) (n at : ℕ) where
       zero_test : all_zero (drop at table) ≡ z
       zero_test = sym (f ∙ ap all_zero (rest_part table at))
 
-      pub from-zeros : z ≡ true → count_from {A = Term} n (terms_from (term_limit - n) table at) ≡ Counts.Count n
+      from-zeros : z ≡ true → count_from {A = Term} n (terms_from (term_limit - n) table at) ≡ Some n
       unfolding terms_from provided count_from
-      from-zeros q = rw (one_left, eq-eqb (byte table at) 0 e, terms_from, zero_test ∙ q) (ap Counts.Count (omega arith))
+      from-zeros q = rw (one_left, eq-eqb (byte table at) 0 e, terms_from, zero_test ∙ q) (ap Some (omega arith))
 
-      pub from-rubbish : z ≡ false → count_from {A = Term} n (terms_from (term_limit - n) table at) ≡ Counts.Malformed
+      from-rubbish : z ≡ false → count_from {A = Term} n (terms_from (term_limit - n) table at) ≡ None
       unfolding terms_from provided count_from
       from-rubbish q = rw (one_left, eq-eqb (byte table at) 0 e, terms_from, zero_test ∙ q)
+
+      pub from-zero : count_from {A = Term} n (terms_from (term_limit - n) table at) ≡ then_some z n
+      from-zero = go z refl
+        where
+          go : (t : Bool) → z ≡ t → count_from {A = Term} n (terms_from (term_limit - n) table at) ≡ then_some t n
+          go true q = from-zeros q
+          go false q = from-rubbish q
 
     module _ (k : byte table at ≡ 0 → ⊥) {r : Bool} (f : r ≡ is_some (slot_term (part table at (at + slot_width - at)))) where
       slot-test : is_some (slot_term (part table at slot_width)) ≡ r
       slot-test = sym (rw (some-part table at slot_width) at f)
 
-      pub from-bad : not r ≡ true → count_from {A = Term} n (terms_from (term_limit - n) table at) ≡ Counts.Malformed
+      pub from-bad : not r ≡ true → count_from {A = Term} n (terms_from (term_limit - n) table at) ≡ None
       unfolding terms_from onward count_from
       from-bad q = rw (one_left, ne_eqb (byte table at) 0 k, terms_from, is_none (slot_term (part table at slot_width)) (slot-test ∙ not-true r q))
 
@@ -99,7 +106,7 @@ module _ (table : List ℕ) (n at : ℕ) where
         where
           go : (t : Term) (o : Option (List Term)) → count_from n (onward o (λ ts. some (t ∷ ts))) ≡ count_from (n + 1) o
           go t none = refl
-          go t (some ts) = ap Counts.Count (omega arith)
+          go t (some ts) = ap Some (omega arith)
 
 -- a slot that begins with zero holds none
 none_at_zero : (slot : List ℕ) → byte slot 0 ≡ 0 → is_some (slot_term slot) ≡ false
@@ -126,7 +133,7 @@ module _ (table : List ℕ) where
 
 -- ── the number of a term ────────────────────────────────────────────────────────────────────
 
-counted-length : {A : Type 0} (xs : List A) {n : ℕ} → count_of (some xs) ≡ Counts.Count n → length xs ≡ n
+counted-length : {A : Type 0} (xs : List A) {n : ℕ} → count_of (some xs) ≡ Some n → length xs ≡ n
 unfolding count_of
 counted-length xs e = cc
 

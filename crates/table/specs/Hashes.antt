@@ -1,5 +1,6 @@
 -- Hashes of slots: equal slots have equal hashes.
-use Rattle.std.specs.Prelude.{ℕ, zero, suc, ◌+◌, ◌*◌, ◌/◌, ◌%◌, ◌≤◌, ◌<◌, cond, List, [], ◌∷◌, ◌≡◌, eqb, length, get_or}
+use Rattle.std.specs.Prelude.{ℕ, zero, suc, ◌+◌, ◌*◌, ◌/◌, ◌%◌, ◌≤◌, ◌<◌, Bool, true, false, cond, List, [], ◌∷◌, ◌≡◌, eqb, ltb, length, get_or, Some, None}
+use Rattle.std.specs.declared.option.Option as Answer
 use Rattle.definitions.specs.Limits.{entry_width, slot_width, entry_limit, schema_width, text_width}
 use Rattle.definitions.specs.Bytes.{byte, word, part, filled}
 
@@ -20,6 +21,19 @@ hash_of slot = (hash_sum slot_words 0 slot + byte slot (2 * slot_words) * slot_w
 unfoldable pub place_in : ℕ → List ℕ → ℕ
 place_in x [] = 0
 place_in x (y ∷ ys) = cond (eqb x y) 0 (1 + place_in x ys)
+
+-- a number where it is below a bound
+unfoldable pub below : (n i : ℕ) → Answer.Option ℕ
+below n i = cond (ltb i n) (Some i) None
+
+-- none of the numbers from one to another that have a hash passes a test
+abbrev pub NoneWith : (Test : ℕ → Bool → Type 0) (hashes : List ℕ) (hash from to : ℕ) → Type 0
+NoneWith Test hashes hash from to = (j : ℕ) → from ≤ j → j < to → get_or hashes j 0 ≡ hash → Test j false
+
+-- the first number from one on that has a hash and passes a test
+pub record FirstWith (Test : ℕ → Bool → Type 0) (hashes : List ℕ) (hash from : ℕ) (found : Answer.Option ℕ) : Type 0 where
+  pub some : (i : ℕ) → found ≡ Some i → (from ≤ i) × (i < length hashes) × (get_or hashes i 0 ≡ hash) × Test i true × NoneWith Test hashes hash from i
+  pub none : found ≡ None → NoneWith Test hashes hash from (length hashes)
 
 -- the slot of a number
 abbrev pub slot_at : (table : List ℕ) → ℕ → List ℕ

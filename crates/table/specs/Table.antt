@@ -1,4 +1,6 @@
 -- The term table: what it holds, the number of a term, and a term that joins.
+use Rattle.std.specs.Prelude.{Some, None}
+use Rattle.std.specs.declared.option.Option as Answer
 use Rattle.std.specs.Prelude.{ℕ, ◌+◌, ◌*◌, ◌≤◌, ◌<◌, true, cond, List, [], ◌++◌, ◌≡◌, leb, length, take, drop}
 use Rattle.std.proofs.Math.Option.{Option, none, some}
 use Rattle.definitions.specs.Limits.{slot_width, term_limit, term_table_width}
@@ -6,9 +8,6 @@ use Rattle.definitions.specs.Bytes.{part}
 use Rattle.definitions.specs.Terms.{Term}
 use Rattle.definitions.specs.Machine.{numbered}
 use Rattle.definitions.specs.Saved.{term_table, slot_term, terms_in}
-use Rattle.table.specs.declared.Added.{Added}
-use Rattle.table.specs.declared.Added.TheVariants.{Count, Full}
-use Rattle.fields.specs.declared.Counted.TheVariants as Counts
 use Rattle.laws.specs.Lists.{All}
 use Rattle.laws.specs.ReadAnswers.{is_some}
 use Rattle.laws.specs.Valid.{Valid}
@@ -17,7 +16,7 @@ use Rattle.fields.specs.Answers.{count_of}
 -- a table that holds n terms
 pub record HoldsTerms (table : List ℕ) (n : ℕ) : Type 0 where
   pub width : length table ≡ term_table_width
-  pub count : count_of (terms_in table) ≡ Counts.Count n
+  pub count : count_of (terms_in table) ≡ Some n
 
 -- these n
 pub record HeldTerms (table : List ℕ) (n : ℕ) (ts : List Term) : Type 0 where
@@ -64,8 +63,8 @@ list_of none = []
 list_of (some xs) = xs
 
 -- how many there are, and the table of those that it has room for
-unfoldable pub added_of : List Term → Added
-added_of ts = cond (leb (length ts) term_limit) (Count (length ts)) Full
+unfoldable pub added_of : List Term → Answer.Option ℕ
+added_of ts = cond (leb (length ts) term_limit) (Some (length ts)) None
 
 unfoldable pub table_of : List Term → List ℕ
 table_of ts = term_table (take term_limit ts)

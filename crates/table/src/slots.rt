@@ -6,12 +6,11 @@ ghost use Rattle.definitions.specs.Terms.{same_term};
 ghost use Rattle.definitions.specs.Saved.{slot_term, terms_in};
 ghost use Rattle.laws.specs.ReadAnswers.{is_some};
 ghost use Rattle.fields.specs.Answers.{count_of, distinct_in};
-ghost use Rattle.table.specs.Hashes.{Hashed};
+ghost use Rattle.table.specs.Hashes.{below, Hashed};
 ghost use Rattle.table.specs.Table.{HoldsTerms, Begun, GoodSlot, number_in, slot_set};
 
 use crate::hashes::{find_slot, hash_of, slot_again};
-use definitions::{Read, SLOT_WIDTH, TERM_LIMIT};
-use fields::Counted;
+use definitions::{SLOT_WIDTH, TERM_LIMIT};
 use fields::numbers::{is_zero, number_index};
 use record_reading::read_term;
 
@@ -19,48 +18,40 @@ use record_reading::read_term;
 pub fn slot_ok(slot: &[u8]) -> bool
     ensures { result ≡ is_some (slot_term slot.now) }
 {
-    let Read::Next(end) = read_term(slot, 0) else {
-        return false;
-    };
-    is_zero(&slot[end..])
+    match read_term(slot, 0) {
+        Some(end) => is_zero(&slot[end..]),
+        None => false,
+    }
 }
 
 // How many terms a table holds; its first slots, so many, are known to hold some.
 // Ruled out: a count past a slot of zeros; rubbish after the last let pass.
-pub fn used_terms(table: &[u8], first: usize) -> Counted
+pub fn used_terms(table: &[u8], first: usize) -> Option<usize>
     requires { Begun table.now first }
     ensures { result ≡ count_of (terms_in table.now) }
 {
-    let mut n = first;
-    let mut at = first * SLOT_WIDTH;
-    while n < TERM_LIMIT {
+    for n in first..TERM_LIMIT {
+        let at = n * SLOT_WIDTH;
         if table[at] == 0 {
-            if is_zero(&table[at..]) {
-                return Counted::Count(n);
-            }
-            return Counted::Malformed;
+            return is_zero(&table[at..]).then_some(n);
         }
-        let end = at + SLOT_WIDTH;
-        if !slot_ok(&table[at..end]) {
-            return Counted::Malformed;
+        if !slot_ok(&table[at..at + SLOT_WIDTH]) {
+            return None;
         }
-        at = end;
-        n += 1;
     }
-    Counted::Count(n)
+    Some(TERM_LIMIT)
 }
 
-// The number of a slot's term, or the number of terms where it is not there.
+// The number of a slot's term, where it is there.
 // Ruled out: 0 for a term that is not there; the number of one like it.
-pub fn find_term(table: &[u8], n: usize, hashes: &[u16], slot: &[u8]) -> usize
+pub fn find_term(table: &[u8], n: usize, hashes: &[u16], slot: &[u8]) -> Option<usize>
     requires holds_terms { HoldsTerms table.now n }
     requires hashes_len { length hashes.now ≡ term_limit }
     requires hashed { Hashed table.now n hashes.now }
     requires good_slot { GoodSlot slot.now }
-    ensures { result ≡ number_in (slot_term slot.now) (terms_in table.now) }
+    ensures { result ≡ below n (number_in (slot_term slot.now) (terms_in table.now)) }
 {
-    let hash = hash_of(slot);
-    find_slot(table, n, hashes, slot, hash, 0)
+    find_slot(table, n, hashes, slot, hash_of(slot), 0)
 }
 
 // How many places there are for hashes: a prime, since the hashes of texts that are alike often differ by multiples of 256.
@@ -75,14 +66,10 @@ pub fn slots_distinct(table: &[u8], n: usize, hashes: &[u16]) -> bool
     ensures { result ≡ distinct_in same_term (terms_in table.now) }
 {
     let mut seen = [false; SEEN_PLACES];
-    let mut i = n;
-    while 0 < i {
-        i -= 1;
+    for i in (0..n).rev() {
         let place = number_index(hashes[i]) % SEEN_PLACES;
-        if seen[place] {
-            if slot_again(table, n, hashes, i) < n {
-                return false;
-            }
+        if seen[place] && slot_again(table, n, hashes, i).is_some() {
+            return false;
         }
         seen[place] = true;
     }

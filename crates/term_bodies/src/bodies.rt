@@ -30,12 +30,7 @@ pub fn body_ok(kind: u8, body: &[u8]) -> bool
 {
     match kind {
         0x11 => uri_ok(body),
-        0x12 => {
-            if !tag_ok(&body[..TAG_WIDTH]) {
-                return false;
-            }
-            text_ok(&body[TAG_WIDTH..])
-        }
+        0x12 => tag_ok(&body[..TAG_WIDTH]) && text_ok(&body[TAG_WIDTH..]),
         0x13 => within(long_at(body, 0), INTEGER_LIMIT, INTEGER_LIMIT),
         0x14 => within(long_at(body, 0), DECIMAL_LIMIT, DECIMAL_LIMIT),
         0x15 => within(long_at(body, 0), SECONDS_BEFORE, SECONDS_AFTER),

@@ -18,12 +18,9 @@ pub fn field_ok(field: &[u8], low: u8, high: u8, other: u8) -> bool
 {
     let mut ok = true;
     let mut before = 1;
-    let mut i = 0;
-    while i < field.len() {
-        let b = field[i];
-        ok = ok & ((b == 0) | ((before != 0) & byte_ok(b, low, high, other)));
+    for &b in field {
+        ok &= (b == 0) | ((before != 0) & byte_ok(b, low, high, other));
         before = b;
-        i += 1;
     }
     ok
 }
@@ -33,10 +30,7 @@ pub fn uri_ok(field: &[u8]) -> bool
     requires { length field.now ≡ text_width }
     ensures { result ≡ is_some (uri_text field.now) }
 {
-    if field[0] == 0 {
-        return false;
-    }
-    field_ok(field, 0x21, 0x7e, 0x7e)
+    field[0] != 0 && field_ok(field, 0x21, 0x7e, 0x7e)
 }
 
 // A string's text: bytes from 20 to 7E, or none. Ruled out: byte 7F; an empty text refused.

@@ -1,24 +1,32 @@
 -- The order of texts, byte by byte.
-use Prim.Native.Nat.{ℕ, ◌+◌, ◌-◌, ◌≤◌, ◌<◌}
+use Prim.Native.Nat.{ℕ, suc, ◌-◌, ◌≤◌, ◌<◌}
 use mathlib.Core.Bool.{Bool, true, false, ◌&&◌, ◌||◌, or-false}
 use mathlib.Core.List.{List, [], ◌∷◌}
-use mathlib.Core.Path.{◌≡◌, refl, sym, ap₂, ◌∙◌}
+use mathlib.Core.Path.{◌≡◌, refl, sym, ap, ap₂, ◌∙◌}
 use native.Mathlib.Omega.{arith}
 use lib.Dec.{T, eqb, leb, ltb, leb→le, eqb→eq}
 use lib.ListN.{length}
 use borrow.Author.Tests.{eq-eqb, ne_eqb, lt-ltb, le-ltb, ltb-true, ltb-false, eqb-true, eqb-false}
 use Rattle.definitions.specs.Lists.{every}
-use Rattle.definitions.specs.Bytes.{byte, unfilled, same_bytes}
+use Rattle.definitions.specs.Bytes.{unfilled, same_bytes}
 use Rattle.definitions.specs.Terms.{text_byte}
 use Rattle.definitions.specs.Values.{before, rank_in}
 use Rattle.laws.specs.Lists.{up_from}
 use Rattle.laws.proofs.Tests.{and_left, and_right}
 use Rattle.laws.proofs.Ranges.{every_in}
-use Rattle.matching.proofs.FieldLaws.{rest, rest_out, rest_end, rest_more, rest-passes}
+use Rattle.matching.proofs.FieldLaws.{unfilled-end, unfilled-more}
 
 -- a byte from 20 to 7E has its place in a table of 95
 pub place : (b : ℕ) → T (text_byte b) → (0x20 ≤ b) × (b - 0x20 < 95)
 place b h = let low = leb→le 0x20 b (and_left (leb 0x20 b) (leb b 0x7E) h) in let high = leb→le b 0x7E (and_right (leb 0x20 b) (leb b 0x7E) h) in (low, omega arith)
+
+-- the rests of two lists of one length
+length-zero : (s : List ℕ) → length s ≡ 0 → s ≡ []
+length-zero [] h = refl
+length-zero (x ∷ s) h = absurd (omega arith)
+
+tails : {xs ys s t : List ℕ} {x y : ℕ} → (xs ≡ x ∷ s) × (ys ≡ y ∷ t) → length xs ≡ length ys → length s ≡ length t
+tails {xs} {ys} {s} {t} {x} {y} e h = let p : length xs ≡ suc (length s) = ap length e.0 in let q : length ys ≡ suc (length t) = ap length e.1 in omega arith
 
 -- ── before ──────────────────────────────────────────────────────────────────────────────────
 
@@ -36,65 +44,94 @@ module _ (rank : ℕ → ℕ) where
   unfolding before
   before-equal x y s t e = rw (le-ltb (rank x) (rank y) (omega arith), eq-eqb (rank x) (rank y) e)
 
-  -- what is known where the first i bytes have equal ranks
-  pub record Ordered (a b : List ℕ) (i : ℕ) : Type 0 where
-    pub same : before rank (unfilled a) (unfilled b) ≡ before rank (rest a i) (rest b i)
-    pub left : T (every text_byte (rest a i))
-    pub right : T (every text_byte (rest b i))
-    pub within : i ≤ length a
+  -- what is known of the bytes still to come, where those before them have equal ranks
+  pub record Ordered (a b xs ys : List ℕ) : Type 0 where
+    pub same : before rank (unfilled a) (unfilled b) ≡ before rank (unfilled xs) (unfilled ys)
+    pub left : T (every text_byte (unfilled xs))
+    pub right : T (every text_byte (unfilled ys))
+    pub lengths : length xs ≡ length ys
 
-  pub order-start : (a b : List ℕ) → T (every text_byte (unfilled a)) → T (every text_byte (unfilled b)) → Ordered a b 0
-  order-start a b p q = record { same = refl; left = p; right = q; within = omega arith }
+  pub order-start : {a b xs ys : List ℕ} → xs ≡ a → ys ≡ b → T (every text_byte (unfilled a)) → T (every text_byte (unfilled b)) → length a ≡ length b → Ordered a b xs ys
+  order-start e f p q l = rw (e, f) (record { same = refl; left = p; right = q; lengths = l })
 
-  module _ (a b : List ℕ) (i : ℕ) (o : Ordered a b i) where
-    pub order-out : length a ≤ i → length b ≤ i → false ≡ before rank (unfilled a) (unfilled b)
-    unfolding before
-    order-out h k = sym (o.same ∙ rw (rest_out a i h, rest_out b i k))
+  module _ {a b xs ys : List ℕ} (o : Ordered a b xs ys) where
+    pub order-out : length xs ≡ 0 → false ≡ before rank (unfilled a) (unfilled b)
+    unfolding before unfilled
+    order-out h = sym (o.same ∙ rw (length-zero xs h, length-zero ys (sym o.lengths ∙ h)))
 
-    module _ (h : i < length a) (k : i < length b) where
-      pub order-end : byte b i ≡ 0 → false ≡ before rank (unfilled a) (unfilled b)
-      order-end e = sym (o.same ∙ rw (rest_end b i k e) (before-end (rest a i)))
+    module _ {x y : ℕ} {s t : List ℕ} (e : (xs ≡ x ∷ s) × (ys ≡ y ∷ t)) where
+      from-here : before rank (unfilled a) (unfilled b) ≡ before rank (unfilled (x ∷ s)) (unfilled (y ∷ t))
+      from-here = o.same ∙ ap₂ (λ v w. before rank (unfilled v) (unfilled w)) e.0 e.1
 
-      module _ (y : byte b i ≡ 0 → ⊥) where
-        pub order-first : byte a i ≡ 0 → true ≡ before rank (unfilled a) (unfilled b)
+      pub order-end : y ≡ 0 → false ≡ before rank (unfilled a) (unfilled b)
+      order-end z = sym (from-here ∙ rw (unfilled-end y t z) (before-end (unfilled (x ∷ s))))
+
+      module _ (ny : y ≡ 0 → ⊥) where
+        pub order-first : x ≡ 0 → true ≡ before rank (unfilled a) (unfilled b)
         unfolding before
-        order-first e = sym (o.same ∙ rw (rest_end a i h e, rest_more b i k y))
+        order-first z = sym (from-here ∙ rw (unfilled-end x s z, unfilled-more y t ny))
 
-        module _ (x : byte a i ≡ 0 → ⊥) where
-          pub order_other : (p q : ℕ) → p ≡ rank (byte a i) → q ≡ rank (byte b i) → (p ≡ q → ⊥) → ltb p q ≡ before rank (unfilled a) (unfilled b)
-          order_other p q ep eq n =
-              sym (o.same ∙ (rw (rest_more a i h x, rest_more b i k y) (before-other (byte a i) (byte b i) (rest a (i + 1)) (rest b (i + 1)) (λ e. n (ep ∙ (e ∙ sym eq))) ∙ sym (ap₂ ltb ep eq))))
+        right-passes : T (text_byte y && every text_byte (unfilled t))
+        right-passes = rw (e.1, unfilled-more y t ny) at o.right
 
-          pub order-more : (p q : ℕ) → p ≡ rank (byte a i) → q ≡ rank (byte b i) → p ≡ q → Ordered a b (i + 1)
-          order-more p q ep eq e =
+        pub right-byte : T (text_byte y)
+        right-byte = and_left (text_byte y) (every text_byte (unfilled t)) right-passes
+
+        module _ (nx : x ≡ 0 → ⊥) where
+          left-passes : T (text_byte x && every text_byte (unfilled s))
+          left-passes = rw (e.0, unfilled-more x s nx) at o.left
+
+          pub left-byte : T (text_byte x)
+          left-byte = and_left (text_byte x) (every text_byte (unfilled s)) left-passes
+
+          both-more : before rank (unfilled a) (unfilled b) ≡ before rank (x ∷ unfilled s) (y ∷ unfilled t)
+          both-more = from-here ∙ rw (unfilled-more x s nx, unfilled-more y t ny)
+
+          pub order_other : (p q : ℕ) → p ≡ rank x → q ≡ rank y → (p ≡ q → ⊥) → ltb p q ≡ before rank (unfilled a) (unfilled b)
+          order_other p q ep eq n = sym (both-more ∙ (before-other x y (unfilled s) (unfilled t) (λ r. n (ep ∙ (r ∙ sym eq))) ∙ sym (ap₂ ltb ep eq)))
+
+          pub order-more : (p q : ℕ) → p ≡ rank x → q ≡ rank y → p ≡ q → Ordered a b s t
+          order-more p q ep eq r =
               record {
-                same = o.same ∙ rw (rest_more a i h x, rest_more b i k y) (before-equal (byte a i) (byte b i) (rest a (i + 1)) (rest b (i + 1)) (sym ep ∙ (e ∙ eq)));
-                left = rest-passes a i text_byte h x o.left;
-                right = rest-passes b i text_byte k y o.right;
-                within = omega arith;
+                same = both-more ∙ before-equal x y (unfilled s) (unfilled t) (sym ep ∙ (r ∙ eq));
+                left = and_right (text_byte x) (every text_byte (unfilled s)) left-passes;
+                right = and_right (text_byte y) (every text_byte (unfilled t)) right-passes;
+                lengths = tails e o.lengths;
               }
 
 -- ── the same text ───────────────────────────────────────────────────────────────────────────
 
-module _ (a b : List ℕ) (i : ℕ) (same : same_bytes (unfilled a) (unfilled b) ≡ same_bytes (rest a i) (rest b i)) where
-  pub same_out : length a ≤ i → length b ≤ i → true ≡ same_bytes (unfilled a) (unfilled b)
-  same_out h k = sym (same ∙ rw (rest_out a i h, rest_out b i k))
+-- what is known of the bytes still to come, where those before them are equal
+pub record Same (a b xs ys : List ℕ) : Type 0 where
+  pub same : same_bytes (unfilled a) (unfilled b) ≡ same_bytes (unfilled xs) (unfilled ys)
+  pub lengths : length xs ≡ length ys
 
-  module _ (h : i < length a) (k : i < length b) where
-    pub same_end : byte a i ≡ byte b i → byte a i ≡ 0 → true ≡ same_bytes (unfilled a) (unfilled b)
-    same_end e z = sym (same ∙ rw (rest_end a i h z, rest_end b i k (sym e ∙ z)))
+pub same-start : {a b xs ys : List ℕ} → xs ≡ a → ys ≡ b → length a ≡ length b → Same a b xs ys
+same-start e f l = rw (e, f) (record { same = refl; lengths = l })
 
-    pub same_more : byte a i ≡ byte b i → (byte a i ≡ 0 → ⊥) → same_bytes (unfilled a) (unfilled b) ≡ same_bytes (rest a (i + 1)) (rest b (i + 1))
-    same_more e n = same ∙ rw (rest_more a i h n, rest_more b i k (λ z. n (e ∙ z)), eq-eqb (byte a i) (byte b i) e)
+module _ {a b xs ys : List ℕ} (o : Same a b xs ys) where
+  pub same-out : length xs ≡ 0 → true ≡ same_bytes (unfilled a) (unfilled b)
+  unfolding unfilled
+  same-out h = sym (o.same ∙ rw (length-zero xs h, length-zero ys (sym o.lengths ∙ h)))
 
-    pub same-other : (byte a i ≡ byte b i → ⊥) → false ≡ same_bytes (unfilled a) (unfilled b)
-    same-other n = sym (same ∙ go (eqb (byte a i) 0) (eqb (byte b i) 0) refl refl)
+  module _ {x y : ℕ} {s t : List ℕ} (e : (xs ≡ x ∷ s) × (ys ≡ y ∷ t)) where
+    same-here : same_bytes (unfilled a) (unfilled b) ≡ same_bytes (unfilled (x ∷ s)) (unfilled (y ∷ t))
+    same-here = o.same ∙ ap₂ (λ v w. same_bytes (unfilled v) (unfilled w)) e.0 e.1
+
+    pub same-end : x ≡ y → x ≡ 0 → true ≡ same_bytes (unfilled a) (unfilled b)
+    same-end r z = sym (same-here ∙ rw (unfilled-end x s z, unfilled-end y t (sym r ∙ z)))
+
+    pub same-more : x ≡ y → (x ≡ 0 → ⊥) → Same a b s t
+    same-more r n = record { same = same-here ∙ rw (unfilled-more x s n, unfilled-more y t (λ z. n (r ∙ z)), eq-eqb x y r); lengths = tails e o.lengths }
+
+    pub same-other : (x ≡ y → ⊥) → false ≡ same_bytes (unfilled a) (unfilled b)
+    same-other n = sym (same-here ∙ go (eqb x 0) (eqb y 0) refl refl)
       where
-        go : (p q : Bool) → eqb (byte a i) 0 ≡ p → eqb (byte b i) 0 ≡ q → same_bytes (rest a i) (rest b i) ≡ false
-        go true true e f = let u = eqb-true (byte a i) 0 e in let v = eqb-true (byte b i) 0 f in absurd (n (u ∙ sym v))
-        go true false e f = rw (rest_end a i h (eqb-true (byte a i) 0 e), rest_more b i k (eqb-false (byte b i) 0 f))
-        go false true e f = rw (rest_more a i h (eqb-false (byte a i) 0 e), rest_end b i k (eqb-true (byte b i) 0 f))
-        go false false e f = rw (rest_more a i h (eqb-false (byte a i) 0 e), rest_more b i k (eqb-false (byte b i) 0 f), ne_eqb (byte a i) (byte b i) n)
+        go : (p q : Bool) → eqb x 0 ≡ p → eqb y 0 ≡ q → same_bytes (unfilled (x ∷ s)) (unfilled (y ∷ t)) ≡ false
+        go true true e f = absurd (n (eqb-true x 0 e ∙ sym (eqb-true y 0 f)))
+        go true false e f = rw (unfilled-end x s (eqb-true x 0 e), unfilled-more y t (eqb-false y 0 f))
+        go false true e f = rw (unfilled-more x s (eqb-false x 0 e), unfilled-end y t (eqb-true y 0 f))
+        go false false e f = rw (unfilled-more x s (eqb-false x 0 e), unfilled-more y t (eqb-false y 0 f), ne_eqb x y n)
 
 -- ── by bytes ────────────────────────────────────────────────────────────────────────────────
 

@@ -20,8 +20,7 @@ fn rank(ranks: &[u8], b: u8) -> u8
     requires t { T (text_byte b) }
     ensures { result ≡ rank_in ranks.now b }
 {
-    let place = (b - FIRST_BYTE) as usize;
-    ranks[place]
+    ranks[(b - FIRST_BYTE) as usize]
 }
 
 // Whether the text in one field comes before the text in another, under ranks.
@@ -33,10 +32,7 @@ pub fn before(ranks: &[u8], a: &[u8], b: &[u8]) -> bool
     requires t_2 { T (every text_byte (unfilled b.now)) }
     ensures { result ≡ values.before (rank_in ranks.now) (unfilled a.now) (unfilled b.now) }
 {
-    let mut i = 0;
-    while i < a.len() {
-        let x = a[i];
-        let y = b[i];
+    for (&x, &y) in a.iter().zip(b) {
         if y == 0 {
             return false;
         }
@@ -48,7 +44,6 @@ pub fn before(ranks: &[u8], a: &[u8], b: &[u8]) -> bool
         if p != q {
             return p < q;
         }
-        i += 1;
     }
     false
 }
@@ -59,17 +54,13 @@ pub fn same(a: &[u8], b: &[u8]) -> bool
     requires { length a.now ≡ length b.now }
     ensures { result ≡ same_bytes (unfilled a.now) (unfilled b.now) }
 {
-    let mut i = 0;
-    while i < a.len() {
-        let x = a[i];
-        let y = b[i];
+    for (&x, &y) in a.iter().zip(b) {
         if x != y {
             return false;
         }
         if x == 0 {
             return true;
         }
-        i += 1;
     }
     true
 }

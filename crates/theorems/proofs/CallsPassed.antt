@@ -1,4 +1,5 @@
 -- What the tests of a run call and of a page call found where nothing is refused; and that a run call meets no fault.
+use Rattle.definitions.specs.declared.Refusal.TheVariants.{BadRun}
 use Prim.Native.Nat.{ℕ}
 use mathlib.Core.Path.{◌≡◌, refl, subst, ◌∙◌}
 use mathlib.Core.List.{List}
@@ -39,7 +40,7 @@ module _ (l : Lent) (saved : SavedRun) (budget : ℕ) (now : ℤ) (x : Running) 
       let p = entry-inv l saved i.1 in
       let b = bind_inv (run_in y.checked l.ranks budget now y.state) (λ o. passed (made y o)) i.2 in
       let machine = run (setting_of y.checked l.ranks now) (type_at y.checked.types) budget y.state in
-      let i₁₁ = require-after-inv 11 (leb budget budget_limit && is_date_time now) (passed machine) b.1 in
+      let i₁₁ = require-after-inv BadRun (leb budget budget_limit && is_date_time now) (passed machine) b.1 in
       let found : made y b.0 ≡ x = passed_is b.2 in
       let same : machine ≡ b.0 = passed_is i₁₁.1 in
       subst (RunPassed l saved budget now) found

@@ -1,4 +1,7 @@
 -- Demand 1, proved: each call's tests follow the table of its rules.
+use Rattle.definitions.specs.declared.Refusal.TheVariants.{WrongLength, BadTerm, TermTwice, BadEntry, PropertyTwice, BadScript, OutOfScope, NoTyping, NoGreatest, Unsound, BadRun, NoGraph, BadPage, NoRoom, BadNumberText, NoSuchNumber, TooManyEntries, BadRanks, NotFetched, ShortBuffer}
+use Rattle.std.specs.Prelude.{Ok, Err}
+use Rattle.definitions.specs.Result.{OrRefusal}
 use Prim.Native.Nat.{ℕ}
 use native.Mathlib.Omega.{arith}
 use mathlib.Core.Path.{◌≡◌, refl, sym, ap, subst, ◌∙◌}
@@ -30,12 +33,12 @@ use Rattle.definitions.specs.Calls.{Checked, constants_of, types_of, type_tests,
 use Rattle.definitions.specs.Calls.{run_in, Running, run_tests, ran_of, run_result, run_call}
 use Rattle.definitions.specs.Calls.{is_graph, page_in, take_in, Taking, page_tests, page_result, page_call, total_result, total, number_call, schema_tests, schema_result, schema_call}
 use Rattle.definitions.specs.Calls.{suggest_answer, suggest_for, suggest_result, suggest, lengths_of, both_tables_fit, publish_in, publish_tests, publish_result, publish_call}
-use Rattle.definitions.specs.Numbers.{suggest_number}
+use Rattle.definitions.specs.Numbers.{answer_number, refusal_number}
+use Rattle.definitions.specs.declared.Refusal.{Refusal}
 use Rattle.definitions.specs.Publish.{published}
 use Rattle.definitions.specs.declared.SavedRun.{SavedRun}
-use Rattle.definitions.specs.declared.RunAnswer.TheVariants as RunAnswers
-use Rattle.definitions.specs.declared.SuggestAnswer.{SuggestAnswer}
-use Rattle.definitions.specs.declared.SuggestAnswer.TheVariants as SuggestAnswers
+use Rattle.definitions.specs.declared.Suggested.{Suggested}
+use Rattle.definitions.specs.declared.Suggested.TheVariants as Suggests
 use Rattle.laws.proofs.Results.{by-bind, by_after}
 use Rattle.theorems.proofs.CallsPassed.{run-passed, run-fine, run-gives}
 use Rattle.theorems.specs.Demand1.{first_broken, is_there, if_there, read_rules, load_rules, run_rules, page_rules, number_rules, schema_rules, suggest_rules, publish_rules}
@@ -45,7 +48,7 @@ use Rattle.theorems.specs.Demand1.{LoadRefuses, RunRefuses, PageRefuses, TotalRe
 
 -- tests refuse with the number of the first rule broken, or pass where none is
 data Follows {A : Type 0} : Result A → List (ℕ × Bool) → Type 0 where
-  refuses : {n : ℕ} {rules : List (ℕ × Bool)} → n ≡ first_broken rules → (n ≡ 0 → ⊥) → Follows (refused n) rules
+  refuses : {r : Refusal} {rules : List (ℕ × Bool)} → refusal_number r ≡ first_broken rules → (refusal_number r ≡ 0 → ⊥) → Follows (refused r) rules
   passes : {a : A} {rules : List (ℕ × Bool)} → first_broken rules ≡ 0 → Follows (passed a) rules
 
 -- a rule that is kept leaves the tests after it to the rest of the table
@@ -54,7 +57,7 @@ unfolding first_broken
 kept (refuses e h) = refuses e h
 kept (passes e) = passes e
 
-broken : {A : Type 0} (n : ℕ) {rules : List (ℕ × Bool)} → (n ≡ 0 → ⊥) → Follows {A = A} (refused n) ((n, false) ∷ rules)
+broken : {A : Type 0} (r : Refusal) {rules : List (ℕ × Bool)} → (refusal_number r ≡ 0 → ⊥) → Follows {A = A} (refused r) ((refusal_number r, false) ∷ rules)
 unfolding first_broken
 broken n h = refuses refl h
 
@@ -62,14 +65,14 @@ end : {A : Type 0} {a : A} → Follows (passed a) []
 unfolding first_broken
 end = passes refl
 
-rule : {A : Type 0} (n : ℕ) → (n ≡ 0 → ⊥) → (t : Bool) {m : Result A} {rules : List (ℕ × Bool)} → Follows m rules
-    → Follows (require n t >> m) ((n, t) ∷ rules)
+rule : {A : Type 0} (r : Refusal) → (refusal_number r ≡ 0 → ⊥) → (t : Bool) {m : Result A} {rules : List (ℕ × Bool)} → Follows m rules
+    → Follows (require r t >> m) ((refusal_number r, t) ∷ rules)
 unfolding require ◌>>◌
 rule n h true k = kept k
 rule n h false k = broken n h
 
-there : {A B : Type 0} (n : ℕ) → (n ≡ 0 → ⊥) → (o : Option A) {f : A → Result B} {rules : List (ℕ × Bool)}
-    → ((a : A) → o ≡ some a → Follows (f a) rules) → Follows (given n o >>= f) ((n, is_there o) ∷ rules)
+there : {A B : Type 0} (r : Refusal) → (refusal_number r ≡ 0 → ⊥) → (o : Option A) {f : A → Result B} {rules : List (ℕ × Bool)}
+    → ((a : A) → o ≡ some a → Follows (f a) rules) → Follows (given r o >>= f) ((refusal_number r, is_there o) ∷ rules)
 unfolding given ◌>>=◌ is_there
 there n h none k = broken n h
 there n h (some a) k = kept (k a refl)
@@ -83,8 +86,8 @@ module _ {A B C : Type 0} {rules : List (ℕ × Bool)} where
   together m n k h = by_after (λ (x : Result C). Follows x rules) m n k h
 
 -- two tests with one number
-rule-there : {A B C : Type 0} (n : ℕ) → (n ≡ 0 → ⊥) → (t : Bool) (o : Option A) (f : A → Result B) (k : B → Result C) {rules : List (ℕ × Bool)}
-    → ((a : A) → o ≡ some a → Follows (f a >>= k) rules) → Follows (require n t >> ((given n o >>= f) >>= k)) ((n, t && is_there o) ∷ rules)
+rule-there : {A B C : Type 0} (r : Refusal) → (refusal_number r ≡ 0 → ⊥) → (t : Bool) (o : Option A) (f : A → Result B) (k : B → Result C) {rules : List (ℕ × Bool)}
+    → ((a : A) → o ≡ some a → Follows (f a >>= k) rules) → Follows (require r t >> ((given r o >>= f) >>= k)) ((refusal_number r, t && is_there o) ∷ rules)
 unfolding require ◌>>◌
 rule-there n h true o f k g = regroup (given n o) f k (there n h o g)
 rule-there n h false o f k g = broken n h
@@ -105,20 +108,20 @@ read-follows : {B : Type 0} (terms schema script : List ℕ) (k : Parsed → Res
 unfolding read_tests record_tests script_tests onward if_there ◌>>=◌
 read-follows terms schema script k rules more =
     regroup (record_tests terms schema) _ _
-    (regroup (given 2 (read_terms terms)) _ _
-    (there 2 (λ e. omega (arith, e)) (read_terms terms) λ listed e₂. rw e₂
-    (together (require 3 (distinct same_term listed)) _ _
-    (rule 3 (λ e. omega (arith, e)) (distinct same_term listed)
-    (regroup (given 4 (read_schema schema)) _ _
-    (there 4 (λ e. omega (arith, e)) (read_schema schema) λ S e₄. rw e₄
-    (together (require 5 (distinct same_property S)) _ _
-    (rule 5 (λ e. omega (arith, e)) (distinct same_property S)
+    (regroup (given BadTerm (read_terms terms)) _ _
+    (there BadTerm (λ e. omega (arith, e)) (read_terms terms) λ listed e₂. rw e₂
+    (together (require TermTwice (distinct same_term listed)) _ _
+    (rule TermTwice (λ e. omega (arith, e)) (distinct same_term listed)
+    (regroup (given BadEntry (read_schema schema)) _ _
+    (there BadEntry (λ e. omega (arith, e)) (read_schema schema) λ S e₄. rw e₄
+    (together (require PropertyTwice (distinct same_property S)) _ _
+    (rule PropertyTwice (λ e. omega (arith, e)) (distinct same_property S)
     (let ts = with_properties S listed in
     regroup (script_tests ts S script) _ _
-    (together (require 6 (sizes_fit ts S script)) _ _
-    (rule-there 6 (λ e. omega (arith, e)) (sizes_fit ts S script) (parsed (length ts) script) _ _ λ root e₆. rw e₆
-    (together (require 7 (in_scope root)) _ _
-    (rule 7 (λ e. omega (arith, e)) (in_scope root) (more listed S root e₂ e₄ e₆))))))))))))))
+    (together (require BadScript (sizes_fit ts S script)) _ _
+    (rule-there BadScript (λ e. omega (arith, e)) (sizes_fit ts S script) (parsed (length ts) script) _ _ λ root e₆. rw e₆
+    (together (require OutOfScope (in_scope root)) _ _
+    (rule OutOfScope (λ e. omega (arith, e)) (in_scope root) (more listed S root e₂ e₄ e₆))))))))))))))
 
 -- ── the proof: load ─────────────────────────────────────────────────────────────────────────
 
@@ -126,7 +129,7 @@ read-follows terms schema script k rules more =
 above-follows : {B : Type 0} (f : List Ty → B) (Γs all : List (List Ty))
     → Follows (types_of (first_above Γs all) >>= λ Γ. passed (f Γ)) ((9, some? (λ Γ. every (above Γ) all) Γs) ∷ [])
 unfolding first_above types_of ◌>>=◌
-above-follows f [] all = broken 9 (λ e. omega (arith, e))
+above-follows f [] all = broken NoGreatest (λ e. omega (arith, e))
 above-follows {B} f (Γ ∷ Γs) all = go (every (above Γ) all) (above-follows f Γs all)
   where
     go : (b : Bool) → Follows (types_of (first_above Γs all) >>= λ Γ. passed (f Γ)) ((9, some? (λ Γ. every (above Γ) all) Γs) ∷ [])
@@ -138,14 +141,14 @@ above-follows {B} f (Γ ∷ Γs) all = go (every (above Γ) all) (above-follows 
 judge-follows : {B : Type 0} (f : List Ty → B) (Γs : List (List Ty))
     → Follows (types_of (judge Γs) >>= λ Γ. passed (f Γ)) ((8, not (is_empty Γs)) ∷ (9, some? (λ Γ. every (above Γ) Γs) Γs) ∷ [])
 unfolding judge types_of ◌>>=◌
-judge-follows f [] = broken 8 (λ e. omega (arith, e))
+judge-follows f [] = broken NoTyping (λ e. omega (arith, e))
 judge-follows f (Γ ∷ Γs) = kept (above-follows f (Γ ∷ Γs) (Γ ∷ Γs))
 
 load-follows : (l : Lent) → Follows (load_tests l) (load_rules (lengths_fit l) l)
 unfolding load_tests check type_tests onward if_there verdict ◌>>=◌
 load-follows l =
-    rule 1 (λ e. omega (arith, e)) (lengths_fit l)
-    (rule 21 (λ e. omega (arith, e)) (is_alphabet l.ranks)
+    rule WrongLength (λ e. omega (arith, e)) (lengths_fit l)
+    (rule BadRanks (λ e. omega (arith, e)) (is_alphabet l.ranks)
     (read-follows l.terms l.schema l.script type_tests _ λ listed S root e₂ e₄ e₆.
     let ts = with_properties S listed in
     rw (e₂, e₄, e₆) (judge-follows (λ Γ. record { schema = S; terms = ts; root = root; types = Γ }) (typings (constants_of S ts) (written_types root) root))))
@@ -161,20 +164,20 @@ module _ (l : Lent) (saved : SavedRun) (budget : ℕ) (now : ℤ) where
   run-follows : Follows (run_tests l saved budget now) (run_rules (lengths_fit l) l.ranks (sound_in l saved) budget now)
   unfolding run_tests entry_tests run_in
   run-follows =
-      together (require 1 (lengths_fit l)) _ _
-      (rule 1 (λ e. omega (arith, e)) (lengths_fit l)
-      (together (require 21 (is_alphabet l.ranks)) _ _
-      (rule 21 (λ e. omega (arith, e)) (is_alphabet l.ranks)
-      (there 10 (λ e. omega (arith, e)) (sound_in l saved) λ x e₁₀.
+      together (require WrongLength (lengths_fit l)) _ _
+      (rule WrongLength (λ e. omega (arith, e)) (lengths_fit l)
+      (together (require BadRanks (is_alphabet l.ranks)) _ _
+      (rule BadRanks (λ e. omega (arith, e)) (is_alphabet l.ranks)
+      (there Unsound (λ e. omega (arith, e)) (sound_in l saved) λ x e₁₀.
       then-passes (λ o. record { checked = x.checked; state = x.state; run = o })
-      (rule 11 (λ e. omega (arith, e)) (leb budget budget_limit && is_date_time now) end)))))
+      (rule BadRun (λ e. omega (arith, e)) (leb budget budget_limit && is_date_time now) end)))))
 
   run-refuses : (r : Result Running) → Follows r (run_rules (lengths_fit l) l.ranks (sound_in l saved) budget now)
       → run_tests l saved budget now ≡ r → RunRefuses l saved budget now
   unfolding run_call run_result Outcomes.◌>>=◌ ran_of
   run-refuses (refused n) (refuses e h) q =
       record {
-        ran = record { answer = RunAnswers.Refused n; saved = saved };
+        ran = record { answer = Err n; saved = saved };
         given = rw q refl;
         number = e;
         keeps = λ k. refl;
@@ -197,15 +200,15 @@ module _ (l : Lent) (saved : SavedRun) (g : ℕ) (page : List ℕ) where
   page-follows : Follows (page_tests l saved g page) (page_rules (lengths_fit l) l.ranks (sound_in l saved) g page)
   unfolding page_tests entry_tests take_in if_there
   page-follows =
-      together (require 1 (lengths_fit l)) _ _
-      (rule 1 (λ e. omega (arith, e)) (lengths_fit l)
-      (together (require 21 (is_alphabet l.ranks)) _ _
-      (rule 21 (λ e. omega (arith, e)) (is_alphabet l.ranks)
-      (there 10 (λ e. omega (arith, e)) (sound_in l saved) λ x e₁₀. rw e₁₀
+      together (require WrongLength (lengths_fit l)) _ _
+      (rule WrongLength (λ e. omega (arith, e)) (lengths_fit l)
+      (together (require BadRanks (is_alphabet l.ranks)) _ _
+      (rule BadRanks (λ e. omega (arith, e)) (is_alphabet l.ranks)
+      (there Unsound (λ e. omega (arith, e)) (sound_in l saved) λ x e₁₀. rw e₁₀
       (then-passes (λ k. record { checked = x.checked; taken = k })
-      (rule 12 (λ e. omega (arith, e)) (is_graph (get_elem? x.state.store.terms g))
-      (there 13 (λ e. omega (arith, e)) (page_in page) λ rs e₁₃. rw e₁₃
-      (rule 14 (λ e. omega (arith, e)) (in_limits (with_page g (taken x.checked.schema g rs x.state.store) x.state.store)) end))))))))
+      (rule NoGraph (λ e. omega (arith, e)) (is_graph (get_elem? x.state.store.terms g))
+      (there BadPage (λ e. omega (arith, e)) (page_in page) λ rs e₁₃. rw e₁₃
+      (rule NoRoom (λ e. omega (arith, e)) (in_limits (with_page g (taken x.checked.schema g rs x.state.store) x.state.store)) end))))))))
 
   page-refuses : (r : Result Taking) → Follows r (page_rules (lengths_fit l) l.ranks (sound_in l saved) g page)
       → page_tests l saved g page ≡ r → PageRefuses l saved g page
@@ -231,7 +234,7 @@ module _ (terms schema script : List ℕ) where
 number-follows : (text : List ℕ) → Follows (number_call text) (number_rules text)
 unfolding number_call if_there
 number-follows text =
-    there 16 (λ e. omega (arith, e)) (numeral_of text) λ n e. rw e (no_more (given 17 (term_of n)) (there 17 (λ e. omega (arith, e)) (term_of n) (λ t k. end)))
+    there BadNumberText (λ e. omega (arith, e)) (numeral_of text) λ n e. rw e (no_more (given NoSuchNumber (term_of n)) (there NoSuchNumber (λ e. omega (arith, e)) (term_of n) (λ t k. end)))
 
 number-refuses : (text : List ℕ) (r : Result Term) → Follows r (number_rules text) → number_call text ≡ r → NumberRefuses text
 number-refuses text (refused n) (refuses e h) q = record { number = rw q e; answers = λ z. absurd (h (e ∙ z)) }
@@ -239,7 +242,7 @@ number-refuses text (passed t) (passes e) q = record { number = rw q (sym e); an
 
 -- ── the proof: suggest ──────────────────────────────────────────────────────────────────────
 
-follows-refused : {A : Type 0} {n : ℕ} {rules : List (ℕ × Bool)} → Follows {A = A} (refused n) rules → (n ≡ first_broken rules) × (n ≡ 0 → ⊥)
+follows-refused : {A : Type 0} {r : Refusal} {rules : List (ℕ × Bool)} → Follows {A = A} (refused r) rules → (refusal_number r ≡ first_broken rules) × (refusal_number r ≡ 0 → ⊥)
 follows-refused (refuses e h) = (e, h)
 
 follows-passed : {A : Type 0} {a : A} {rules : List (ℕ × Bool)} → Follows (passed a) rules → first_broken rules ≡ 0
@@ -248,26 +251,26 @@ follows-passed (passes e) = e
 module _ (terms schema script : List ℕ) where
   -- 8, over what was read
   typed : Parsed → Result (Unit {0})
-  typed x = require 8 (not (is_empty (typings (constants_of x.schema x.terms) (written_types x.root) x.root))) >> passed tt
+  typed x = require NoTyping (not (is_empty (typings (constants_of x.schema x.terms) (written_types x.root) x.root))) >> passed tt
 
   suggest-follows : Follows (read_tests terms schema script >>= typed) (suggest_rules terms schema script)
   unfolding typed onward if_there
   suggest-follows =
       read-follows terms schema script typed _ λ listed S root e₂ e₄ e₆.
       let ts = with_properties S listed in
-      rw (e₂, e₄, e₆) (rule 8 (λ e. omega (arith, e)) (not (is_empty (typings (constants_of S ts) (written_types root) root))) end)
+      rw (e₂, e₄, e₆) (rule NoTyping (λ e. omega (arith, e)) (not (is_empty (typings (constants_of S ts) (written_types root) root))) end)
 
   -- an answer that is no refusal
-  Answered : SuggestAnswer → Type 0
-  Answered a = (suggest_number a ≡ 0) × ((n : ℕ) → a ≡ SuggestAnswers.Refused n → ⊥)
+  Answered : OrRefusal Suggested → Type 0
+  Answered a = (answer_number a ≡ 0) × ((r : Refusal) → a ≡ Err r → ⊥)
 
   named-answered : (o : Option Suggestion) → Answered (suggest_answer o)
   unfolding Answered suggest_answer
   named-answered none = (refl, λ n e. let z : ◌≡◌ {A = ℕ} 0 1 = cc in omega arith)
   named-answered (some w) = (refl, λ n e. let z : ◌≡◌ {A = ℕ} 0 1 = cc in omega arith)
 
-  abbrev told : Option Suggestion → Verdict → SuggestAnswer
-  told o v = elim v [ no_typing ↦ SuggestAnswers.Refused 8 | no_greatest ↦ suggest_answer o | greatest Γ ↦ SuggestAnswers.Accepted ]
+  abbrev told : Option Suggestion → Verdict → OrRefusal Suggested
+  told o v = elim v [ no_typing ↦ Err NoTyping | no_greatest ↦ suggest_answer o | greatest Γ ↦ Ok Suggests.Accepted ]
 
   above-answered : (o : Option Suggestion) (Γs all : List (List Ty)) → Answered (told o (first_above Γs all))
   unfolding first_above Answered
@@ -294,12 +297,12 @@ module _ (terms schema script : List ℕ) where
 
       go : (Δs : List (List Ty)) → Γs ≡ Δs → Follows (typed x) (suggest_rules terms schema script) → SuggestRefuses terms schema script
       go [] e f =
-          let k = follows-refused (subst (λ (Δs : List (List Ty)). Follows (require 8 (not (is_empty Δs)) >> passed tt) (suggest_rules terms schema script)) e f) in
-          record { number = ap suggest_number (says [] e) ∙ k.0; answers = λ z. absurd (k.1 (k.0 ∙ z)) }
+          let k = follows-refused (subst (λ (Δs : List (List Ty)). Follows (require NoTyping (not (is_empty Δs)) >> passed tt) (suggest_rules terms schema script)) e f) in
+          record { number = ap answer_number (says [] e) ∙ k.0; answers = λ z. absurd (k.1 (k.0 ∙ z)) }
       go (Δ ∷ Δs) e f =
-          let k = follows-passed (subst (λ (Δs : List (List Ty)). Follows (require 8 (not (is_empty Δs)) >> passed tt) (suggest_rules terms schema script)) e f) in
+          let k = follows-passed (subst (λ (Δs : List (List Ty)). Follows (require NoTyping (not (is_empty Δs)) >> passed tt) (suggest_rules terms schema script)) e f) in
           let w = above-answered best (Δ ∷ Δs) (Δ ∷ Δs) in
-          record { number = ap suggest_number (says (Δ ∷ Δs) e) ∙ (w.0 ∙ sym k); answers = λ z n r. w.1 n (sym (says (Δ ∷ Δs) e) ∙ r) }
+          record { number = ap answer_number (says (Δ ∷ Δs) e) ∙ (w.0 ∙ sym k); answers = λ z n r. w.1 n (sym (says (Δ ∷ Δs) e) ∙ r) }
 
 -- ── the proof: a schema out of a page ───────────────────────────────────────────────────────
 
@@ -307,9 +310,9 @@ module _ (page schema : List ℕ) where
   schema-follows : Follows (schema_tests page schema) (schema_rules (eqb (length schema) schema_width) page)
   unfolding schema_tests if_there
   schema-follows =
-      rule 1 (λ e. omega (arith, e)) (eqb (length schema) schema_width)
-      (there 13 (λ e. omega (arith, e)) (page_in page) λ rs e₁₃. rw e₁₃
-      (rule 19 (λ e. omega (arith, e)) (leb (length (gathered rs).entries) entry_limit) end))
+      rule WrongLength (λ e. omega (arith, e)) (eqb (length schema) schema_width)
+      (there BadPage (λ e. omega (arith, e)) (page_in page) λ rs e₁₃. rw e₁₃
+      (rule TooManyEntries (λ e. omega (arith, e)) (leb (length (gathered rs).entries) entry_limit) end))
 
   schema-refuses : (r : Result Gathered) → Follows r (schema_rules (eqb (length schema) schema_width) page) → schema_tests page schema ≡ r → SchemaRefuses page schema
   unfolding schema_call schema_result
@@ -325,10 +328,10 @@ module _ (l : Lent) (saved : SavedRun) (g : ℕ) (buffer : List ℕ) where
   publish-follows : Follows (publish_tests l saved g (length buffer)) publish_table
   unfolding publish_tests publish_in if_there
   publish-follows =
-      rule 1 (λ e. omega (arith, e)) (both_tables_fit (lengths_of l))
-      (there 10 (λ e. omega (arith, e)) (sound_in l saved) λ x e₁₀. rw e₁₀
-      (rule 22 (λ e. omega (arith, e)) (is_in g x.state.store.fetched)
-      (rule 23 (λ e. omega (arith, e)) (leb (length (published g x.state.store)) (length buffer)) end)))
+      rule WrongLength (λ e. omega (arith, e)) (both_tables_fit (lengths_of l))
+      (there Unsound (λ e. omega (arith, e)) (sound_in l saved) λ x e₁₀. rw e₁₀
+      (rule NotFetched (λ e. omega (arith, e)) (is_in g x.state.store.fetched)
+      (rule ShortBuffer (λ e. omega (arith, e)) (leb (length (published g x.state.store)) (length buffer)) end)))
 
   publish-refuses : (r : Result (List ℕ)) → Follows r publish_table → publish_tests l saved g (length buffer) ≡ r → PublishRefuses l saved g buffer
   unfolding publish_call publish_result

@@ -1,4 +1,10 @@
 -- Demand 2, proved.
+use Rattle.definitions.specs.declared.RunEnd.{RunEnd}
+use Rattle.definitions.specs.Numbers.{refusal_number}
+use Rattle.definitions.specs.declared.Refusal.{Refusal}
+use Rattle.definitions.specs.declared.Refusal.TheVariants.{WrongLength, BadTerm, TermTwice, BadEntry, PropertyTwice, BadScript, OutOfScope, NoTyping, NoGreatest, BadRanks}
+use Rattle.std.specs.Prelude.{Ok, Err}
+use Rattle.definitions.specs.Result.{OrRefusal}
 use Prim.Native.Nat.{ℕ}
 use native.Mathlib.Omega.{arith}
 use mathlib.Core.Path.{◌≡◌, refl, sym, ap, subst, ◌∙◌}
@@ -23,14 +29,10 @@ use Rattle.definitions.specs.Alphabet.{is_alphabet}
 use Rattle.definitions.specs.Calls.{record_tests, script_tests, read_tests, type_tests, Checked, types_of, sizes_fit, check, reported_types, reported, setting_of}
 use Rattle.definitions.specs.Calls.{Lent, lengths_fit, load_tests, load_result, load}
 use Rattle.definitions.specs.Calls.{Running, run_tests, ran_of, run_result, run_call, Taking, page_tests, page_result, page_call}
-use Rattle.definitions.specs.Numbers.{load_number}
+use Rattle.definitions.specs.Numbers.{answer_number}
 use Rattle.definitions.specs.declared.SavedRun.{SavedRun}
 use Rattle.definitions.specs.declared.RunState.{RunState}
 use Rattle.definitions.specs.declared.Ran.{Ran}
-use Rattle.definitions.specs.declared.LoadAnswer.{LoadAnswer}
-use Rattle.definitions.specs.declared.LoadAnswer.TheVariants as LoadAnswers
-use Rattle.definitions.specs.declared.RunAnswer.TheVariants as RunAnswers
-use Rattle.definitions.specs.declared.PageAnswer.TheVariants as PageAnswers
 use Rattle.laws.proofs.NoFault.{ok-is, fine-at}
 use Rattle.laws.proofs.Tests.{is_true}
 use Rattle.laws.proofs.Results.{by-bind, by_after}
@@ -53,16 +55,16 @@ use Rattle.theorems.specs.Demand2.{BeforeEight, PastSeven, constants, written, L
 
 -- refused before 8 is asked, or past that
 data Reaches {A : Type 0} (P : Type 0) : Result A → Type 0 where
-  low : {n : ℕ} → BeforeEight n → Reaches P (refused n)
+  low : {r : Refusal} → BeforeEight (refusal_number r) → Reaches P (refused r)
   past : {m : Result A} → P → Reaches P m
 
-module _ {A : Type 0} {P : Type 0} (n : ℕ) (early : BeforeEight n) where
-  require-reaches : (t : Bool) {m : Result A} → (T t → Reaches P m) → Reaches P (require n t >> m)
+module _ {A : Type 0} {P : Type 0} (r : Refusal) (early : BeforeEight (refusal_number r)) where
+  require-reaches : (t : Bool) {m : Result A} → (T t → Reaches P m) → Reaches P (require r t >> m)
   unfolding require ◌>>◌
   require-reaches true k = k tt
   require-reaches false k = low early
 
-  given-reaches : {B : Type 0} (o : Option B) {f : B → Result A} → ((b : B) → o ≡ some b → Reaches P (f b)) → Reaches P (given n o >>= f)
+  given-reaches : {B : Type 0} (o : Option B) {f : B → Result A} → ((b : B) → o ≡ some b → Reaches P (f b)) → Reaches P (given r o >>= f)
   unfolding given ◌>>=◌
   given-reaches none k = low early
   given-reaches (some b) k = k b refl
@@ -77,24 +79,24 @@ module _ {A B C : Type 0} {P : Type 0} where
 load-reaches : (l : Lent) → Reaches (PastSeven l) (load_tests l)
 unfolding load_tests check read_tests record_tests script_tests ◌>>=◌
 load-reaches l =
-    require-reaches 1 (inl (omega arith, omega arith)) (lengths_fit l) λ lengths.
-    require-reaches 21 (inr refl) (is_alphabet l.ranks) λ ranks.
+    require-reaches WrongLength (inl (omega arith, omega arith)) (lengths_fit l) λ lengths.
+    require-reaches BadRanks (inr refl) (is_alphabet l.ranks) λ ranks.
     regroup (record_tests l.terms l.schema) _ _
-    (regroup (given 2 (read_terms l.terms)) _ _
-    (given-reaches 2 (inl (omega arith, omega arith)) (read_terms l.terms) λ listed reads.
-    together (require 3 (distinct same_term listed)) _ _
-    (require-reaches 3 (inl (omega arith, omega arith)) (distinct same_term listed) λ apart.
-    regroup (given 4 (read_schema l.schema)) _ _
-    (given-reaches 4 (inl (omega arith, omega arith)) (read_schema l.schema) λ S entries.
-    together (require 5 (distinct same_property S)) _ _
-    (require-reaches 5 (inl (omega arith, omega arith)) (distinct same_property S) λ properties.
+    (regroup (given BadTerm (read_terms l.terms)) _ _
+    (given-reaches BadTerm (inl (omega arith, omega arith)) (read_terms l.terms) λ listed reads.
+    together (require TermTwice (distinct same_term listed)) _ _
+    (require-reaches TermTwice (inl (omega arith, omega arith)) (distinct same_term listed) λ apart.
+    regroup (given BadEntry (read_schema l.schema)) _ _
+    (given-reaches BadEntry (inl (omega arith, omega arith)) (read_schema l.schema) λ S entries.
+    together (require PropertyTwice (distinct same_property S)) _ _
+    (require-reaches PropertyTwice (inl (omega arith, omega arith)) (distinct same_property S) λ properties.
     regroup (script_tests (with_properties S listed) S l.script) _ _
-    (together (require 6 (sizes_fit (with_properties S listed) S l.script)) _ _
-    (require-reaches 6 (inl (omega arith, omega arith)) (sizes_fit (with_properties S listed) S l.script) λ sizes.
-    regroup (given 6 (parsed (length (with_properties S listed)) l.script)) _ _
-    (given-reaches 6 (inl (omega arith, omega arith)) (parsed (length (with_properties S listed)) l.script) λ root parses.
-    together (require 7 (in_scope root)) _ _
-    (require-reaches 7 (inl (omega arith, omega arith)) (in_scope root) λ scope.
+    (together (require BadScript (sizes_fit (with_properties S listed) S l.script)) _ _
+    (require-reaches BadScript (inl (omega arith, omega arith)) (sizes_fit (with_properties S listed) S l.script) λ sizes.
+    regroup (given BadScript (parsed (length (with_properties S listed)) l.script)) _ _
+    (given-reaches BadScript (inl (omega arith, omega arith)) (parsed (length (with_properties S listed)) l.script) λ root parses.
+    together (require OutOfScope (in_scope root)) _ _
+    (require-reaches OutOfScope (inl (omega arith, omega arith)) (in_scope root) λ scope.
     past (record {
       lengths = lengths;
       ranks = ranks;
@@ -111,32 +113,32 @@ load-reaches l =
     }))))))))))
 
 number-reaches : (l : Lent) (r : Result Checked) → Reaches (PastSeven l) r
-    → BeforeEight (load_number (load_result l r).returned.answer) ⊎ PastSeven l
+    → BeforeEight (answer_number (load_result l r).returned.answer) ⊎ PastSeven l
 unfolding load_result
 number-reaches l r (low early) = inl early
 number-reaches l r (past p) = inr p
 
 -- the answer that a verdict makes
-abbrev answer_of : Verdict → LoadAnswer
-answer_of no_typing = LoadAnswers.Refused 8
-answer_of no_greatest = LoadAnswers.Refused 9
-answer_of (greatest Γ) = LoadAnswers.Accepted
+abbrev answer_of : Verdict → OrRefusal Unit
+answer_of no_typing = Err NoTyping
+answer_of no_greatest = Err NoGreatest
+answer_of (greatest Γ) = Ok tt
 
 -- no two make the same
-is-accepted-answer : (v : Verdict) → answer_of v ≡ LoadAnswers.Accepted → (Γ : List Ty) × (v ≡ greatest Γ)
-is-accepted-answer no_typing e = absurd (let z : ◌≡◌ {A = ℕ} 8 0 = ap load_number e in omega arith)
-is-accepted-answer no_greatest e = absurd (let z : ◌≡◌ {A = ℕ} 9 0 = ap load_number e in omega arith)
+is-accepted-answer : (v : Verdict) → answer_of v ≡ Ok tt → (Γ : List Ty) × (v ≡ greatest Γ)
+is-accepted-answer no_typing e = absurd (let z : ◌≡◌ {A = ℕ} 8 0 = ap answer_number e in omega arith)
+is-accepted-answer no_greatest e = absurd (let z : ◌≡◌ {A = ℕ} 9 0 = ap answer_number e in omega arith)
 is-accepted-answer (greatest Γ) e = (Γ, refl)
 
-is-8 : (v : Verdict) → answer_of v ≡ LoadAnswers.Refused 8 → v ≡ no_typing
+is-8 : (v : Verdict) → answer_of v ≡ Err NoTyping → v ≡ no_typing
 is-8 no_typing e = refl
-is-8 no_greatest e = absurd (let z : ◌≡◌ {A = ℕ} 9 8 = ap load_number e in omega arith)
-is-8 (greatest Γ) e = absurd (let z : ◌≡◌ {A = ℕ} 0 8 = ap load_number e in omega arith)
+is-8 no_greatest e = absurd (let z : ◌≡◌ {A = ℕ} 9 8 = ap answer_number e in omega arith)
+is-8 (greatest Γ) e = absurd (let z : ◌≡◌ {A = ℕ} 0 8 = ap answer_number e in omega arith)
 
-is-9 : (v : Verdict) → answer_of v ≡ LoadAnswers.Refused 9 → v ≡ no_greatest
-is-9 no_typing e = absurd (let z : ◌≡◌ {A = ℕ} 8 9 = ap load_number e in omega arith)
+is-9 : (v : Verdict) → answer_of v ≡ Err NoGreatest → v ≡ no_greatest
+is-9 no_typing e = absurd (let z : ◌≡◌ {A = ℕ} 8 9 = ap answer_number e in omega arith)
 is-9 no_greatest e = refl
-is-9 (greatest Γ) e = absurd (let z : ◌≡◌ {A = ℕ} 0 9 = ap load_number e in omega arith)
+is-9 (greatest Γ) e = absurd (let z : ◌≡◌ {A = ℕ} 0 9 = ap answer_number e in omega arith)
 
 module _ (l : Lent) (p : PastSeven l) where
   -- what loading finds
@@ -211,11 +213,11 @@ module _ (l : Lent) (saved : SavedRun) (budget : ℕ) (now : ℤ) where
       }
 
   run-takes-steps : (t : Result Running) → run_tests l saved budget now ≡ t → (ran : Ran) → run_call l saved budget now ≡ ok ran
-      → (steps : ℕ) (ending : RunState) → ran.answer ≡ RunAnswers.Ran steps ending → RunTakes l saved budget now ran steps ending
+      → (steps : ℕ) (ending : RunState) → ran.answer ≡ Ok (record { steps = steps; state = ending }) → RunTakes l saved budget now ran steps ending
   unfolding run_call run_result
   run-takes-steps (refused n) q ran e steps ending a =
-      let given : run_call l saved budget now ≡ ok (record { answer = RunAnswers.Refused n; saved = saved }) = rw q refl in
-      let answer : RunAnswers.Refused n ≡ ran.answer = ap (λ (r : Ran). r.answer) (ok-is (sym given ∙ e)) in
+      let given : run_call l saved budget now ≡ ok (record { answer = Err n; saved = saved }) = rw q refl in
+      let answer : Err n ≡ ran.answer = ap (λ (r : Ran). r.answer) (ok-is (sym given ∙ e)) in
       absurd (let z : ◌≡◌ {A = ℕ} 0 1 = cc in omega arith)
   run-takes-steps (passed x) q ran e steps ending a =
       let p = run-passed l saved budget now x q in
@@ -225,13 +227,14 @@ module _ (l : Lent) (saved : SavedRun) (budget : ℕ) (now : ℤ) where
       as_said x r ran same steps ending a (machine-run x p r f.1)
     where
       as_said : (x : Running) (r : Run) (ran : Ran) → ran_of x.checked x.state r ≡ ran → (steps : ℕ) (ending : RunState)
-          → ran.answer ≡ RunAnswers.Ran steps ending → RunTakes l saved budget now (ran_of x.checked x.state r) (length r.passed) r.ending
+          → ran.answer ≡ Ok (record { steps = steps; state = ending }) → RunTakes l saved budget now (ran_of x.checked x.state r) (length r.passed) r.ending
           → RunTakes l saved budget now ran steps ending
       as_said x r ran same steps ending a takes =
-          let told : RunAnswers.Ran (length r.passed) r.ending ≡ RunAnswers.Ran steps ending =
+          let told : ◌≡◌ {A = OrRefusal RunEnd} (Ok (record { steps = length r.passed; state = r.ending })) (Ok (record { steps = steps; state = ending })) =
           unfold ran_of in ap (λ (r : Ran). r.answer) same ∙ a in
-          let count : length r.passed ≡ steps = cc in
-          let end : r.ending ≡ ending = cc in
+          let both : ◌≡◌ {A = RunEnd} (record { steps = length r.passed; state = r.ending }) (record { steps = steps; state = ending }) = cc in
+          let count : length r.passed ≡ steps = ap (λ (e : RunEnd). e.steps) both in
+          let end : r.ending ≡ ending = ap (λ (e : RunEnd). e.state) both in
           subst (λ (n : ℕ). RunTakes l saved budget now ran n ending) count
           (subst (λ (e : RunState). RunTakes l saved budget now ran (length r.passed) e) end
           (subst (λ (x : Ran). RunTakes l saved budget now x (length r.passed) r.ending) same takes))
@@ -240,10 +243,10 @@ module _ (l : Lent) (saved : SavedRun) (budget : ℕ) (now : ℤ) where
 
 module _ (l : Lent) (saved : SavedRun) (g : ℕ) (page : List ℕ) where
   page-takes : (t : Result Taking) → page_tests l saved g page ≡ t → (skipped : ℕ)
-      → (page_call l saved g page).returned.answer ≡ PageAnswers.Taken skipped → PageTakes l saved g page skipped
+      → (page_call l saved g page).returned.answer ≡ Ok skipped → PageTakes l saved g page skipped
   unfolding page_call page_result
   page-takes (refused n) q skipped a =
-      let answer : PageAnswers.Refused n ≡ PageAnswers.Taken skipped = rw q at a in
+      let answer : Err n ≡ Ok skipped = rw q at a in
       absurd (let z : ◌≡◌ {A = ℕ} 0 1 = cc in omega arith)
   page-takes (passed x) q skipped a =
       let p = taking-passed l saved g page x q in
@@ -255,7 +258,7 @@ module _ (l : Lent) (saved : SavedRun) (g : ℕ) (page : List ℕ) where
       let sound = page-sound c accepted g page s k p.sound.sound p.is_taken in
       let valid = page-keeps-valid c g page s k p.is_taken (valid-held c l.term_table l.quad_table saved s p.sound.holds) in
       let leaves = page-leaves c accepted g page s k p.sound.sound p.is_taken read.triples read.read in
-      let answer : PageAnswers.Taken k.skipped ≡ PageAnswers.Taken skipped = rw q at a in
+      let answer : Ok k.skipped ≡ Ok skipped = rw q at a in
       let count : k.skipped ≡ skipped = cc in
       record {
         checked = c;

@@ -1,4 +1,8 @@
 -- Demand 3, proved: a load's result is sound, every call keeps soundness, so refusal 10 never comes and each call does what the machine does.
+use Rattle.definitions.specs.declared.Refusal.TheVariants.{WrongLength, BadRun, NoGraph, BadPage, NoRoom}
+use Rattle.definitions.specs.declared.Refusal.{Refusal}
+use Rattle.definitions.specs.Numbers.{refusal_number}
+use Rattle.std.specs.Prelude.{Ok, Err}
 use Prim.Native.Nat.{ℕ}
 use native.Mathlib.Omega.{arith}
 use mathlib.Core.Path.{◌≡◌, refl, sym, ap, subst⁻¹, ◌∙◌}
@@ -18,8 +22,6 @@ use Rattle.definitions.specs.Result.{Result, refused, passed, require, given}
 use Rattle.definitions.specs.Calls.{Checked, check, reported, Lent, tables_fit, lengths_fit, load_tests, load_result, load, run_in, setting_of}
 use Rattle.definitions.specs.Calls.{is_graph, page_in, PageTaken, page_taken, take_in}
 use Rattle.definitions.specs.CallList.{Call, running, paging, ran, Done, run_done, page_done, machine_call, machine_calls}
-use Rattle.definitions.specs.declared.LoadAnswer.TheVariants as LoadAnswers
-use Rattle.definitions.specs.declared.RunAnswer.TheVariants as RunAnswers
 use Rattle.laws.proofs.NoFault.{ok-is, fine-ok, holds_after, holds-ok}
 use Rattle.laws.specs.Outcomes.{OrFault, holds}
 use Rattle.laws.proofs.Tests.{is_false}
@@ -44,18 +46,18 @@ record Fair (d : Done) : Type 0 where
   never_ten : number_of d.answer ≡ 10 → ⊥
   still : (number_of d.answer ≡ 0 → ⊥) → d.passed ≡ []
 
-fair-run : (n : ℕ) → (n ≡ 10 → ⊥) → OrFault Fair (run_done (refused n))
+fair-run : (n : Refusal) → (refusal_number n ≡ 10 → ⊥) → OrFault Fair (run_done (refused n))
 unfolding run_done
-fair-run n h = holds {a = record { answer = ran (RunAnswers.Refused n); passed = [] }} (record { never_ten = h; still = λ k. refl })
+fair-run n h = holds {a = record { answer = ran (Err n); passed = [] }} (record { never_ten = h; still = λ k. refl })
 
 fair-ran : (o : Outcome Run) → OrFault Fair (run_done (passed o))
 unfolding run_done
-fair-ran o = holds_after o λ r. holds {a = record { answer = ran (RunAnswers.Ran (length r.passed) r.ending); passed = r.passed }} (record {
+fair-ran o = holds_after o λ r. holds {a = record { answer = ran (Ok (record { steps = length r.passed; state = r.ending })); passed = r.passed }} (record {
   never_ten = λ e. omega (arith, e);
   still = λ h. absurd (h refl);
 })
 
-fair-page : (n : ℕ) → (n ≡ 10 → ⊥) → Fair (page_done (refused n))
+fair-page : (n : Refusal) → (refusal_number n ≡ 10 → ⊥) → Fair (page_done (refused n))
 unfolding page_done
 fair-page n h = record { never_ten = h; still = λ k. refl }
 
@@ -63,7 +65,7 @@ fair-paged : (k : PageTaken) → Fair (page_done (passed k))
 unfolding page_done
 fair-paged k = record { never_ten = λ e. omega (arith, e); still = λ h. absurd (h refl) }
 
-by-given : {A B : Type 0} (P : Result B → Type 0) (n : ℕ) (o : Option A) (f : A → Result B) → P (refused n) → ((a : A) → P (f a))
+by-given : {A B : Type 0} (P : Result B → Type 0) (n : Refusal) (o : Option A) (f : A → Result B) → P (refused n) → ((a : A) → P (f a))
     → P (Results.◌>>=◌ (given n o) f)
 unfolding given Results.◌>>=◌
 by-given P n none f h k = h
@@ -73,28 +75,28 @@ fair-call : (c : Checked) (ranks : List ℕ) (x : Call) (s : State) → OrFault 
 unfolding machine_call run_in take_in
 fair-call c ranks (running n budget now) s =
     let ask : Result (Outcome Run) → Type 0 = λ r. OrFault Fair (run_done r) in
-    by-require ask 1 (tables_fit n) _ (fair-run 1 (λ e. omega (arith, e)))
-    (by-require ask 11 (leb budget budget_limit && is_date_time now) _ (fair-run 11 (λ e. omega (arith, e)))
+    by-require ask WrongLength (tables_fit n) _ (fair-run WrongLength (λ e. omega (arith, e)))
+    (by-require ask BadRun (leb budget budget_limit && is_date_time now) _ (fair-run BadRun (λ e. omega (arith, e)))
     (fair-ran (run (setting_of c ranks now) (type_at c.types) budget s)))
 fair-call c ranks (paging n g page) s =
     let ask : Result PageTaken → Type 0 = λ r. Fair (page_done r) in
     let from14 : List Triple → Result PageTaken = λ triples.
     let k = taken c.schema g triples s.store in
-    Results.◌>>◌ (require 14 (in_limits (with_page g k s.store))) (passed (page_taken g k s)) in
-    holds (by-require ask 1 (tables_fit n) _ (fair-page 1 (λ e. omega (arith, e)))
-    (by-require ask 12 (is_graph (get_elem? s.store.terms g)) _ (fair-page 12 (λ e. omega (arith, e)))
-    (by-given ask 13 (page_in page) from14 (fair-page 13 (λ e. omega (arith, e))) λ triples.
-    by-require ask 14 (in_limits (with_page g (taken c.schema g triples s.store) s.store)) _ (fair-page 14 (λ e. omega (arith, e)))
+    Results.◌>>◌ (require NoRoom (in_limits (with_page g k s.store))) (passed (page_taken g k s)) in
+    holds (by-require ask WrongLength (tables_fit n) _ (fair-page WrongLength (λ e. omega (arith, e)))
+    (by-require ask NoGraph (is_graph (get_elem? s.store.terms g)) _ (fair-page NoGraph (λ e. omega (arith, e)))
+    (by-given ask BadPage (page_in page) from14 (fair-page BadPage (λ e. omega (arith, e))) λ triples.
+    by-require ask NoRoom (in_limits (with_page g (taken c.schema g triples s.store) s.store)) _ (fair-page NoRoom (λ e. omega (arith, e)))
     (fair-paged (page_taken g (taken c.schema g triples s.store) s)))))
 
 -- a table of another length gives 1
 pub wrong-one : (c : Checked) (ranks : List ℕ) (x : HostCall) (s : State) (d : Done) → machine_call c ranks (fed x) s ≡ ok d → Wrong (lending x) → number_of d.answer ≡ 1
 unfolding machine_call run_done page_done
 wrong-one c ranks (HostCall.running (others l saved wrong) budget now) s d e w =
-    let one = rw (require-refused 1 (run_in c ranks budget now s) (is_false (lengths_fit l) wrong)) at e in
+    let one = rw (require-refused WrongLength (run_in c ranks budget now s) (is_false (lengths_fit l) wrong)) at e in
     ap (λ (d : Done). number_of d.answer) (sym (ok-is one))
 wrong-one c ranks (HostCall.paging (others l saved wrong) g page) s d e w =
-    let one = rw (require-refused 1 (take_in c g page s) (is_false (lengths_fit l) wrong)) at e in
+    let one = rw (require-refused WrongLength (take_in c g page s) (is_false (lengths_fit l) wrong)) at e in
     ap (λ (d : Done). number_of d.answer) (sym (ok-is one))
 wrong-one c ranks (HostCall.running as_left budget now) s d e w = absurd w
 wrong-one c ranks (HostCall.paging as_left g page) s d e w = absurd w
@@ -192,12 +194,12 @@ module _ (l : Lent) (c : Checked) (loads : Loads l c) where
       }
 
 -- a load that is accepted, and what it leaves
-accepted-load : (l : Lent) (r : Result Checked) → (load_result l r).returned.answer ≡ LoadAnswers.Accepted → (c : Checked) × (r ≡ passed c)
+accepted-load : (l : Lent) (r : Result Checked) → (load_result l r).returned.answer ≡ Ok tt → (c : Checked) × (r ≡ passed c)
 unfolding load_result
 accepted-load l (refused n) e = absurd (let z : ◌≡◌ {A = ℕ} 0 1 = cc in omega arith)
 accepted-load l (passed c) e = (c, refl)
 
-pub loads-with : {l : Lent} {c : Checked} → (load l).returned.answer ≡ LoadAnswers.Accepted → check l.terms l.schema l.script ≡ passed c → Loads l c
+pub loads-with : {l : Lent} {c : Checked} → (load l).returned.answer ≡ Ok tt → check l.terms l.schema l.script ≡ passed c → Loads l c
 unfolding load
 loads-with {l} e checks =
     let k = loads-of (accepted-load l (load_tests l) e).1 in
@@ -213,7 +215,7 @@ load-types l c e = rw e refl
 
 -- ── the theorem ─────────────────────────────────────────────────────────────────────────────
 
-pub demand-3 : (l : Lent) → (load l).returned.answer ≡ LoadAnswers.Accepted → (calls : List HostCall) → Demand3 l calls
+pub demand-3 : (l : Lent) → (load l).returned.answer ≡ Ok tt → (calls : List HostCall) → Demand3 l calls
 unfolding load load_tests
 demand-3 l e calls =
     let r = accepted-load l (load_tests l) e in

@@ -1,5 +1,7 @@
 -- The demands are about something: a card as bytes is accepted, and a list of calls on bytes, some of them refused, runs it to its end.
 -- By computation; then demand 3 is applied to it, and Asks 12 and 13 to cards like it.
+use Rattle.definitions.specs.declared.Refusal.TheVariants.{WrongLength, NoGreatest, BadRun}
+use Rattle.std.specs.Prelude.{Ok, Err}
 use Prim.Native.Nat.{ℕ}
 use mathlib.Core.Path.{◌≡◌, refl, subst}
 use mathlib.Core.Bool.{false}
@@ -18,10 +20,7 @@ use Rattle.definitions.specs.Calls.{Lent, tables_fit, load, suggest}
 use Rattle.definitions.specs.CallList.{Answer, ran, paged}
 use Rattle.definitions.specs.Limits.{saved_width}
 use Rattle.definitions.specs.declared.RunState.TheVariants.{Ended, Wanted, Spent}
-use Rattle.definitions.specs.declared.LoadAnswer.TheVariants as LoadAnswers
-use Rattle.definitions.specs.declared.RunAnswer.TheVariants as RunAnswers
-use Rattle.definitions.specs.declared.PageAnswer.TheVariants as PageAnswers
-use Rattle.definitions.specs.declared.SuggestAnswer.TheVariants as SuggestAnswers
+use Rattle.definitions.specs.declared.Suggested.TheVariants as Suggests
 use Rattle.definitions.proofs.Opened.{opened}
 use Rattle.definitions.proofs.Card.{card, uri, number}
 use Rattle.theorems.specs.Hosts.{as_left, others, HostCall, running, paging, Handed, kept_after_load, engine_call, engine_calls}
@@ -36,7 +35,7 @@ use Rattle.theorems.specs.OneType.{with_code, Accepts, Suggested}
 use Rattle.theorems.proofs.OneType.{one-types}
 
 -- `Card.card`: from named c:club, an each block; term 1 is c:club
-accepted : (load card).returned.answer ≡ LoadAnswers.Accepted
+accepted : (load card).returned.answer ≡ Ok tt
 unfolding card uri number opened
 accepted = refl
 
@@ -63,13 +62,13 @@ answers_of (fault x) = []
 
 answers :
     answers_of (engine_calls card calls (kept_after_load card))
-    ≡ ran (RunAnswers.Ran 0 (Wanted 1))
-    ∷ ran (RunAnswers.Refused 1)
-    ∷ ran (RunAnswers.Refused 11)
-    ∷ paged (PageAnswers.Refused 1)
-    ∷ paged (PageAnswers.Taken 0)
-    ∷ ran (RunAnswers.Ran 1 Spent)
-    ∷ ran (RunAnswers.Ran 1 Ended)
+    ≡ ran (Ok (record { steps = 0; state = (Wanted 1) }))
+    ∷ ran (Err WrongLength)
+    ∷ ran (Err BadRun)
+    ∷ paged (Err WrongLength)
+    ∷ paged (Ok 0)
+    ∷ ran (Ok (record { steps = 1; state = Spent }))
+    ∷ ran (Ok (record { steps = 1; state = Ended }))
     ∷ []
 unfolding card uri number none calls answers_of engine_call engine_calls opened
 answers = refl
@@ -138,11 +137,11 @@ unused = record {
   quad_table = card.quad_table;
 }
 
-refused-9 : (load unused).returned.answer ≡ LoadAnswers.Refused 9
+refused-9 : (load unused).returned.answer ≡ Err NoGreatest
 unfolding unused card uri number opened
 refused-9 = refl
 
-named : suggest unused.terms unused.schema unused.script ≡ SuggestAnswers.Named 0 1
+named : suggest unused.terms unused.schema unused.script ≡ Ok (Suggests.Named 0 1)
 unfolding unused opened
 named = refl
 

@@ -1,4 +1,5 @@
 -- One call on bytes: on the saved run and the tables of a sound state it does what the machine does, and leaves those of the machine's state.
+use Rattle.definitions.specs.declared.Refusal.TheVariants.{WrongLength, BadRun, BadRanks}
 use Prim.Native.Nat.{ℕ}
 use native.Mathlib.Omega.{arith}
 use mathlib.Core.Path.{◌≡◌, refl, sym, ap, subst, ◌∙◌}
@@ -45,22 +46,22 @@ answer-of c (others l saved wrong) s d = refl
 
 -- refusal 1, as the machine tests it
 abbrev fits : Lending → Result (Unit {0})
-fits t = require 1 (tables_fit (lengths_lent t))
+fits t = require WrongLength (tables_fit (lengths_lent t))
 
 fits-as-left : {A : Type 0} (m : Result A) → (fits as_left >> m) ≡ m
 unfolding tables_fit require ◌>>◌
 fits-as-left m = refl
 
 module _ (l : Lent) (saved : SavedRun) (wrong : T (not (lengths_fit l))) where
-  fits-others : {A : Type 0} (m : Result A) → (fits (others l saved wrong) >> m) ≡ refused 1
-  fits-others m = require-refused 1 m (is_false (lengths_fit l) wrong)
+  fits-others : {A : Type 0} (m : Result A) → (fits (others l saved wrong) >> m) ≡ refused WrongLength
+  fits-others m = require-refused WrongLength m (is_false (lengths_fit l) wrong)
 
   -- a call that is lent a table of another length tests nothing else
-  run-one : (budget : ℕ) (now : ℤ) → run_tests l saved budget now ≡ refused 1
+  run-one : (budget : ℕ) (now : ℤ) → run_tests l saved budget now ≡ refused WrongLength
   unfolding run_tests
   run-one budget now = bind-refused _ (entry-one l saved (is_false (lengths_fit l) wrong))
 
-  page-one : (g : ℕ) (page : List ℕ) → page_tests l saved g page ≡ refused 1
+  page-one : (g : ℕ) (page : List ℕ) → page_tests l saved g page ≡ refused WrongLength
   unfolding page_tests
   page-one g page = bind-refused _ (entry-one l saved (is_false (lengths_fit l) wrong))
 
@@ -73,8 +74,8 @@ pub record Loads (l : Lent) (c : Checked) : Type 0 where
 pub loads-of : {l : Lent} {c : Checked} → load_tests l ≡ passed c → Loads l c
 unfolding load_tests
 loads-of {l} e =
-    let i = require-after-inv 1 (lengths_fit l) _ e in
-    let j = require-after-inv 21 (is_alphabet l.ranks) _ i.1 in
+    let i = require-after-inv WrongLength (lengths_fit l) _ e in
+    let j = require-after-inv BadRanks (is_alphabet l.ranks) _ i.1 in
     record { lengths = i.0; ranks = j.0; checks = j.1 }
 
 module _ (l : Lent) (c : Checked) (loads : Loads l c) (s : State) (sound : Sound c s) (valid : ValidIn s) where
@@ -125,9 +126,9 @@ module _ (l : Lent) (c : Checked) (loads : Loads l c) (s : State) (sound : Sound
     store_same : (t : Lending) (r : Run) → (fits t >> run_in c l.ranks budget now s) ≡ passed (ok r) → (last_of s r.passed).store ≡ s.store
     unfolding run_in
     store_same t r e =
-        let i₁ = require-after-inv 1 (tables_fit (lengths_lent t)) (run_in c l.ranks budget now s) e in
+        let i₁ = require-after-inv WrongLength (tables_fit (lengths_lent t)) (run_in c l.ranks budget now s) e in
         let machine = run (setting_of c l.ranks now) (type_at c.types) budget s in
-        let i₁₁ = require-after-inv 11 (leb budget budget_limit && is_date_time now) (passed machine) i₁.1 in
+        let i₁₁ = require-after-inv BadRun (leb budget budget_limit && is_date_time now) (passed machine) i₁.1 in
         last-all (λ x. x.store ≡ s.store) s r.passed refl (run-keeps (setting_of c l.ranks now) (type_at c.types) budget s r (passed_is i₁₁.1))
 
     run_call_lem : (t : Lending) (d : Done) → machine_call c l.ranks (fed (HostCall.running t budget now)) s ≡ ok d
@@ -198,7 +199,7 @@ module _ (l : Lent) (c : Checked) (loads : Loads l c) (s : State) (sound : Sound
         go : (m : Result PageTaken) → (fits t >> take_in c g page s) ≡ m → ValidIn (last_of s (page_done m).passed)
         go (refused n) e = valid
         go (passed k) e =
-            page-keeps-valid c g page s k (require-after-inv 1 (tables_fit (lengths_lent t)) (take_in c g page s) e).1 valid
+            page-keeps-valid c g page s k (require-after-inv WrongLength (tables_fit (lengths_lent t)) (take_in c g page s) e).1 valid
 
   -- ── any call ──────────────────────────────────────────────────────────────────────────────
 

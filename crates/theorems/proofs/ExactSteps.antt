@@ -1,4 +1,8 @@
 -- Ask 12, proved: each call leaves on the stack what its steps have not taken off it, so the steps of all calls add up.
+use Rattle.definitions.specs.declared.Refusal.{Refusal}
+use Rattle.definitions.specs.Numbers.{refusal_number}
+use Rattle.definitions.specs.declared.Refusal.TheVariants.{WrongLength, BadRun}
+use Rattle.std.specs.Prelude.{Ok, Err}
 use Prim.Native.Nat.{ℕ, ◌+◌, ◌<◌, ◌≤◌, ◌^◌}
 use native.Mathlib.Omega.{arith}
 use mathlib.Core.Path.{◌≡◌, refl, sym, ap, subst, subst⁻¹, ◌∙◌}
@@ -25,9 +29,6 @@ use Rattle.definitions.specs.Calls.{Parsed, read_tests, Checked, constants_of, t
 use Rattle.definitions.specs.CallList.{Answer, ran, paged, Done, run_done, page_done, machine_call}
 use Rattle.definitions.specs.Numbers.{state_number}
 use Rattle.definitions.specs.Exports.{run_report, saved_from}
-use Rattle.definitions.specs.declared.LoadAnswer.TheVariants as LoadAnswers
-use Rattle.definitions.specs.declared.RunAnswer.TheVariants as RunAnswers
-use Rattle.definitions.specs.declared.TotalAnswer.TheVariants as TotalAnswers
 use Rattle.laws.specs.Outcomes.{OrFault, holds}
 use Rattle.laws.proofs.NoFault.{ok-is, fine-ok, holds_after, holds-ok}
 use Rattle.laws.proofs.Tests.{is_false, or_cases}
@@ -58,17 +59,17 @@ use Rattle.theorems.specs.ExactSteps.{ExactAnswers, ExactReports, OnceLoad, Exac
 
 with-steps : (a : Answer) (later : List RunTold) → steps_of (with_run a later) ≡ steps_in a + steps_of later
 unfolding with_run steps_of
-with-steps (ran (RunAnswers.Ran steps r)) later = refl
-with-steps (ran (RunAnswers.Refused n)) later = omega arith
+with-steps (ran (Ok e)) later = refl
+with-steps (ran (Err n)) later = omega arith
 with-steps (paged a) later = omega arith
 
 -- w records are left after the answer
 with-ends : (n before w : ℕ) (a : Answer) (later : List RunTold) → before + steps_in a + w ≡ n → AnswerEnds w a
     → ((m : ℕ) → m ≡ before + steps_in a → EndsExactly n m later) → EndsExactly n before (with_run a later)
 unfolding with_run
-with-ends n before w (ran (RunAnswers.Ran steps r)) later e h k =
-    ((λ z. omega (arith, e, h.0 z), λ z. h.1 (omega (arith, e, z))), k (before + steps) refl)
-with-ends n before w (ran (RunAnswers.Refused m)) later e h k = k before (omega arith)
+with-ends n before w (ran (Ok r)) later e h k =
+    ((λ z. omega (arith, e, h.0 z), λ z. h.1 (omega (arith, e, z))), k (before + r.steps) refl)
+with-ends n before w (ran (Err m)) later e h k = k before (omega arith)
 with-ends n before w (paged a) later e h k = k before (omega arith)
 
 -- where a run has ended, no step follows
@@ -89,8 +90,8 @@ exact-of n runs s e h =
 -- ── what kind of answer a call gets ─────────────────────────────────────────────────────────
 
 abbrev RunKind : Answer → Type 0
-RunKind (ran (RunAnswers.Ran steps r)) = Unit {0}
-RunKind (ran (RunAnswers.Refused n)) = n ≡ 0 → ⊥
+RunKind (ran (Ok e)) = Unit {0}
+RunKind (ran (Err n)) = refusal_number n ≡ 0 → ⊥
 RunKind (paged a) = ⊥
 
 abbrev PageKind : Answer → Type 0
@@ -110,13 +111,13 @@ AnswersTo (x ∷ xs) (h ∷ hs) = AnswerTo x h.answer × AnswersTo xs hs
 abbrev OfRun : Done → Type 0
 OfRun d = RunKind d.answer
 
-refused-kind : (n : ℕ) → (n ≡ 0 → ⊥) → OrFault OfRun (run_done (refused n))
+refused-kind : (n : Refusal) → (refusal_number n ≡ 0 → ⊥) → OrFault OfRun (run_done (refused n))
 unfolding run_done
-refused-kind n h = holds {a = record { answer = ran (RunAnswers.Refused n); passed = [] }} h
+refused-kind n h = holds {a = record { answer = ran (Err n); passed = [] }} h
 
 ran-kind : (o : Outcome Run) → OrFault OfRun (run_done (passed o))
 unfolding run_done
-ran-kind o = holds_after o λ r. holds {a = record { answer = ran (RunAnswers.Ran (length r.passed) r.ending); passed = r.passed }} tt
+ran-kind o = holds_after o λ r. holds {a = record { answer = ran (Ok (record { steps = length r.passed; state = r.ending })); passed = r.passed }} tt
 
 page-kind : (r : Result PageTaken) → PageKind (page_done r).answer
 unfolding page_done
@@ -127,8 +128,8 @@ answer-to : (c : Checked) (ranks : List ℕ) (x : HostCall) (s : State) (d : Don
 unfolding machine_call run_in
 answer-to c ranks (HostCall.running t budget now) s d e =
     let ask : Result (Outcome Run) → Type 0 = λ r. OrFault OfRun (run_done r) in
-    let kind = by-require ask 1 (tables_fit (Hosts.lengths_lent t)) _ (refused-kind 1 (λ z. omega (arith, z)))
-    (by-require ask 11 (leb budget budget_limit && is_date_time now) _ (refused-kind 11 (λ z. omega (arith, z)))
+    let kind = by-require ask WrongLength (tables_fit (Hosts.lengths_lent t)) _ (refused-kind WrongLength (λ z. omega (arith, z)))
+    (by-require ask BadRun (leb budget budget_limit && is_date_time now) _ (refused-kind BadRun (λ z. omega (arith, z)))
     (ran-kind (run (setting_of c ranks now) (type_at c.types) budget s))) in
     (holds-ok d e kind, λ w. wrong-one c ranks (HostCall.running t budget now) s d e w)
 answer-to c ranks (HostCall.paging t g page) s d e = subst (λ (d : Done). PageKind d.answer) (ok-is e) (page-kind _)
@@ -189,12 +190,12 @@ run-reported : (t : Lending run_report_width) (a : Answer) (k : Kept) (later : L
     → let e = handed_bytes t (record { answer = a; left = k }) in
     cond (eqb e.number 0) (record { steps = little (take 4 e.report); state = byte e.report 4 } ∷ later) later ≡ with_run a later
 unfolding with_run run_report little_bytes no_tables
-run-reported (as_left report w) (ran (RunAnswers.Ran steps r)) k later h wrong b =
-    ap (λ (n : ℕ). record { steps = n; state = state_number r } ∷ later) (little-of 4 steps b)
-run-reported (as_left report w) (ran (RunAnswers.Refused n)) k later h wrong b = rw (ne_eqb n 0 h) refl
+run-reported (as_left report w) (ran (Ok e)) k later h wrong b =
+    ap (λ (n : ℕ). record { steps = n; state = state_number e.state } ∷ later) (little-of 4 e.steps b)
+run-reported (as_left report w) (ran (Err n)) k later h wrong b = rw (ne_eqb (refusal_number n) 0 h) refl
 run-reported (as_left report w) (paged a) k later h wrong b = absurd h
-run-reported (others l saved report w) (ran (RunAnswers.Ran steps r)) k later h wrong b = absurd (let z = wrong tt in omega (arith, z))
-run-reported (others l saved report w) (ran (RunAnswers.Refused n)) k later h wrong b = refl
+run-reported (others l saved report w) (ran (Ok e)) k later h wrong b = absurd (let z = wrong tt in omega (arith, z))
+run-reported (others l saved report w) (ran (Err n)) k later h wrong b = refl
 run-reported (others l saved report w) (paged a) k later h wrong b = absurd h
 
 page-told : (a : Answer) (later : List RunTold) → PageKind a → later ≡ with_run a later
@@ -241,12 +242,12 @@ module _ (l : Lent) (o : OnceLoad l) where
   abbrev root : Script
   root = o.read.root
 
-  told : total l.terms l.schema l.script ≡ TotalAnswers.Total (script_records root)
+  told : total l.terms l.schema l.script ≡ Ok (script_records root)
   unfolding total total_result total_of
   told = rw (o.reads, is_false (has_each root) o.no_each) refl
 
 -- of the script that is checked
-module _ (l : Lent) (e : (load l).returned.answer ≡ LoadAnswers.Accepted) (c : Checked) (loads : Loads l c)
+module _ (l : Lent) (e : (load l).returned.answer ≡ Ok tt) (c : Checked) (loads : Loads l c)
     (start : kept_after_load l ≡ kept_of c (loaded c.terms c.root)) (once : T (not (has_each c.root))) where
   all-calls : (calls : List HostCall) → FromHere l c (loaded c.terms c.root) calls
   unfolding loaded

@@ -1,4 +1,6 @@
 -- Demand 1 at the C interface, proved.
+use Rattle.std.specs.Prelude.{Ok, Err}
+use Rattle.definitions.specs.Result.{OrRefusal}
 use Prim.Native.Nat.{ℕ, zero, suc}
 use mathlib.Core.Path.{◌≡◌, refl, sym, ◌∙◌}
 use mathlib.Core.List.{List}
@@ -13,29 +15,21 @@ use Rattle.definitions.specs.Outcome.{ok, ◌>>=◌}
 use Rattle.definitions.specs.Result.{Result, refused, passed}
 use Rattle.definitions.specs.Alphabet.{is_alphabet}
 use Rattle.definitions.specs.Calls.{Lent, lengths_fit, load, sound_in, page_call, total, number_call, suggest, schema_call, lengths_of, both_tables_fit, publish_call}
-use Rattle.definitions.specs.Numbers.{load_number, run_number, page_number, total_number, result_number, suggest_number, schema_number, publish_number}
+use Rattle.definitions.specs.Numbers.{answer_number, result_number}
 use Rattle.definitions.specs.Limits.{saved_width, run_report_width, page_report_width, total_report_width, number_record_width, suggest_report_width, schema_report_width, publish_report_width}
-use Rattle.definitions.specs.Exports.{saved_from, run_report, page_report, total_report, saved_after, record_after, suggest_report, schema_report, publish_report}
+use Rattle.definitions.specs.Exports.{saved_from, run_report, count_report, saved_after, record_after, suggest_report, schema_report}
 use Rattle.definitions.specs.Exports.{load_export, RunExport, run_on, run_export, page_on, page_export, ran_export, total_export, number_export, suggest_export, schema_export}
 use Rattle.definitions.specs.Exports.{publish_on, publish_export}
 use Rattle.definitions.specs.declared.SavedRun.{SavedRun}
-use Rattle.definitions.specs.declared.RunAnswer.{RunAnswer}
-use Rattle.definitions.specs.declared.PageAnswer.{PageAnswer}
-use Rattle.definitions.specs.declared.TotalAnswer.{TotalAnswer}
-use Rattle.definitions.specs.declared.SuggestAnswer.{SuggestAnswer}
-use Rattle.definitions.specs.declared.RunAnswer.TheVariants as RunAnswers
-use Rattle.definitions.specs.declared.PageAnswer.TheVariants as PageAnswers
-use Rattle.definitions.specs.declared.TotalAnswer.TheVariants as TotalAnswers
-use Rattle.definitions.specs.declared.SuggestAnswer.TheVariants as SuggestAnswers
-use Rattle.definitions.specs.declared.PublishAnswer.{PublishAnswer}
-use Rattle.definitions.specs.declared.PublishAnswer.TheVariants as PublishAnswers
+use Rattle.definitions.specs.declared.RunEnd.{RunEnd}
+use Rattle.definitions.specs.declared.Suggested.{Suggested}
+use Rattle.definitions.specs.declared.Suggested.TheVariants as Suggests
 use Rattle.laws.proofs.Tests.{and_left, is_true, true_is, and_false}
 use Rattle.theorems.specs.Demand1.{first_broken, is_there, load_rules, run_rules, page_rules, publish_rules}
 use Rattle.theorems.proofs.Demand1.{demand-1}
 use Rattle.theorems.specs.ExportRefusals.{buffers_fit, load_broken, LoadRefuses, RunRefuses, PageRefuses, TotalRefuses, NumberRefuses, ExportRefusals, SuggestRefuses, SchemaRefuses}
 use Rattle.theorems.specs.ExportRefusals.{saved_fits, PublishRefuses}
-use Rattle.definitions.specs.declared.SchemaAnswer.{SchemaAnswer}
-use Rattle.definitions.specs.declared.SchemaAnswer.TheVariants as SchemaAnswers
+use Rattle.definitions.specs.declared.SchemaCounts.{SchemaCounts}
 
 -- ── the proof ───────────────────────────────────────────────────────────────────────────────
 
@@ -48,15 +42,15 @@ saved-kept : (n : ℕ) (r : SavedRun) (lent : List ℕ) → (n ≡ 0 → ⊥) �
 saved-kept zero r lent h = absurd (h refl)
 saved-kept (suc n) r lent h = refl
 
-pub run-report-kept : (report : List ℕ) (a : RunAnswer) → (run_number a ≡ 0 → ⊥) → run_report report a ≡ report
+pub run-report-kept : (report : List ℕ) (a : OrRefusal RunEnd) → (answer_number a ≡ 0 → ⊥) → run_report report a ≡ report
 unfolding run_report
-run-report-kept report (RunAnswers.Ran steps state) h = absurd (h refl)
-run-report-kept report (RunAnswers.Refused n) h = refl
+run-report-kept report (Ok e) h = absurd (h refl)
+run-report-kept report (Err n) h = refl
 
-pub page-report-kept : (report : List ℕ) (a : PageAnswer) → (page_number a ≡ 0 → ⊥) → page_report report a ≡ report
-unfolding page_report
-page-report-kept report (PageAnswers.Taken skipped) h = absurd (h refl)
-page-report-kept report (PageAnswers.Refused n) h = refl
+pub page-report-kept : (report : List ℕ) (a : OrRefusal ℕ) → (answer_number a ≡ 0 → ⊥) → count_report report a ≡ report
+unfolding count_report
+page-report-kept report (Ok skipped) h = absurd (h refl)
+page-report-kept report (Err n) h = refl
 
 load-refuses : (l : Lent) (saved : List ℕ) (b : Bool) → eqb (length saved) saved_width ≡ b → LoadRefuses l saved
 unfolding load_export first_broken
@@ -70,7 +64,7 @@ load-refuses l saved true e =
       keeps = λ h.
           let k = d.keeps (λ z. h (same ∙ z)) in
           let r = (load l).returned in
-          rw (e, load_export) (k.0, k.1, saved-kept (load_number r.answer) r.saved saved (λ z. h (same ∙ sym d.number ∙ z)));
+          rw (e, load_export) (k.0, k.1, saved-kept (answer_number r.answer) r.saved saved (λ z. h (same ∙ sym d.number ∙ z)));
     }
 
 module _ (l : Lent) (saved : List ℕ) (budget : ℕ) (now : ℤ) (report : List ℕ) where
@@ -86,13 +80,13 @@ module _ (l : Lent) (saved : List ℕ) (budget : ℕ) (now : ℤ) (report : List
   run_on_lem none fit good = record { ran = record { number = 10; saved = saved; report = report }; given = refl; number = rw good refl; keeps = λ h. (refl, refl) }
   run_on_lem (some r) fit good =
       let d = demand-1.run l r budget now in
-      let n : run_number d.ran.answer ≡ first_broken (run_rules true l.ranks (sound_in l r) budget now) = rw (is_true (lengths_fit l) fit) at d.number in
+      let n : answer_number d.ran.answer ≡ first_broken (run_rules true l.ranks (sound_in l r) budget now) = rw (is_true (lengths_fit l) fit) at d.number in
       record {
         ran = ran_export saved report d.ran;
         given = rw d.given refl;
         number = n;
         keeps = λ h. (
-          saved-kept (run_number d.ran.answer) d.ran.saved saved (λ z. h (sym n ∙ z)),
+          saved-kept (answer_number d.ran.answer) d.ran.saved saved (λ z. h (sym n ∙ z)),
           run-report-kept report d.ran.answer (λ z. h (sym n ∙ z)),
         );
       }
@@ -137,8 +131,8 @@ page-on l saved g page report (some r) fit good =
       n,
       λ h.
           let k = d.keeps (λ z. h (sym same ∙ z)) in
-          let number : page_number x.answer ≡ 0 → ⊥ = λ z. h (sym n ∙ z) in
-          (k.1, k.2, saved-kept (page_number x.answer) x.saved saved number, page-report-kept report x.answer number),
+          let number : answer_number x.answer ≡ 0 → ⊥ = λ z. h (sym n ∙ z) in
+          (k.1, k.2, saved-kept (answer_number x.answer) x.saved saved number, page-report-kept report x.answer number),
     )
 
 pub page-is : (l : Lent) (saved : List ℕ) (g : ℕ) (page report : List ℕ) → buffers_fit l saved report page_report_width ≡ true → is_alphabet l.ranks ≡ true
@@ -163,10 +157,10 @@ page-refuses l saved g page report false a e good = record { number = rw (e, pag
 page-refuses l saved g page report true true e good = page-answers l saved g page report e good
 
 module _ (terms schema script report : List ℕ) where
-  total-report-kept : (a : TotalAnswer) → (total_number a ≡ 0 → ⊥) → total_report report a ≡ report
-  unfolding total_report
-  total-report-kept (TotalAnswers.Total n) h = absurd (h refl)
-  total-report-kept (TotalAnswers.Refused n) h = refl
+  total-report-kept : (a : OrRefusal ℕ) → (answer_number a ≡ 0 → ⊥) → count_report report a ≡ report
+  unfolding count_report
+  total-report-kept (Ok n) h = absurd (h refl)
+  total-report-kept (Err n) h = refl
 
   total-refuses : (b : Bool) → eqb (length report) total_report_width ≡ b → TotalRefuses terms schema script report
   unfolding total_export first_broken
@@ -195,12 +189,12 @@ module _ (text lent : List ℕ) where
       }
 
 module _ (terms schema script report : List ℕ) where
-  suggest-report-kept : (a : SuggestAnswer) → (suggest_number a ≡ 0 → ⊥) → suggest_report report a ≡ report
+  suggest-report-kept : (a : OrRefusal Suggested) → (answer_number a ≡ 0 → ⊥) → suggest_report report a ≡ report
   unfolding suggest_report
-  suggest-report-kept SuggestAnswers.Accepted h = absurd (h refl)
-  suggest-report-kept (SuggestAnswers.Named x code) h = absurd (h refl)
-  suggest-report-kept SuggestAnswers.NoSingle h = absurd (h refl)
-  suggest-report-kept (SuggestAnswers.Refused n) h = refl
+  suggest-report-kept (Ok Suggests.Accepted) h = absurd (h refl)
+  suggest-report-kept (Ok (Suggests.Named x code)) h = absurd (h refl)
+  suggest-report-kept (Ok Suggests.NoSingle) h = absurd (h refl)
+  suggest-report-kept (Err n) h = refl
 
   suggest-refuses : (b : Bool) → eqb (length report) suggest_report_width ≡ b → SuggestRefuses terms schema script report
   unfolding suggest_export first_broken
@@ -213,10 +207,10 @@ module _ (terms schema script report : List ℕ) where
       }
 
 module _ (page schema report : List ℕ) where
-  schema-report-kept : (a : SchemaAnswer) → (schema_number a ≡ 0 → ⊥) → schema_report report a ≡ report
+  schema-report-kept : (a : OrRefusal SchemaCounts) → (answer_number a ≡ 0 → ⊥) → schema_report report a ≡ report
   unfolding schema_report
-  schema-report-kept (SchemaAnswers.Gathered entries left_out) h = absurd (h refl)
-  schema-report-kept (SchemaAnswers.Refused n) h = refl
+  schema-report-kept (Ok g) h = absurd (h refl)
+  schema-report-kept (Err n) h = refl
 
   schema-refuses : (b : Bool) → eqb (length report) schema_report_width ≡ b → SchemaRefuses page schema report
   unfolding schema_export first_broken
@@ -229,10 +223,10 @@ module _ (page schema report : List ℕ) where
       }
 
 module _ (l : Lent) (saved : List ℕ) (g : ℕ) (page report : List ℕ) where
-  publish-report-kept : (a : PublishAnswer) → (publish_number a ≡ 0 → ⊥) → publish_report report a ≡ report
-  unfolding publish_report
-  publish-report-kept (PublishAnswers.Published n) h = absurd (h refl)
-  publish-report-kept (PublishAnswers.Refused n) h = refl
+  publish-report-kept : (a : OrRefusal ℕ) → (answer_number a ≡ 0 → ⊥) → count_report report a ≡ report
+  unfolding count_report
+  publish-report-kept (Ok n) h = absurd (h refl)
+  publish-report-kept (Err n) h = refl
 
   publish-on : (o : Option SavedRun) → T (both_tables_fit (lengths_of l)) → let r = publish_on l g page report o in
       (r.number ≡ first_broken (publish_rules true (onward o (sound_in l)) g (length page)))

@@ -1,5 +1,6 @@
 -- The theorems are about something: two scripts as bytes, one with an each block and one without, are accepted, wait for a page, take one in
 -- of which two records are skipped, and run to their end. All by computation; then the first is safe by the theorem.
+use Rattle.std.specs.Prelude.{Ok}
 use Prim.Native.Nat.{ℕ}
 use mathlib.Core.Path.{◌≡◌, refl}
 use mathlib.Core.List.{List, [], ◌∷◌, ◌++◌, map}
@@ -19,8 +20,6 @@ use Rattle.definitions.specs.Alphabet.{built_in}
 use Rattle.definitions.specs.Calls.{Lengths, Checked, check}
 use Rattle.definitions.specs.CallList.{Call, running, paging, Answer, ran, paged, Done, machine_calls}
 use Rattle.definitions.specs.declared.RunState.TheVariants.{Ended, Wanted, Waiting, Spent}
-use Rattle.definitions.specs.declared.RunAnswer.TheVariants as RunAnswers
-use Rattle.definitions.specs.declared.PageAnswer.TheVariants as PageAnswers
 use Rattle.definitions.proofs.Opened.{opened}
 use Rattle.definitions.proofs.Card.{uri, number}
 use Rattle.theorems.proofs.Safety.{Safe, safety-from-load}
@@ -97,10 +96,10 @@ each-calls = run 10 ∷ take page ∷ run 2 ∷ run 10 ∷ []
 
 each-runs :
     told (machine_calls (found true) built_in each-calls (loaded (found true).terms (found true).root))
-    ≡ (ran (RunAnswers.Ran 0 (Wanted 1)), 0)
-    ∷ (paged (PageAnswers.Taken 2), 1)
-    ∷ (ran (RunAnswers.Ran 2 Spent), 2)
-    ∷ (ran (RunAnswers.Ran 4 Ended), 4)
+    ≡ (ran (Ok (record { steps = 0; state = (Wanted 1) })), 0)
+    ∷ (paged (Ok 2), 1)
+    ∷ (ran (Ok (record { steps = 2; state = Spent })), 2)
+    ∷ (ran (Ok (record { steps = 4; state = Ended })), 4)
     ∷ []
 unfolding found uri number opened whole run take page triple told each-calls
 each-runs = refl
@@ -111,11 +110,11 @@ once-calls = run 10 ∷ take [] ∷ run 10 ∷ take page ∷ run 10 ∷ []
 
 once_runs :
     told (machine_calls (found false) built_in once-calls (loaded (found false).terms (found false).root))
-    ≡ (ran (RunAnswers.Ran 0 (Wanted 1)), 0)
-    ∷ (paged (PageAnswers.Taken 0), 1)
-    ∷ (ran (RunAnswers.Ran 1 Waiting), 1)
-    ∷ (paged (PageAnswers.Taken 2), 1)
-    ∷ (ran (RunAnswers.Ran 2 Ended), 2)
+    ≡ (ran (Ok (record { steps = 0; state = (Wanted 1) })), 0)
+    ∷ (paged (Ok 0), 1)
+    ∷ (ran (Ok (record { steps = 1; state = Waiting })), 1)
+    ∷ (paged (Ok 2), 1)
+    ∷ (ran (Ok (record { steps = 2; state = Ended })), 2)
     ∷ []
 unfolding found uri number opened whole run take page triple told once-calls
 once_runs = refl

@@ -1,4 +1,5 @@
 -- Document 02, Ask 1, proved: str's text of a number reads as that number.
+use Rattle.definitions.specs.declared.Refusal.TheVariants.{BadNumberText, NoSuchNumber}
 use Prim.Native.Nat.{ℕ, zero, suc, ◌+◌, ◌*◌, ◌-◌, ◌/◌, ◌%◌, ◌^◌, ◌≤◌}
 use native.Mathlib.Nat.{mul_assoc, mul_right_comm, add-mul, div-add-mod'}
 use native.Mathlib.Omega.{arith}
@@ -51,7 +52,7 @@ sign-back (negsuc n) = refl
 
 reads : (t : Text) (x : Numeral) (r : Term) → Writes x t → length t ≤ number_text_limit → term_of x ≡ some r → number_call t ≡ passed r
 unfolding number_call given
-reads t x r w l e = given-bind 16 (λ y. given 17 (term_of y)) (written_read t x w l) ∙ rw e
+reads t x r w l e = given-bind BadNumberText (λ y. given NoSuchNumber (term_of y)) (written_read t x w l) ∙ rw e
 
 longer : {most more : ℕ} {d : Text} → most ≤ more → Digits most d → Digits more d
 longer l h = record { all = h.all; some = h.some; few = omega (arith, h.few) }
@@ -201,8 +202,8 @@ module _ (x : Numeral) where
 again : (text : Text) (t : Term) → number_call text ≡ passed t → ReadsBack t
 unfolding number_call
 again text t e =
-    let i = given-bind-inv 16 (numeral_of text) (λ y. given 17 (term_of y)) e in
-    by_kind i.0 ReadsBack integer-back (λ n h q. decimal-back n h) t (given-inv 17 (term_of i.0) i.2)
+    let i = given-bind-inv BadNumberText (numeral_of text) (λ y. given NoSuchNumber (term_of y)) e in
+    by_kind i.0 ReadsBack integer-back (λ n h q. decimal-back n h) t (given-inv NoSuchNumber (term_of i.0) i.2)
 
 -- ── the theorem ─────────────────────────────────────────────────────────────────────────────
 

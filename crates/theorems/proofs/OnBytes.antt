@@ -1,4 +1,5 @@
 -- Demand 3 at the C interface, proved: what an export writes reads back as the saved run that the call handed back.
+use Rattle.std.specs.Prelude.{Ok}
 use Prim.Native.Nat.{ℕ, zero, suc}
 use native.Mathlib.Omega.{arith}
 use mathlib.Core.Path.{◌≡◌, refl, sym, ap, ◌∙◌}
@@ -13,12 +14,11 @@ use Rattle.definitions.specs.Result.{passed}
 use Rattle.definitions.specs.Alphabet.{is_alphabet}
 use Rattle.definitions.specs.Calls.{Checked, Lent, lengths_fit, load, page_call}
 use Rattle.definitions.specs.CallList.{ran}
-use Rattle.definitions.specs.Numbers.{run_number, page_number}
+use Rattle.definitions.specs.Numbers.{answer_number}
 use Rattle.definitions.specs.Limits.{saved_width, run_report_width, page_report_width}
-use Rattle.definitions.specs.Exports.{saved_bytes, saved_after, run_report, page_report, saved_from, run_on, page_on}
+use Rattle.definitions.specs.Exports.{saved_bytes, saved_after, run_report, count_report, saved_from, run_on, page_on}
 use Rattle.definitions.specs.Exports.{load_export, RunExport, refused_run, run_export, PageExport, refused_page, page_export}
 use Rattle.definitions.specs.declared.SavedRun.{SavedRun}
-use Rattle.definitions.specs.declared.LoadAnswer.TheVariants as LoadAnswers
 use Rattle.laws.proofs.NoFault.{ok-is, fine-ok}
 use Rattle.laws.proofs.Check.{check-accepted}
 use Rattle.laws.specs.Valid.{ValidIn}
@@ -81,13 +81,13 @@ module _ (l : Lent) (r : SavedRun) (f : Fits r) (report : List ℕ) where
     abbrev run-export : RunExport
     run-export =
         let x = (demand-1.run l r budget now).ran in
-        record { number = run_number x.answer; saved = saved_bytes x.saved; report = run_report report x.answer }
+        record { number = answer_number x.answer; saved = saved_bytes x.saved; report = run_report report x.answer }
 
     -- refused with a number, everything is as it was
-    run-refused : (n : ℕ) → (n ≡ 0 → ⊥) → run_number (demand-1.run l r budget now).ran.answer ≡ n → ok (refused_run n (saved_bytes r) report) ≡ ok run-export
+    run-refused : (n : ℕ) → (n ≡ 0 → ⊥) → answer_number (demand-1.run l r budget now).ran.answer ≡ n → ok (refused_run n (saved_bytes r) report) ≡ ok run-export
     run-refused n some e =
         let d = demand-1.run l r budget now in
-        let refuses : run_number d.ran.answer ≡ 0 → ⊥ = λ z. some (sym e ∙ z) in
+        let refuses : answer_number d.ran.answer ≡ 0 → ⊥ = λ z. some (sym e ∙ z) in
         let s = d.keeps (λ z. refuses (d.number ∙ z)) in
         λ i. ok (record { number = sym e i; saved = saved_bytes (sym s i); report = sym (run-report-kept report d.ran.answer refuses) i })
 
@@ -95,7 +95,7 @@ module _ (l : Lent) (r : SavedRun) (f : Fits r) (report : List ℕ) where
     unfolding run_export ◌>>=◌ first_broken
     run_by true true fit good =
         let d = demand-1.run l r budget now in
-        let n = run_number d.ran.answer in
+        let n = answer_number d.ran.answer in
         let k = saved_after_lem n d.ran.saved r (λ h. d.keeps (λ z. h (d.number ∙ z))) in
         run_is l (saved_bytes r) report budget now (all_fit run_report_width fit w) good
         ∙ (ap (run_on l budget now (saved_bytes r) report) (saved-again r f)
@@ -112,18 +112,18 @@ module _ (l : Lent) (r : SavedRun) (f : Fits r) (report : List ℕ) where
     page-export =
         let x = page_call l r g page in
         record {
-          number = page_number x.returned.answer;
+          number = answer_number x.returned.answer;
           term_table = x.term_table;
           quad_table = x.quad_table;
           saved = saved_bytes x.returned.saved;
-          report = page_report report x.returned.answer;
+          report = count_report report x.returned.answer;
         }
 
-    page-refused : (n : ℕ) → (n ≡ 0 → ⊥) → page_number (page_call l r g page).returned.answer ≡ n → refused_page n l (saved_bytes r) report ≡ page-export
+    page-refused : (n : ℕ) → (n ≡ 0 → ⊥) → answer_number (page_call l r g page).returned.answer ≡ n → refused_page n l (saved_bytes r) report ≡ page-export
     page-refused n some e =
         let d = demand-1.page l r g page in
         let x = page_call l r g page in
-        let refuses : page_number x.returned.answer ≡ 0 → ⊥ = λ z. some (sym e ∙ z) in
+        let refuses : answer_number x.returned.answer ≡ 0 → ⊥ = λ z. some (sym e ∙ z) in
         let s = d.keeps (λ z. refuses (d.number ∙ z)) in
         λ i. record {
           number = sym e i;
@@ -138,15 +138,15 @@ module _ (l : Lent) (r : SavedRun) (f : Fits r) (report : List ℕ) where
     page-by true true fit good =
         let d = demand-1.page l r g page in
         let x = page_call l r g page in
-        let k = saved_after_lem (page_number x.returned.answer) x.returned.saved r (λ h. (d.keeps (λ z. h (d.number ∙ z))).0) in
+        let k = saved_after_lem (answer_number x.returned.answer) x.returned.saved r (λ h. (d.keeps (λ z. h (d.number ∙ z))).0) in
         page-is l (saved_bytes r) g page report (all_fit page_report_width fit w) good
         ∙ (ap (page_on l g page (saved_bytes r) report) (saved-again r f)
         ∙ (λ i. record {
-          number = page_number x.returned.answer;
+          number = answer_number x.returned.answer;
           term_table = x.term_table;
           quad_table = x.quad_table;
           saved = k i;
-          report = page_report report x.returned.answer;
+          report = count_report report x.returned.answer;
         }))
     page-by true false fit bad =
         let d = demand-1.page l r g page in
@@ -225,13 +225,13 @@ module _ (l : Lent) (c : Checked) (loads : Loads l c) where
 
 -- ── the theorem ─────────────────────────────────────────────────────────────────────────────
 
-load-start : (l : Lent) (saved : List ℕ) → (load l).returned.answer ≡ LoadAnswers.Accepted → length saved ≡ saved_width
+load-start : (l : Lent) (saved : List ℕ) → (load l).returned.answer ≡ Ok tt → length saved ≡ saved_width
     → load_export l saved
     ≡ record { number = 0; term_table = (load l).term_table; quad_table = (load l).quad_table; saved = saved_bytes (load l).returned.saved }
 unfolding load_export
 load-start l saved e w = rw (load_export, eq-eqb (length saved) saved_width w, e) refl
 
-pub on-bytes : (l : Lent) → (load l).returned.answer ≡ LoadAnswers.Accepted → (saved : List ℕ) → length saved ≡ saved_width
+pub on-bytes : (l : Lent) → (load l).returned.answer ≡ Ok tt → (saved : List ℕ) → length saved ≡ saved_width
     → (calls : List ExportCall) → OnBytes l saved calls
 on-bytes l e saved w calls =
     let d = demand-3 l e (map call_of calls) in

@@ -1,4 +1,9 @@
 -- One written type that would do, proved.
+use Rattle.definitions.specs.Numbers.{refusal_number}
+use Rattle.definitions.specs.declared.Refusal.{Refusal}
+use Rattle.definitions.specs.declared.Refusal.TheVariants.{WrongLength, BadTerm, TermTwice, BadEntry, PropertyTwice, BadScript, OutOfScope, NoTyping, NoGreatest, BadRanks}
+use Rattle.std.specs.Prelude.{Ok, Err}
+use Rattle.definitions.specs.Result.{OrRefusal}
 use Prim.Native.Nat.{ℕ, zero, suc, ◌+◌, ◌<◌}
 use native.Mathlib.Omega.{arith}
 use mathlib.Core.Path.{◌≡◌, refl, sym, ap, ap₂, subst, ◌∙◌}
@@ -24,10 +29,8 @@ use Rattle.definitions.specs.Machine.{with_properties}
 use Rattle.definitions.specs.Result.{Result, refused, passed, ◌>>=◌, ◌>>◌, require, given}
 use Rattle.definitions.specs.Calls.{Listed, record_tests, sizes_fit, script_tests, Parsed, read_tests, Checked, constants_of, types_of, type_tests, check}
 use Rattle.definitions.specs.Calls.{Lent, lengths_fit, load_tests, load_result, load, suggest_answer, suggest_for, suggest_result, suggest}
-use Rattle.definitions.specs.declared.LoadAnswer.{LoadAnswer}
-use Rattle.definitions.specs.declared.LoadAnswer.TheVariants as LoadAnswers
-use Rattle.definitions.specs.declared.SuggestAnswer.{SuggestAnswer}
-use Rattle.definitions.specs.declared.SuggestAnswer.TheVariants as SuggestAnswers
+use Rattle.definitions.specs.declared.Suggested as Code
+use Rattle.definitions.specs.declared.Suggested.TheVariants as Suggests
 use Rattle.laws.proofs.Tests.{and_left, and_right, or_cases, true_is}
 use Rattle.laws.proofs.Options.{some_is, some-not-none, provided-inv, provided-holds, onward-inv, onward-some}
 use Rattle.laws.proofs.Results.{passed_is, not-refused, bind_inv, bind-passed, given-bind, given-bind-inv, require-after, require-after-inv}
@@ -43,7 +46,7 @@ use Rattle.theorems.proofs.LowestFirst.{LowestOf, lowest-of, lowest-nothing}
 -- ── refusals of reading stand below 8 ───────────────────────────────────────────────────────
 
 abbrev Below : {A : Type 0} → ℕ → Result A → Type 0
-Below k (refused n) = n < k
+Below k (refused n) = refusal_number n < k
 Below k (passed a) = Unit {0}
 
 module _ {A B : Type 0} (k : ℕ) where
@@ -57,12 +60,12 @@ module _ {A B : Type 0} (k : ℕ) where
   after-below (refused n) m h g = h
   after-below (passed a) m h g = g
 
-require-below : (k n : ℕ) (t : Bool) → n < k → Below k (require n t)
+require-below : (k : ℕ) (n : Refusal) (t : Bool) → refusal_number n < k → Below k (require n t)
 unfolding require
 require-below k n true l = tt
 require-below k n false l = l
 
-given_below : {A : Type 0} (k n : ℕ) (o : Option A) → n < k → Below k (given n o)
+given_below : {A : Type 0} (k : ℕ) (n : Refusal) (o : Option A) → refusal_number n < k → Below k (given n o)
 unfolding given
 given_below k n none l = l
 given_below k n (some a) l = tt
@@ -71,16 +74,16 @@ read_below : (terms schema script : List ℕ) → Below 8 (read_tests terms sche
 unfolding read_tests record_tests script_tests
 read_below terms schema script =
     bind-below 8 (record_tests terms schema) _
-    (bind-below 8 (given 2 (read_terms terms)) _ (given_below 8 2 (read_terms terms) (omega arith)) (λ listed.
-    after-below 8 (require 3 (distinct same_term listed)) _ (require-below 8 3 (distinct same_term listed) (omega arith))
-    (bind-below 8 (given 4 (read_schema schema)) _ (given_below 8 4 (read_schema schema) (omega arith)) (λ S.
-    after-below 8 (require 5 (distinct same_property S)) _ (require-below 8 5 (distinct same_property S) (omega arith)) tt))))
+    (bind-below 8 (given BadTerm (read_terms terms)) _ (given_below 8 BadTerm (read_terms terms) (omega arith)) (λ listed.
+    after-below 8 (require TermTwice (distinct same_term listed)) _ (require-below 8 TermTwice (distinct same_term listed) (omega arith))
+    (bind-below 8 (given BadEntry (read_schema schema)) _ (given_below 8 BadEntry (read_schema schema) (omega arith)) (λ S.
+    after-below 8 (require PropertyTwice (distinct same_property S)) _ (require-below 8 PropertyTwice (distinct same_property S) (omega arith)) tt))))
     (λ l.
     let ts = with_properties l.schema l.terms in
     bind-below 8 (script_tests ts l.schema script) _
-    (after-below 8 (require 6 (sizes_fit ts l.schema script)) _ (require-below 8 6 (sizes_fit ts l.schema script) (omega arith))
-    (bind-below 8 (given 6 (parsed (length ts) script)) _ (given_below 8 6 (parsed (length ts) script) (omega arith)) (λ root.
-    after-below 8 (require 7 (in_scope root)) _ (require-below 8 7 (in_scope root) (omega arith)) tt)))
+    (after-below 8 (require BadScript (sizes_fit ts l.schema script)) _ (require-below 8 BadScript (sizes_fit ts l.schema script) (omega arith))
+    (bind-below 8 (given BadScript (parsed (length ts) script)) _ (given_below 8 BadScript (parsed (length ts) script) (omega arith)) (λ root.
+    after-below 8 (require OutOfScope (in_scope root)) _ (require-below 8 OutOfScope (in_scope root) (omega arith)) tt)))
     (λ root. tt))
 
 -- ── what load and suggest answer ────────────────────────────────────────────────────────────
@@ -88,19 +91,19 @@ read_below terms schema script =
 abbrev verdict_of : Parsed → Verdict
 verdict_of x = verdict (constants_of x.schema x.terms) (written_types x.root) x.root
 
-abbrev load_answer : Verdict → LoadAnswer
-load_answer no_typing = LoadAnswers.Refused 8
-load_answer no_greatest = LoadAnswers.Refused 9
-load_answer (greatest Γ) = LoadAnswers.Accepted
+abbrev load_answer : Verdict → OrRefusal Unit
+load_answer no_typing = Err NoTyping
+load_answer no_greatest = Err NoGreatest
+load_answer (greatest Γ) = Ok tt
 
 module _ (l : Lent) (fit : T (lengths_fit l)) (good : T (is_alphabet l.ranks)) where
   load_is : (load l).returned.answer ≡ (load_result l (check l.terms l.schema l.script)).returned.answer
   unfolding load load_tests
   load_is =
       ap (λ (r : Result Checked). (load_result l r).returned.answer)
-      (require-after 1 (lengths_fit l) _ fit ∙ require-after 21 (is_alphabet l.ranks) _ good)
+      (require-after WrongLength (lengths_fit l) _ fit ∙ require-after BadRanks (is_alphabet l.ranks) _ good)
 
-  load-unread : {n : ℕ} → read_tests l.terms l.schema l.script ≡ refused n → (load l).returned.answer ≡ LoadAnswers.Refused n
+  load-unread : {n : Refusal} → read_tests l.terms l.schema l.script ≡ refused n → (load l).returned.answer ≡ Err n
   unfolding check load_result ◌>>=◌
   load-unread e = load_is ∙ ap (λ (r : Result Parsed). (load_result l (r >>= type_tests)).returned.answer) e
 
@@ -117,18 +120,18 @@ module _ (l : Lent) (fit : T (lengths_fit l)) (good : T (is_alphabet l.ranks)) w
   accepts-if : {x : Parsed} → read_tests l.terms l.schema l.script ≡ passed x → Accepts l ↔ T (is_accepted (verdict_of x))
   accepts-if {x} e = (λ a. to (verdict_of x) (sym (load_read e) ∙ a), λ t. load_read e ∙ of (verdict_of x) t)
     where
-      to : (v : Verdict) → load_answer v ≡ LoadAnswers.Accepted → T (is_accepted v)
+      to : (v : Verdict) → load_answer v ≡ Ok tt → T (is_accepted v)
       to no_typing a = let z : ◌≡◌ {A = ℕ} 0 1 = cc in absurd (omega arith)
       to no_greatest a = let z : ◌≡◌ {A = ℕ} 0 1 = cc in absurd (omega arith)
       to (greatest Γ) a = tt
 
-      of : (v : Verdict) → T (is_accepted v) → load_answer v ≡ LoadAnswers.Accepted
+      of : (v : Verdict) → T (is_accepted v) → load_answer v ≡ Ok tt
       of no_typing t = absurd t
       of no_greatest t = absurd t
       of (greatest Γ) t = refl
 
 module _ (terms schema script : List ℕ) where
-  suggest-unread : {n : ℕ} → read_tests terms schema script ≡ refused n → suggest terms schema script ≡ SuggestAnswers.Refused n
+  suggest-unread : {n : Refusal} → read_tests terms schema script ≡ refused n → suggest terms schema script ≡ Err n
   unfolding suggest suggest_result
   suggest-unread e = ap suggest_result e
 
@@ -137,8 +140,8 @@ module _ (terms schema script : List ℕ) where
   unfolding suggest suggest_result
   suggest-read e = ap suggest_result e
 
-abbrev answered : Option Suggestion → Verdict → SuggestAnswer
-answered o v = elim v [ no_typing ↦ SuggestAnswers.Refused 8 | no_greatest ↦ suggest_answer o | greatest Γ ↦ SuggestAnswers.Accepted ]
+abbrev answered : Option Suggestion → Verdict → OrRefusal Code.Suggested
+answered o v = elim v [ no_typing ↦ Err NoTyping | no_greatest ↦ suggest_answer o | greatest Γ ↦ Ok Suggests.Accepted ]
 
 suggest-for : (constants : ℕ → Sort) (ws : List Written) (s : Script) {v : Verdict} → verdict constants ws s ≡ v
     → suggest_for constants ws s ≡ answered (suggestion constants ws s) v
@@ -176,20 +179,20 @@ module _ (y p : ℕ) (τ : Ty) where
       → script_tests ts S (set script (p + 1) (type_code τ)) ≡ passed (retyped y τ root)
   unfolding script_tests sizes_fit
   tests-rewritten ts S script root e f =
-      let i = require-after-inv 6 (sizes_fit ts S script) (given 6 (parsed (length ts) script) >>= scoped) e in
-      let j = given-bind-inv 6 (parsed (length ts) script) scoped i.1 in
-      let k = require-after-inv 7 (in_scope j.0) (passed j.0) j.2 in
+      let i = require-after-inv BadScript (sizes_fit ts S script) (given BadScript (parsed (length ts) script) >>= scoped) e in
+      let j = given-bind-inv BadScript (parsed (length ts) script) scoped i.1 in
+      let k = require-after-inv OutOfScope (in_scope j.0) (passed j.0) j.2 in
       let script' = set script (p + 1) (type_code τ) in
       let long = length-set script (p + 1) (type_code τ) in
       let same = passed_is k.1 in
       let good = subst (λ (c : Script). T (in_scope c)) same k.0 in
       let reads = j.1 ∙ ap some same in
-      require-after 6 (sizes_fit ts S script') _ (subst (λ (n : ℕ). T (leb (length ts) term_limit && (leb (length S) entry_limit && leb n script_limit))) (sym long) i.0)
-      ∙ given-bind 6 scoped (parsed-rewritten (length ts) script root reads good f)
-      ∙ require-after 7 (in_scope (retyped y τ root)) _ (subst T (sym (scope-same y τ root)) good)
+      require-after BadScript (sizes_fit ts S script') _ (subst (λ (n : ℕ). T (leb (length ts) term_limit && (leb (length S) entry_limit && leb n script_limit))) (sym long) i.0)
+      ∙ given-bind BadScript scoped (parsed-rewritten (length ts) script root reads good f)
+      ∙ require-after OutOfScope (in_scope (retyped y τ root)) _ (subst T (sym (scope-same y τ root)) good)
     where
       scoped : Script → Result Script
-      scoped root = require 7 (in_scope root) >> passed root
+      scoped root = require OutOfScope (in_scope root) >> passed root
 
   abbrev rewritten_in : Parsed → Parsed
   rewritten_in x = record { schema = x.schema; terms = x.terms; root = retyped y τ x.root }
@@ -319,7 +322,7 @@ module _ (l : Lent) (fit : T (lengths_fit l)) (good : T (is_alphabet l.ranks)) (
   unfolding suggest_answer
   by-verdict v e = go v (load_read l fit good read ∙ ap load_answer e) (suggest-read l.terms l.schema l.script read ∙ suggest-for constants ws root e)
     where
-      named-not : (o : Option Suggestion) → (suggest_answer o ≡ SuggestAnswers.Accepted → ⊥) × ((n : ℕ) → suggest_answer o ≡ SuggestAnswers.Refused n → ⊥)
+      named-not : (o : Option Suggestion) → (suggest_answer o ≡ Ok Suggests.Accepted → ⊥) × ((n : Refusal) → suggest_answer o ≡ Err n → ⊥)
       named-not none = (λ q. let z : ◌≡◌ {A = ℕ} 0 1 = cc in omega arith, λ n q. let z : ◌≡◌ {A = ℕ} 0 1 = cc in omega arith)
       named-not (some w) = (λ q. let z : ◌≡◌ {A = ℕ} 0 1 = cc in omega arith, λ n q. let z : ◌≡◌ {A = ℕ} 0 1 = cc in omega arith)
 
@@ -332,7 +335,7 @@ module _ (l : Lent) (fit : T (lengths_fit l)) (good : T (is_alphabet l.ranks)) (
       go no_greatest a b = record {
         accepted = (λ q. absurd (let z : ◌≡◌ {A = ℕ} 0 1 = cc in omega arith), λ q. absurd ((named-not (suggestion constants ws root)).0 (sym b ∙ q)));
         refused = λ n k. (
-          λ q. absurd (let z : ◌≡◌ {A = ℕ} 9 n = cc in omega arith),
+          λ q. absurd (let z : ◌≡◌ {A = ℕ} 9 (refusal_number n) = ap refusal_number (let y : NoGreatest ≡ n = cc in y) in omega (arith, z, k)),
           λ q. absurd ((named-not (suggestion constants ws root)).1 n (sym b ∙ q)),
         );
         suggested = λ q. (x, read, subst (Suggested l root) (sym b) (suggested-so (suggestion constants ws root) refl));
@@ -352,11 +355,11 @@ one_type l fit good = go (read_tests l.terms l.schema l.script) refl (read_below
     go (refused m) e h =
         let a = load-unread l fit good e in
         let b = suggest-unread l.terms l.schema l.script e in
-        let small : m < 8 = subst (Below 8) e h in
+        let small : refusal_number m < 8 = subst (Below 8) e h in
         record {
           accepted = (λ q. absurd (let z : ◌≡◌ {A = ℕ} 0 1 = cc in omega arith), λ q. absurd (let z : ◌≡◌ {A = ℕ} 0 1 = cc in omega arith));
           refused = λ n k. (λ q. let z : m ≡ n = cc in cc, λ q. let z : m ≡ n = cc in cc);
-          suggested = λ q. absurd (let z : ◌≡◌ {A = ℕ} m 9 = cc in omega arith);
+          suggested = λ q. absurd (let z : ◌≡◌ {A = ℕ} (refusal_number m) 9 = ap refusal_number (let y : m ≡ NoGreatest = cc in y) in omega (arith, z, small));
         }
     go (passed x) e h = by-verdict l fit good x e (verdict_of x) refl
 

@@ -1,4 +1,7 @@
 -- What a schema call leaves at the front of its buffer, proved.
+use Rattle.definitions.specs.declared.SchemaCounts.{SchemaCounts}
+use Rattle.definitions.specs.declared.Refusal.TheVariants.{WrongLength, BadTerm, TermTwice, BadEntry, PropertyTwice, BadPage, TooManyEntries}
+use Rattle.std.specs.Prelude.{Ok}
 use Prim.Native.Nat.{ℕ, zero, suc, ◌+◌, ◌*◌, ◌≤◌, ◌<◌}
 use native.Mathlib.Omega.{arith}
 use native.Mathlib.Numerals.{add-one}
@@ -20,7 +23,6 @@ use Rattle.definitions.specs.Terms.{Text, Term, Entry, Schema, Triple, uri_text,
 use Rattle.definitions.specs.Gathering.{Asking, asking, asks, askings, asked_of, meets, is_least, least_that, least_asked, with_subject, subjects_after, Gathered, entering, gathered_of, gathered}
 use Rattle.definitions.specs.Result.{Result, refused, passed}
 use Rattle.definitions.specs.Calls.{Listed, record_tests, page_in, schema_tests, written, SchemaResult, schema_result, schema_call}
-use Rattle.definitions.specs.declared.SchemaAnswer.TheVariants as SchemaAnswers
 use Rattle.laws.specs.Lists.{All, ◌∈◌}
 use Rattle.laws.specs.ReadAnswers.{is_some}
 use Rattle.laws.specs.Records.{records_at}
@@ -308,7 +310,7 @@ module _ (page before : List ℕ) (rs : List Triple) (read : page_in page ≡ so
   past : (terms : List ℕ) (listed : List Term) → read_terms terms ≡ some listed → T (distinct same_term listed)
       → record_tests terms (take (length S * entry_width) (written S before)) ≡ passed (record { terms = listed; schema = S })
   unfolding record_tests
-  past terms listed e d = given-bind 2 _ e ∙ require-after 3 (distinct same_term listed) _ d ∙ given-bind 4 _ back ∙ require-after 5 (distinct same_property S) _ apart
+  past terms listed e d = given-bind BadTerm _ e ∙ require-after TermTwice (distinct same_term listed) _ d ∙ given-bind BadEntry _ back ∙ require-after PropertyTwice (distinct same_property S) _ apart
 
   holds : PageSchema page before (written (gathered rs).entries before) (length (gathered rs).entries) (gathered rs).left_out
   unfolding written gathered S
@@ -337,14 +339,15 @@ pub page-schemas : PageSchemas
 unfolding schema_result schema_call
 page-schemas page schema entries left_out e = go (schema_tests page schema) refl e
   where
-    go : (r : Result Gathered) → schema_tests page schema ≡ r → (schema_result schema r).answer ≡ SchemaAnswers.Gathered entries left_out
+    go : (r : Result Gathered) → schema_tests page schema ≡ r → (schema_result schema r).answer ≡ Ok (record { entries = entries; left_out = left_out })
         → PageSchema page schema (schema_call page schema).schema entries left_out
     go (refused n) q a = absurd (unfold schema_result in let z : ◌≡◌ {A = ℕ} 0 1 = cc in omega arith)
     go (passed g) q a = unfold schema_tests schema_result schema_call in
-        let one = require-after-inv 1 (eqb (length schema) schema_width) _ q in
-        let two = given-bind-inv 13 (page_in page) _ one.1 in
-        let three = require-after-inv 19 (leb (length (gathered two.0).entries) entry_limit) _ two.2 in
+        let one = require-after-inv WrongLength (eqb (length schema) schema_width) _ q in
+        let two = given-bind-inv BadPage (page_in page) _ one.1 in
+        let three = require-after-inv TooManyEntries (leb (length (gathered two.0).entries) entry_limit) _ two.2 in
         let is : gathered two.0 ≡ g = passed_is three.1 in
-        let n : length (gathered two.0).entries ≡ entries = cc in
-        let m : (gathered two.0).left_out ≡ left_out = cc in
+        let both : ◌≡◌ {A = SchemaCounts} (record { entries = length g.entries; left_out = g.left_out }) (record { entries = entries; left_out = left_out }) = cc in
+        let n : length (gathered two.0).entries ≡ entries = rw is (ap (λ (c : SchemaCounts). c.entries) both) in
+        let m : (gathered two.0).left_out ≡ left_out = rw is (ap (λ (c : SchemaCounts). c.left_out) both) in
         rw (q, ← is, ← n, ← m) (holds page schema two.0 two.1 (leb→le (length (gathered two.0).entries) entry_limit three.0))

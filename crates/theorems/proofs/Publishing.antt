@@ -1,4 +1,6 @@
 -- A published page: read as the graph's triples, taken in again it leaves the store as it was, it fits, and the same triples give the same bytes.
+use Rattle.definitions.specs.declared.Refusal.TheVariants.{WrongLength, Unsound, NoGraph, BadPage, NoRoom, NotFetched, ShortBuffer}
+use Rattle.std.specs.Prelude.{Ok}
 use Prim.Native.Nat.{ℕ, zero, suc, ◌-◌, ◌≤◌}
 use native.Mathlib.Omega.{arith}
 use mathlib.Core.Path.{◌≡◌, refl, sym, ap, ◌∙◌, subst, subst⁻¹}
@@ -27,8 +29,6 @@ use Rattle.definitions.specs.Calls.{Lent, lengths_of, both_tables_fit, tables_fi
 use Rattle.definitions.specs.Calls.{PageTaken, page_taken, take_in, Taking, page_tests, page_result, page_call}
 use Rattle.definitions.specs.Calls.{publish_in, publish_tests, publish_result, publish_call}
 use Rattle.definitions.specs.declared.SavedRun.{SavedRun}
-use Rattle.definitions.specs.declared.PageAnswer.TheVariants as PageAnswers
-use Rattle.definitions.specs.declared.PublishAnswer.TheVariants as PublishAnswers
 use Rattle.laws.specs.Lists.{All, ◌∈◌}
 use Rattle.laws.specs.Bindings.{HoldsURI}
 use Rattle.laws.specs.Quads.{Names}
@@ -73,16 +73,16 @@ module _ (l : Lent) (saved : SavedRun) (g : ℕ) where
       → (x : Calls.Sound) × (sound_in l saved ≡ some x) × T (is_in g x.state.store.fetched) × (published g x.state.store ≡ page)
   unfolding publish_tests publish_in
   tests-inv room page e =
-      let last : Store → Result (List ℕ) = λ s. require 23 (leb (length (published g s)) room) >> passed (published g s) in
-      let i₁ = require-after-inv 1 (both_tables_fit (lengths_of l)) (given 10 (sound_in l saved) >>= λ x. publish_in g room x.state.store) e in
-      let i₁₀ = given-bind-inv 10 (sound_in l saved) (λ x. publish_in g room x.state.store) i₁.1 in
+      let last : Store → Result (List ℕ) = λ s. require ShortBuffer (leb (length (published g s)) room) >> passed (published g s) in
+      let i₁ = require-after-inv WrongLength (both_tables_fit (lengths_of l)) (given Unsound (sound_in l saved) >>= λ x. publish_in g room x.state.store) e in
+      let i₁₀ = given-bind-inv Unsound (sound_in l saved) (λ x. publish_in g room x.state.store) i₁.1 in
       let s = i₁₀.0.state.store in
-      let i₂₂ = require-after-inv 22 (is_in g s.fetched) (last s) i₁₀.2 in
-      let i₂₃ = require-after-inv 23 (leb (length (published g s)) room) (passed (published g s)) i₂₂.1 in
+      let i₂₂ = require-after-inv NotFetched (is_in g s.fetched) (last s) i₁₀.2 in
+      let i₂₃ = require-after-inv ShortBuffer (leb (length (published g s)) room) (passed (published g s)) i₂₂.1 in
       (i₁₀.0, i₁₀.1, i₂₂.0, passed_is i₂₃.1)
 
   module _ (buffer : List ℕ) (n : ℕ) where
-    written : (t : Result (List ℕ)) → publish_tests l saved g (length buffer) ≡ t → (publish_result buffer t).returned ≡ PublishAnswers.Published n
+    written : (t : Result (List ℕ)) → publish_tests l saved g (length buffer) ≡ t → (publish_result buffer t).returned ≡ Ok n
         → (page : List ℕ) × (publish_tests l saved g (length buffer) ≡ passed page) × (n ≡ length page) × (take n (publish_result buffer t).page ≡ page)
     unfolding publish_result
     written (refused k) e a = absurd (let z : ◌≡◌ {A = ℕ} 0 1 = cc in omega arith)
@@ -103,11 +103,11 @@ module _ (l : Lent) (saved : SavedRun) (g : ℕ) where
   unfolding publish_call publish_tests publish_in publish_result
   publishes buffer fit x e f room =
       let page = published g x.state.store in
-      let last = require 23 (leb (length page) (length buffer)) >> passed page in
+      let last = require ShortBuffer (leb (length page) (length buffer)) >> passed page in
       let p : publish_tests l saved g (length buffer) ≡ passed page =
-      require-after 1 (both_tables_fit (lengths_of l)) (given 10 (sound_in l saved) >>= λ x. publish_in g (length buffer) x.state.store) fit
-      ∙ (given-bind 10 (λ x. publish_in g (length buffer) x.state.store) e
-      ∙ (require-after 22 (is_in g x.state.store.fetched) last f ∙ require-after 23 (leb (length page) (length buffer)) (passed page) (le→leb (length page) (length buffer) room))) in
+      require-after WrongLength (both_tables_fit (lengths_of l)) (given Unsound (sound_in l saved) >>= λ x. publish_in g (length buffer) x.state.store) fit
+      ∙ (given-bind Unsound (λ x. publish_in g (length buffer) x.state.store) e
+      ∙ (require-after NotFetched (is_in g x.state.store.fetched) last f ∙ require-after ShortBuffer (leb (length page) (length buffer)) (passed page) (le→leb (length page) (length buffer) room))) in
       ap (λ t. (publish_result buffer t).returned) p
 
 -- ── what a sound state is known to be ───────────────────────────────────────────────────────
@@ -273,17 +273,17 @@ module _ (l : Lent) (saved : SavedRun) (g : ℕ) (x : Calls.Sound) (e : sound_in
   unfolding take_in
   takes =
       let from14 : List Triple → Result PageTaken = λ rs.
-      require 14 (in_limits (with_page g (taken S g rs s.store) s.store)) >> passed (page_taken g (taken S g rs s.store) s) in
-      require-after 12 (is_graph (get_elem? s.store.terms g)) (given 13 (Calls.page_in page) >>= from14)
+      require NoRoom (in_limits (with_page g (taken S g rs s.store) s.store)) >> passed (page_taken g (taken S g rs s.store) s) in
+      require-after NoGraph (is_graph (get_elem? s.store.terms g)) (given BadPage (Calls.page_in page) >>= from14)
       (uri-graph S s.store.terms g (listed (HoldsURI S s.store.terms) g s.store.fetched (known l saved x e).fetched f))
-      ∙ (given-bind 13 from14 page-read
-      ∙ require-after 14 (in_limits (with_page g k s.store)) (passed (page_taken g k s)) (subst⁻¹ (λ z. T (in_limits z)) kept (known l saved x e).limits))
+      ∙ (given-bind BadPage from14 page-read
+      ∙ require-after NoRoom (in_limits (with_page g k s.store)) (passed (page_taken g k s)) (subst⁻¹ (λ z. T (in_limits z)) kept (known l saved x e).limits))
 
   abbrev after : State
   after = record { control = s.control; store = with_page g k s.store }
 
   called : page_call l saved g page ≡ record {
-    returned = record { answer = PageAnswers.Taken k.skipped; saved = saved_of (reported x.checked) after };
+    returned = record { answer = Ok k.skipped; saved = saved_of (reported x.checked) after };
     term_table = term_table after.store.terms;
     quad_table = quad_table after.store.quads;
   }
@@ -304,7 +304,7 @@ module _ (l : Lent) (saved : SavedRun) (g : ℕ) (x : Calls.Sound) (e : sound_in
       let fetched = s.store.fetched in
       rw called
       (record {
-        skips = ap PageAnswers.Taken (none-skipped S g s (store-sound l saved x e) f reads.0 reads.2);
+        skips = ap Ok (none-skipped S g s (store-sound l saved x e) f reads.0 reads.2);
         term_table = ap (λ (z : Store). term_table z.terms) kept ∙ sym (terms-held l saved x h b.terms wide);
         quad_table = ap (λ (z : Store). quad_table z.quads) kept ∙ sym (quads-held l saved x h b.quads broad);
         quads = ap (λ (z : Store). length z.quads) kept ∙ quads-in-count saved.store.quads l.quad_table s.store.quads st.quads;
@@ -343,7 +343,7 @@ unfolding Calls.page_in
 page-reads page ts e = (provided-inv (leb (length page) page_limit) (read_page page) e).1
 
 module _ (l : Lent) (saved : SavedRun) (g : ℕ) (page : List ℕ) where
-  fits_after : (t : Result Taking) → page_tests l saved g page ≡ t → (skipped : ℕ) → (page_result l saved t).returned.answer ≡ PageAnswers.Taken skipped
+  fits_after : (t : Result Taking) → page_tests l saved g page ≡ t → (skipped : ℕ) → (page_result l saved t).returned.answer ≡ Ok skipped
       → (buffer : List ℕ) → length page ≤ length buffer
       → let r = page_result l saved t in (n : ℕ) × Publishes (lent_after l r) r.returned.saved g buffer n × (n ≤ length page)
   unfolding page_result

@@ -1,4 +1,8 @@
 -- Type safety (demand 3): over any list of calls the untyped machine meets no fault, and every state that a call passes is sound.
+use Rattle.definitions.specs.declared.RunEnd.{RunEnd}
+use Rattle.definitions.specs.declared.Refusal.{Refusal}
+use Rattle.definitions.specs.declared.Refusal.TheVariants.{WrongLength, BadRun}
+use Rattle.std.specs.Prelude.{Ok, Err}
 use Prim.Native.Nat.{ℕ, ◌≤◌, ◌<◌}
 use native.Mathlib.Omega.{arith}
 use mathlib.Core.Path.{◌≡◌, refl, sym, ap, fun_ext, ◌∙◌}
@@ -22,7 +26,6 @@ use Rattle.definitions.specs.Calls.{Checked, check, constants_of, reported, Leng
 use Rattle.definitions.specs.CallList.{Call, running, paging, ran, Done, run_done, page_done, machine_call, machine_calls}
 use Rattle.definitions.specs.declared.RunState.{RunState}
 use Rattle.definitions.specs.declared.RunState.TheVariants.{Spent}
-use Rattle.definitions.specs.declared.RunAnswer.TheVariants as RunAnswers
 use Rattle.laws.specs.Lists.{All}
 use Rattle.laws.proofs.All.{all-weaken, all-conj, all-at}
 use Rattle.laws.proofs.Equality.{same-quad, quad-refl}
@@ -141,7 +144,7 @@ module _ (c : Checked) (accepted : Accepted c) where
 -- a run call reports the states that it passes, at most its budget and as many where it is spent
 abbrev pub Counted : Call → Done → Type 0
 Counted (running n budget now) d =
-    (k : ℕ) (r : RunState) → d.answer ≡ ran (RunAnswers.Ran k r) → (k ≡ length d.passed) × (k ≤ budget) × (r ≡ Spent → k ≡ budget)
+    (e : RunEnd) → d.answer ≡ ran (Ok e) → (e.steps ≡ length d.passed) × (e.steps ≤ budget) × (e.state ≡ Spent → e.steps ≡ budget)
 Counted (paging n g page) d = Unit {0}
 
 pub record CallSound (c : Checked) (x : Call) (d : Done) : Type 0 where
@@ -152,20 +155,21 @@ pub record CallSound (c : Checked) (x : Call) (d : Done) : Type 0 where
 
 module _ (c : Checked) (accepted : Accepted c) where
   module _ (n : Lengths) (budget : ℕ) (now : ℤ) where
-    refused-run : (x : ℕ) → Fine (CallSound c (running n budget now)) (run_done (refused x))
+    refused-run : (x : Refusal) → Fine (CallSound c (running n budget now)) (run_done (refused x))
     unfolding run_done
     refused-run x =
-        fine {a = record { answer = ran (RunAnswers.Refused x); passed = [] }}
-        (record { passed = tt; typed = tt; counted = λ k r e. absurd (let z : ◌≡◌ {A = ℕ} 0 1 = cc in omega arith) })
+        fine {a = record { answer = ran (Err x); passed = [] }}
+        (record { passed = tt; typed = tt; counted = λ r e. absurd (let z : ◌≡◌ {A = ℕ} 0 1 = cc in omega arith) })
 
     passed-run : {o : Outcome Run} → Fine (RunSound c budget) o → Fine (CallSound c (running n budget now)) (run_done (passed o))
     unfolding run_done
-    passed-run h = fine-then h λ r p. fine {a = record { answer = ran (RunAnswers.Ran (length r.passed) r.ending); passed = r.passed }} (record {
+    passed-run h = fine-then h λ r p. fine {a = record { answer = ran (Ok (record { steps = length r.passed; state = r.ending })); passed = r.passed }} (record {
       passed = p.passed;
       typed = all-weaken (Sound c) (WellTyped c) (well_typed_lem c accepted) r.passed p.passed;
-      counted = λ k e q.
-          let steps : length r.passed ≡ k = cc in
-          let ending : r.ending ≡ e = cc in
+      counted = λ e q.
+          let end : ◌≡◌ {A = RunEnd} (record { steps = length r.passed; state = r.ending }) e = cc in
+          let steps : length r.passed ≡ e.steps = ap (λ (e : RunEnd). e.steps) end in
+          let ending : r.ending ≡ e.state = ap (λ (e : RunEnd). e.state) end in
           (omega (arith, steps), omega (arith, steps, p.steps), λ s. let spent = p.spent (ending ∙ s) in omega (arith, steps, spent));
     })
 
@@ -179,12 +183,12 @@ module _ (c : Checked) (accepted : Accepted c) where
   unfolding machine_call run_in
   call-sound ranks (running n budget now) s h =
       let ask : Result (Outcome Run) → Type 0 = λ r. Fine (CallSound c (running n budget now)) (run_done r) in
-      by-require ask 1 (tables_fit n) _ (refused-run n budget now 1)
-      (by-require ask 11 (leb budget budget_limit && is_date_time now) _ (refused-run n budget now 11)
+      by-require ask WrongLength (tables_fit n) _ (refused-run n budget now WrongLength)
+      (by-require ask BadRun (leb budget budget_limit && is_date_time now) _ (refused-run n budget now BadRun)
       (passed-run n budget now (run_sound c accepted ranks now budget s h)))
   call-sound ranks (paging n g page) s h =
-      fine (by-require (λ r. CallSound c (paging n g page) (page_done r)) 1 (tables_fit n) (take_in c g page s)
-      (paged-call n g page (refused 1) (λ k e. absurd (not-refused e)))
+      fine (by-require (λ r. CallSound c (paging n g page) (page_done r)) WrongLength (tables_fit n) (take_in c g page s)
+      (paged-call n g page (refused WrongLength) (λ k e. absurd (not-refused e)))
       (paged-call n g page (take_in c g page s) (λ k e. page-sound c accepted g page s k h e)))
 
 -- ── any list of calls ───────────────────────────────────────────────────────────────────────

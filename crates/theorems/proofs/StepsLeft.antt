@@ -1,4 +1,7 @@
 -- Of a script with no each block, every step takes one record of kinds 71 to 74 off the stack, and a run has ended where none is left.
+use Rattle.definitions.specs.declared.Refusal.{Refusal}
+use Rattle.definitions.specs.declared.Refusal.TheVariants.{WrongLength, BadRun}
+use Rattle.std.specs.Prelude.{Ok, Err}
 use Prim.Native.Nat.{ℕ, zero, suc, ◌+◌, ◌≤◌}
 use native.Mathlib.Omega.{arith}
 use mathlib.Core.Path.{◌≡◌, refl, ap}
@@ -24,7 +27,6 @@ use Rattle.definitions.specs.CallList.{Call, running, paging, Answer, ran, paged
 use Rattle.definitions.specs.Numbers.{state_number}
 use Rattle.definitions.specs.declared.RunState.{RunState}
 use Rattle.definitions.specs.declared.RunState.TheVariants.{Ended, Wanted, Waiting, Spent}
-use Rattle.definitions.specs.declared.RunAnswer.TheVariants as RunAnswers
 use Rattle.laws.proofs.Tests.{by-test}
 use Rattle.laws.specs.Outcomes.{OrFault, holds}
 use Rattle.laws.proofs.NoFault.{holds_then, holds_after, holds-and}
@@ -146,13 +148,13 @@ module _ (σ : Setting) (Γ : Typing) where
 
 -- the steps that an answer tells
 abbrev pub steps_in : Answer → ℕ
-steps_in (ran (RunAnswers.Ran steps r)) = steps
-steps_in (ran (RunAnswers.Refused n)) = 0
+steps_in (ran (Ok e)) = e.steps
+steps_in (ran (Err n)) = 0
 steps_in (paged a) = 0
 
 abbrev pub AnswerEnds : (n : ℕ) → Answer → Type 0
-AnswerEnds n (ran (RunAnswers.Ran steps r)) = EndedAt n r
-AnswerEnds n (ran (RunAnswers.Refused m)) = Unit {0}
+AnswerEnds n (ran (Ok e)) = EndedAt n e.state
+AnswerEnds n (ran (Err m)) = Unit {0}
 AnswerEnds n (paged a) = Unit {0}
 
 pub record DoneLeft (s : State) (d : Done) : Type 0 where
@@ -160,14 +162,14 @@ pub record DoneLeft (s : State) (d : Done) : Type 0 where
   pub ended : AnswerEnds (stack_records (last_of s d.passed).control.stack) d.answer
 
 module _ (s : State) (h : NoEach s.control.stack) where
-  refused-run : (n : ℕ) → OrFault (DoneLeft s) (run_done (refused n))
+  refused-run : (n : Refusal) → OrFault (DoneLeft s) (run_done (refused n))
   unfolding run_done
-  refused-run n = holds {a = record { answer = ran (RunAnswers.Refused n); passed = [] }} (record { left = record { counted = omega arith; none_each = h }; ended = tt })
+  refused-run n = holds {a = record { answer = ran (Err n); passed = [] }} (record { left = record { counted = omega arith; none_each = h }; ended = tt })
 
   passed-run : {o : Outcome Run} → OrFault (RunLeft s) o → OrFault (DoneLeft s) (run_done (passed o))
   unfolding run_done
   passed-run k =
-      holds_then k λ r p. holds {a = record { answer = ran (RunAnswers.Ran (length r.passed) r.ending); passed = r.passed }}
+      holds_then k λ r p. holds {a = record { answer = ran (Ok (record { steps = length r.passed; state = r.ending })); passed = r.passed }}
       (record { left = p.left; ended = p.ended })
 
   page-left : (r : Result PageTaken) → ((k : PageTaken) → r ≡ passed k → k.state.control ≡ s.control) → DoneLeft s (page_done r)
@@ -178,9 +180,9 @@ module _ (s : State) (h : NoEach s.control.stack) where
 pub call-left : (c : Checked) (ranks : List ℕ) (x : Call) (s : State) → NoEach s.control.stack → OrFault (DoneLeft s) (machine_call c ranks x s)
 unfolding machine_call run_in
 call-left c ranks (running n budget now) s h =
-    by-require (λ r. OrFault (DoneLeft s) (run_done r)) 1 (tables_fit n) _ (refused-run s h 1)
-    (by-require (λ r. OrFault (DoneLeft s) (run_done r)) 11 (leb budget budget_limit && is_date_time now) _ (refused-run s h 11)
+    by-require (λ r. OrFault (DoneLeft s) (run_done r)) WrongLength (tables_fit n) _ (refused-run s h WrongLength)
+    (by-require (λ r. OrFault (DoneLeft s) (run_done r)) BadRun (leb budget budget_limit && is_date_time now) _ (refused-run s h BadRun)
     (passed-run s h (run-left (setting_of c ranks now) (type_at c.types) budget s h)))
 call-left c ranks (paging n g page) s h =
-    holds (by-require (λ r. DoneLeft s (page_done r)) 1 (tables_fit n) (take_in c g page s) (page-left s h (refused 1) (λ k e. absurd (not-refused e)))
+    holds (by-require (λ r. DoneLeft s (page_done r)) WrongLength (tables_fit n) (take_in c g page s) (page-left s h (refused WrongLength) (λ k e. absurd (not-refused e)))
     (page-left s h (take_in c g page s) (λ k e. ap (λ (k : PageTaken). k.state.control) (page-passed c g s page k e).result)))

@@ -5,6 +5,8 @@
 --
 -- Each call has a table of its rules in its order: the refusal's number, and whether what the call is handed keeps the rule.
 -- `ExportRefusals` says the same of the C interface, where the saved run and the report are lent as bytes too.
+use Rattle.std.specs.Prelude.{Ok, Err}
+use Rattle.definitions.specs.declared.Refusal.{Refusal}
 use Rattle.std.specs.Prelude.{ℕ, ◌≡◌, List, [], ◌∷◌, ◌++◌, Bool, true, false, not, ◌&&◌, eqb, leb, length, ℤ}
 use Rattle.std.proofs.Math.Option.{Option, none, some}
 use Rattle.std.proofs.Math.ListN.{get_elem?}
@@ -26,17 +28,11 @@ use Rattle.definitions.specs.Result.{passed, given}
 use Rattle.definitions.specs.Numerals.{numeral_of, term_of}
 use Rattle.definitions.specs.Calls.{constants_of, sizes_fit, Lent, lengths_fit, load, Sound, sound_in, run_call, is_graph, page_in, page_call, total, number_call, suggest, schema_call}
 use Rattle.definitions.specs.Calls.{lengths_of, both_tables_fit, publish_call}
-use Rattle.definitions.specs.Numbers.{load_number, run_number, page_number, total_number, result_number, suggest_number, schema_number, publish_number}
+use Rattle.definitions.specs.Numbers.{answer_number, result_number}
 use Rattle.definitions.specs.declared.SavedRun.{SavedRun}
 use Rattle.definitions.specs.declared.RunState.{RunState}
 use Rattle.definitions.specs.declared.Ran.{Ran}
-use Rattle.definitions.specs.declared.LoadAnswer.TheVariants as LoadAnswers
-use Rattle.definitions.specs.declared.RunAnswer.TheVariants as RunAnswers
-use Rattle.definitions.specs.declared.PageAnswer.TheVariants as PageAnswers
-use Rattle.definitions.specs.declared.TotalAnswer.TheVariants as TotalAnswers
-use Rattle.definitions.specs.declared.SuggestAnswer.TheVariants as SuggestAnswers
-use Rattle.definitions.specs.declared.SchemaAnswer.TheVariants as SchemaAnswers
-use Rattle.definitions.specs.declared.PublishAnswer.TheVariants as PublishAnswers
+use Rattle.definitions.specs.declared.Suggested.TheVariants as Suggests
 
 -- ── rules in order ──────────────────────────────────────────────────────────────────────────
 
@@ -174,31 +170,31 @@ publish_broken l saved g buffer = first_broken (publish_rules (both_tables_fit (
 
 pub record LoadRefuses (l : Lent) : Type 0 where
   -- the call gives the number of the first rule broken
-  pub number : load_number (load l).returned.answer ≡ load_broken l
+  pub number : answer_number (load l).returned.answer ≡ load_broken l
   -- and every lent buffer keeps its bytes
   pub keeps : (load_broken l ≡ 0 → ⊥) → ((load l).term_table ≡ l.term_table) × ((load l).quad_table ≡ l.quad_table)
   -- every other input gets its answer
-  pub answers : load_broken l ≡ 0 → (load l).returned.answer ≡ LoadAnswers.Accepted
+  pub answers : load_broken l ≡ 0 → (load l).returned.answer ≡ Ok tt
 
 -- a run call has an outcome, no fault; the tables it only reads
 pub record RunRefuses (l : Lent) (saved : SavedRun) (budget : ℕ) (now : ℤ) : Type 0 where
   pub ran : Ran
   pub given : run_call l saved budget now ≡ ok ran
-  pub number : run_number ran.answer ≡ run_broken l saved budget now
+  pub number : answer_number ran.answer ≡ run_broken l saved budget now
   pub keeps : (run_broken l saved budget now ≡ 0 → ⊥) → ran.saved ≡ saved
-  pub answers : run_broken l saved budget now ≡ 0 → (steps : ℕ) × (state : RunState) × (ran.answer ≡ RunAnswers.Ran steps state)
+  pub answers : run_broken l saved budget now ≡ 0 → (steps : ℕ) × (state : RunState) × (ran.answer ≡ Ok (record { steps = steps; state = state }))
 
 pub record PageRefuses (l : Lent) (saved : SavedRun) (graph : ℕ) (page : List ℕ) : Type 0 where
-  pub number : page_number (page_call l saved graph page).returned.answer ≡ page_broken l saved graph page
+  pub number : answer_number (page_call l saved graph page).returned.answer ≡ page_broken l saved graph page
   pub keeps : (page_broken l saved graph page ≡ 0 → ⊥) → let r = page_call l saved graph page in
       (r.returned.saved ≡ saved) × (r.term_table ≡ l.term_table) × (r.quad_table ≡ l.quad_table)
   pub answers : page_broken l saved graph page ≡ 0
-      → (skipped : ℕ) × ((page_call l saved graph page).returned.answer ≡ PageAnswers.Taken skipped)
+      → (skipped : ℕ) × ((page_call l saved graph page).returned.answer ≡ Ok skipped)
 
 -- the total and the number are lent nothing that they write
 pub record TotalRefuses (terms schema script : List ℕ) : Type 0 where
-  pub number : total_number (total terms schema script) ≡ total_broken terms schema script
-  pub answers : total_broken terms schema script ≡ 0 → (n : ℕ) × (total terms schema script ≡ TotalAnswers.Total n)
+  pub number : answer_number (total terms schema script) ≡ total_broken terms schema script
+  pub answers : total_broken terms schema script ≡ 0 → (n : ℕ) × (total terms schema script ≡ Ok n)
 
 pub record NumberRefuses (text : List ℕ) : Type 0 where
   pub number : result_number (number_call text) ≡ number_broken text
@@ -206,19 +202,19 @@ pub record NumberRefuses (text : List ℕ) : Type 0 where
 
 -- nor is a suggestion
 pub record SuggestRefuses (terms schema script : List ℕ) : Type 0 where
-  pub number : suggest_number (suggest terms schema script) ≡ suggest_broken terms schema script
-  pub answers : suggest_broken terms schema script ≡ 0 → (n : ℕ) → suggest terms schema script ≡ SuggestAnswers.Refused n → ⊥
+  pub number : answer_number (suggest terms schema script) ≡ suggest_broken terms schema script
+  pub answers : suggest_broken terms schema script ≡ 0 → (n : Refusal) → suggest terms schema script ≡ Err n → ⊥
 
 pub record SchemaRefuses (page schema : List ℕ) : Type 0 where
-  pub number : schema_number (schema_call page schema).answer ≡ schema_broken page schema
+  pub number : answer_number (schema_call page schema).answer ≡ schema_broken page schema
   pub keeps : (schema_broken page schema ≡ 0 → ⊥) → (schema_call page schema).schema ≡ schema
-  pub answers : schema_broken page schema ≡ 0 → (entries left_out : ℕ) × ((schema_call page schema).answer ≡ SchemaAnswers.Gathered entries left_out)
+  pub answers : schema_broken page schema ≡ 0 → (entries left_out : ℕ) × ((schema_call page schema).answer ≡ Ok (record { entries = entries; left_out = left_out }))
 
 -- publishing writes its buffer alone
 pub record PublishRefuses (l : Lent) (saved : SavedRun) (graph : ℕ) (buffer : List ℕ) : Type 0 where
-  pub number : publish_number (publish_call l saved graph buffer).returned ≡ publish_broken l saved graph buffer
+  pub number : answer_number (publish_call l saved graph buffer).returned ≡ publish_broken l saved graph buffer
   pub keeps : (publish_broken l saved graph buffer ≡ 0 → ⊥) → (publish_call l saved graph buffer).page ≡ buffer
-  pub answers : publish_broken l saved graph buffer ≡ 0 → (n : ℕ) × ((publish_call l saved graph buffer).returned ≡ PublishAnswers.Published n)
+  pub answers : publish_broken l saved graph buffer ≡ 0 → (n : ℕ) × ((publish_call l saved graph buffer).returned ≡ Ok n)
 
 pub record Demand1 : Type 0 where
   pub load : (l : Lent) → LoadRefuses l

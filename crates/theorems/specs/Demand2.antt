@@ -8,6 +8,8 @@
 -- `IsTyping` and `IsGreatest` (`laws`, `Typings`) say what a typing is, and when it is above all; `Steps` and `Ends`
 -- (`safety`, `Steps`) what a run is; `PageLeaves` what a page leaves. `Saved.held` is the state that saved run and tables
 -- hold.
+use Rattle.definitions.specs.declared.Refusal.TheVariants.{NoTyping, NoGreatest}
+use Rattle.std.specs.Prelude.{Ok, Err}
 use Rattle.std.specs.Prelude.{ℕ, ◌≤◌, ◌≡◌, ◌⊎◌, ◌↔◌, List, T, length, ℤ}
 use Rattle.std.proofs.Math.Option.{some}
 use Rattle.definitions.specs.Lists.{distinct}
@@ -23,16 +25,13 @@ use Rattle.definitions.specs.Saved.{held}
 use Rattle.definitions.specs.Result.{passed}
 use Rattle.definitions.specs.Alphabet.{is_alphabet}
 use Rattle.definitions.specs.Calls.{Checked, constants_of, sizes_fit, check, reported_types, reported, Lent, lengths_fit, load, run_call, page_in, page_call, setting_of}
-use Rattle.definitions.specs.Numbers.{load_number}
+use Rattle.definitions.specs.Numbers.{answer_number}
 use Rattle.definitions.specs.declared.SavedRun.{SavedRun}
 use Rattle.definitions.specs.declared.RunState.{RunState}
 use Rattle.definitions.specs.declared.Ran.{Ran}
 use Rattle.laws.specs.Typings.{IsTyping, IsGreatest}
 use Rattle.safety.specs.Steps.{Steps, Ends}
 use Rattle.theorems.specs.PageLeaves.{PageLeaves}
-use Rattle.definitions.specs.declared.LoadAnswer.TheVariants as LoadAnswers
-use Rattle.definitions.specs.declared.RunAnswer.TheVariants as RunAnswers
-use Rattle.definitions.specs.declared.PageAnswer.TheVariants as PageAnswers
 
 -- ── load ──────────────────────────────────────────────────────────────────────────────────────
 
@@ -77,12 +76,12 @@ module _ {l : Lent} (p : PastSeven l) where
 
   pub record LoadDecides : Type 0 where
     -- accepted exactly when there is a typing above all others, and that one is reported
-    pub accepted : ((load l).returned.answer ≡ LoadAnswers.Accepted) ↔ ((Γ : List Ty) × Greatest Γ)
+    pub accepted : ((load l).returned.answer ≡ Ok tt) ↔ ((Γ : List Ty) × Greatest Γ)
     pub reported : (Γ : List Ty) → Greatest Γ → (load l).returned.saved.control.types ≡ reported_types written Γ
     -- it has none
-    pub refusal-8 : ((load l).returned.answer ≡ LoadAnswers.Refused 8) ↔ ((Γ : List Ty) → Typing Γ → ⊥)
+    pub refusal-8 : ((load l).returned.answer ≡ Err NoTyping) ↔ ((Γ : List Ty) → Typing Γ → ⊥)
     -- it has some, and none is above the rest
-    pub refusal-9 : ((load l).returned.answer ≡ LoadAnswers.Refused 9) ↔ (((Γ : List Ty) × Typing Γ) × ((Γ : List Ty) → Greatest Γ → ⊥))
+    pub refusal-9 : ((load l).returned.answer ≡ Err NoGreatest) ↔ (((Γ : List Ty) × Typing Γ) × ((Γ : List Ty) → Greatest Γ → ⊥))
 
 -- ── run ───────────────────────────────────────────────────────────────────────────────────────
 
@@ -123,9 +122,9 @@ pub record PageTakes (l : Lent) (saved : SavedRun) (graph : ℕ) (page : List �
 
 pub record Demand2 : Type 0 where
   -- a load is refused with 1 to 7 or 21, or its script is past them
-  pub reaches : (l : Lent) → BeforeEight (load_number (load l).returned.answer) ⊎ PastSeven l
+  pub reaches : (l : Lent) → BeforeEight (answer_number (load l).returned.answer) ⊎ PastSeven l
   pub load : (l : Lent) (p : PastSeven l) → LoadDecides p
   pub run : (l : Lent) (saved : SavedRun) (budget : ℕ) (now : ℤ) (ran : Ran) → run_call l saved budget now ≡ ok ran
-      → (steps : ℕ) (ending : RunState) → ran.answer ≡ RunAnswers.Ran steps ending → RunTakes l saved budget now ran steps ending
+      → (steps : ℕ) (ending : RunState) → ran.answer ≡ Ok (record { steps = steps; state = ending }) → RunTakes l saved budget now ran steps ending
   pub page : (l : Lent) (saved : SavedRun) (graph : ℕ) (page : List ℕ) (skipped : ℕ)
-      → (page_call l saved graph page).returned.answer ≡ PageAnswers.Taken skipped → PageTakes l saved graph page skipped
+      → (page_call l saved graph page).returned.answer ≡ Ok skipped → PageTakes l saved graph page skipped

@@ -4,6 +4,7 @@
 --   when it has taken that many. Pages, waits and the cutting into calls don't alter the total.
 --
 -- Of every list of run and page calls after an accepted load, refused calls included: of the calls' answers, and at the C interface of the bytes of the reports.
+use Rattle.std.specs.Prelude.{Ok, Err}
 use Rattle.std.specs.Prelude.{ℕ, ◌+◌, ◌≤◌, ◌≡◌, List, [], ◌∷◌, Bool, cond, not, T, eqb, take}
 use Rattle.std.proofs.Math.Option.{some}
 use Rattle.definitions.specs.Lists.{some?}
@@ -19,9 +20,6 @@ use Rattle.definitions.specs.CallList.{Answer, ran, paged}
 use Rattle.definitions.specs.Numbers.{state_number}
 use Rattle.definitions.specs.Exports.{saved_from}
 use Rattle.definitions.specs.declared.SavedRun.{SavedRun}
-use Rattle.definitions.specs.declared.LoadAnswer.TheVariants as LoadAnswers
-use Rattle.definitions.specs.declared.RunAnswer.TheVariants as RunAnswers
-use Rattle.definitions.specs.declared.TotalAnswer.TheVariants as TotalAnswers
 use Rattle.theorems.specs.Hosts.{HostCall, Handed, kept_after_load, kept_after_all, engine_calls}
 use Rattle.theorems.specs.OnBytes.{ExportCall, running, paging, Exported, bytes_of, after_all, export_calls}
 
@@ -34,8 +32,8 @@ pub record RunTold : Type 0 where
 
 -- what an answer tells of a run, before what later answers tell
 unfoldable pub with_run : Answer → List RunTold → List RunTold
-with_run (ran (RunAnswers.Ran steps state)) later = record { steps = steps; state = state_number state } ∷ later
-with_run (ran (RunAnswers.Refused n)) later = later
+with_run (ran (Ok e)) later = record { steps = e.steps; state = state_number e.state } ∷ later
+with_run (ran (Err n)) later = later
 with_run (paged a) later = later
 
 unfoldable pub runs_told : List Handed → List RunTold
@@ -102,14 +100,14 @@ pub record ExactReports (l : Lent) (root : Script) (calls : List ExportCall) : T
 
 -- a load that is accepted, of a script with no each block
 pub record OnceLoad (l : Lent) : Type 0 where
-  pub accepted : (load l).returned.answer ≡ LoadAnswers.Accepted
+  pub accepted : (load l).returned.answer ≡ Ok tt
   pub read : Parsed
   pub reads : read_tests l.terms l.schema l.script ≡ passed read
   pub no_each : T (not (has_each read.root))
 
 pub record ExactSteps (l : Lent) (root : Script) : Type 0 where
   -- the total that is told
-  pub told : total l.terms l.schema l.script ≡ TotalAnswers.Total (script_records root)
+  pub told : total l.terms l.schema l.script ≡ Ok (script_records root)
   pub answers : (calls : List HostCall) → ExactAnswers l root calls
   pub reports : (calls : List ExportCall) → ExactReports l root calls
   -- two lists of calls that both reach the end report the same total

@@ -7,7 +7,7 @@ use Rattle.definitions.specs.Machine.{State}
 use Rattle.definitions.specs.Saved.{term_table, quad_table, saved_of}
 use Rattle.definitions.specs.Calls.{Checked, reported, Lent, Lengths, lengths_of, lengths_fit, load, run_call, page_call}
 use Rattle.definitions.specs.CallList.{Call, Answer, ran, paged}
-use Rattle.definitions.specs.Numbers.{run_number, page_number}
+use Rattle.definitions.specs.Numbers.{answer_number}
 use Rattle.definitions.specs.declared.SavedRun.{SavedRun}
 
 -- ── what a host hands over ──────────────────────────────────────────────────────────────────
@@ -58,8 +58,8 @@ pub record Handed : Type 0 where
 
 -- 0, or the refusal's number
 abbrev pub number_of : Answer → ℕ
-number_of (ran a) = run_number a
-number_of (paged a) = page_number a
+number_of (ran a) = answer_number a
+number_of (paged a) = answer_number a
 
 -- saved run and tables lent to a call
 abbrev pub lent_kept : Lending → Kept → Kept

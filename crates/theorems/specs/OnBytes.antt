@@ -6,7 +6,7 @@ use Rattle.definitions.specs.Outcome.{Outcome, ok, ◌>>=◌}
 use Rattle.definitions.specs.Saved.{no_run}
 use Rattle.definitions.specs.Calls.{Lent, tables_fit, load}
 use Rattle.definitions.specs.CallList.{Answer, ran, paged}
-use Rattle.definitions.specs.Exports.{saved_bytes, run_report, page_report, load_export, run_export, page_export}
+use Rattle.definitions.specs.Exports.{saved_bytes, run_report, count_report, load_export, run_export, page_export}
 use Rattle.definitions.specs.Limits.{run_report_width, page_report_width}
 use Rattle.theorems.specs.Hosts as Hosts
 use Rattle.theorems.specs.Hosts.{Kept, kept_after_load, HostCall, Handed, number_of}
@@ -103,7 +103,7 @@ call_of (paging t g page) = HostCall.paging (lending_of t) g page
 
 abbrev pub report_of : (report : List ℕ) → Answer → List ℕ
 report_of report (ran a) = run_report report a
-report_of report (paged a) = page_report report a
+report_of report (paged a) = count_report report a
 
 -- what a call of demand 3 hands back, as bytes; where some buffer has another length, number 1 and everything as it was lent
 abbrev pub handed_bytes : {width : ℕ} → Lending width → Handed → Exported

@@ -5,6 +5,7 @@
 --
 -- Of two lists of run and page calls, each after an accepted load, of whatever cards, refused calls included: where what they leave holds the same terms by number
 -- and the same set of quads, both tables are the same bytes.
+use Rattle.std.specs.Prelude.{Ok}
 use Rattle.std.specs.Prelude.{◌≡◌, List}
 use Rattle.std.proofs.Math.Option.{some}
 use Rattle.definitions.specs.Evaluate.{Quad, stored}
@@ -12,7 +13,6 @@ use Rattle.definitions.specs.Outcome.{ok}
 use Rattle.definitions.specs.Machine.{Store}
 use Rattle.definitions.specs.Saved.{held_store}
 use Rattle.definitions.specs.Calls.{Lent, load}
-use Rattle.definitions.specs.declared.LoadAnswer.TheVariants as LoadAnswers
 use Rattle.theorems.specs.Hosts.{HostCall, Handed, Kept, kept_after_load, kept_after_all, engine_calls}
 
 -- the same terms by number, and the same set of quads
@@ -23,7 +23,7 @@ pub record Alike (a b : Store) : Type 0 where
 -- what a list of calls after an accepted load leaves, and the store that it holds
 pub record Left (k : Kept) (s : Store) : Type 0 where
   pub lent : Lent
-  pub accepted : (load lent).returned.answer ≡ LoadAnswers.Accepted
+  pub accepted : (load lent).returned.answer ≡ Ok tt
   pub calls : List HostCall
   pub handed : List Handed
   pub given : engine_calls lent calls (kept_after_load lent) ≡ ok handed

@@ -6,6 +6,11 @@
 --   gets that answer instead.
 --
 -- A type is written in the script's bytes: its code stands in the byte after the variable's, in the pair that binds it.
+use Rattle.definitions.specs.declared.Refusal.{Refusal}
+use Rattle.definitions.specs.Numbers.{refusal_number}
+use Rattle.definitions.specs.declared.Refusal.TheVariants.{NoGreatest}
+use Rattle.std.specs.Prelude.{Ok, Err}
+use Rattle.definitions.specs.Result.{OrRefusal}
 use Rattle.std.specs.Prelude.{ℕ, ◌+◌, ◌<◌, ◌≡◌, ◌⊎◌, ◌↔◌, List, [], ◌∷◌, true, false, T, eqb, set}
 use Rattle.std.proofs.Math.Option.{Option, none, some}
 use Rattle.definitions.specs.Limits.{pairs_offset}
@@ -15,9 +20,8 @@ use Rattle.definitions.specs.Types.{Ty, type_code}
 use Rattle.definitions.specs.Tree.{Binder, Script, success, from_named, block, sequence}
 use Rattle.definitions.specs.Result.{passed}
 use Rattle.definitions.specs.Calls.{Parsed, read_tests, Lent, lengths_fit, load, suggest}
-use Rattle.definitions.specs.declared.LoadAnswer.TheVariants as LoadAnswers
-use Rattle.definitions.specs.declared.SuggestAnswer.{SuggestAnswer}
-use Rattle.definitions.specs.declared.SuggestAnswer.TheVariants as SuggestAnswers
+use Rattle.definitions.specs.declared.Suggested as Code
+use Rattle.definitions.specs.declared.Suggested.TheVariants as Suggests
 
 -- ── a type written at a variable ────────────────────────────────────────────────────────────
 
@@ -56,7 +60,7 @@ pub record OpenAt (script : List ℕ) (root : Script) (x pair : ℕ) : Type 0 wh
 -- ── what is suggested ───────────────────────────────────────────────────────────────────────
 
 abbrev pub Accepts : Lent → Type 0
-Accepts l = (load l).returned.answer ≡ LoadAnswers.Accepted
+Accepts l = (load l).returned.answer ≡ Ok tt
 
 module _ (l : Lent) (root : Script) where
   -- the type of a code, written at an open variable, leads to acceptance, and no lower variable or code does
@@ -73,19 +77,19 @@ module _ (l : Lent) (root : Script) where
   NoneDoes = (y at : ℕ) (τ : Ty) → OpenAt l.script root y at → Accepts (with_code l at (type_code τ)) → ⊥
 
   -- the answer after refusal 9
-  abbrev pub Suggested : SuggestAnswer → Type 0
-  Suggested SuggestAnswers.Accepted = ⊥
-  Suggested (SuggestAnswers.Named x code) = Lowest x code
-  Suggested SuggestAnswers.NoSingle = NoneDoes
-  Suggested (SuggestAnswers.Refused n) = ⊥
+  abbrev pub Suggested : OrRefusal Code.Suggested → Type 0
+  Suggested (Ok Suggests.Accepted) = ⊥
+  Suggested (Ok (Suggests.Named x code)) = Lowest x code
+  Suggested (Ok Suggests.NoSingle) = NoneDoes
+  Suggested (Err n) = ⊥
 
 -- of a card that is lent to a load with an alphabet and tables of their lengths
 pub record OneType (l : Lent) : Type 0 where
   -- a script accepted as it is, or refused below 9, gets that answer
-  pub accepted : Accepts l ↔ (suggest l.terms l.schema l.script ≡ SuggestAnswers.Accepted)
-  pub refused : (n : ℕ) → n < 9 → ((load l).returned.answer ≡ LoadAnswers.Refused n) ↔ (suggest l.terms l.schema l.script ≡ SuggestAnswers.Refused n)
+  pub accepted : Accepts l ↔ (suggest l.terms l.schema l.script ≡ Ok Suggests.Accepted)
+  pub refused : (n : Refusal) → refusal_number n < 9 → ((load l).returned.answer ≡ Err n) ↔ (suggest l.terms l.schema l.script ≡ Err n)
   -- after refusal 9 the script has been read, and the answer is a type that would do, or that none would
-  pub suggested : (load l).returned.answer ≡ LoadAnswers.Refused 9
+  pub suggested : (load l).returned.answer ≡ Err NoGreatest
       → (x : Parsed) × (read_tests l.terms l.schema l.script ≡ passed x) × Suggested l x.root (suggest l.terms l.schema l.script)
 
 pub record OneTypes : Type 0 where

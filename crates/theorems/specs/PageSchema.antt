@@ -2,6 +2,7 @@
 --
 --   The records read back as a schema with distinct properties, which a load takes past 4 and 5. The datatype of each entry is the least that meets all
 --   that is asked of its subject, and a subject is left out exactly where there is no such datatype. Entries stand in the order of the subjects.
+use Rattle.std.specs.Prelude.{Ok}
 use Rattle.std.specs.Prelude.{ℕ, ◌+◌, ◌*◌, ◌≤◌, ◌≡◌, ◌↔◌, List, [], map, T, length, take, drop}
 use Rattle.std.proofs.Math.Option.{some}
 use Rattle.definitions.specs.Limits.{entry_width, entry_limit}
@@ -12,7 +13,6 @@ use Rattle.definitions.specs.Terms.{Text, Term, Entry, Schema, Triple, same_term
 use Rattle.definitions.specs.Gathering.{askings, asked_of, meets, least_asked, subjects_after}
 use Rattle.definitions.specs.Result.{passed}
 use Rattle.definitions.specs.Calls.{Listed, record_tests, page_in, SchemaResult, schema_call}
-use Rattle.definitions.specs.declared.SchemaAnswer.TheVariants as SchemaAnswers
 use Rattle.laws.specs.Lists.{◌∈◌}
 use Rattle.laws.specs.ReadAnswers.{is_some}
 
@@ -50,5 +50,5 @@ pub record PageSchema (page before after : List ℕ) (entries left_out : ℕ) : 
   pub others : entries + left_out ≡ length (subjects triples)
 
 abbrev pub PageSchemas : Type 0
-PageSchemas = (page schema : List ℕ) (entries left_out : ℕ) → (schema_call page schema).answer ≡ SchemaAnswers.Gathered entries left_out
+PageSchemas = (page schema : List ℕ) (entries left_out : ℕ) → (schema_call page schema).answer ≡ Ok (record { entries = entries; left_out = left_out })
     → PageSchema page schema (schema_call page schema).schema entries left_out

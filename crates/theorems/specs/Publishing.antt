@@ -5,6 +5,7 @@
 --   call always fits. Two stations that hold the same triples of a graph write the same bytes, however their terms are numbered.
 --
 -- The calls are `Calls.publishCall` and `Calls.pageCall`; a call that publishes n bytes has its page in the first n bytes of the buffer.
+use Rattle.std.specs.Prelude.{Ok}
 use Rattle.std.specs.Prelude.{ℕ, ◌≤◌, ◌<◌, ◌≡◌, List, ◌↔◌, T, length, take}
 use Rattle.std.proofs.Math.Option.{some}
 use Rattle.definitions.specs.Alphabet.{is_alphabet}
@@ -14,13 +15,11 @@ use Rattle.definitions.specs.Terms.{Triple, read_page}
 use Rattle.definitions.specs.Publish.{triples_of}
 use Rattle.definitions.specs.Calls.{Lent, lengths_fit, Sound, sound_in, PageResult, page_call, publish_call}
 use Rattle.definitions.specs.declared.SavedRun.{SavedRun}
-use Rattle.definitions.specs.declared.PageAnswer.TheVariants as PageAnswers
-use Rattle.definitions.specs.declared.PublishAnswer.TheVariants as PublishAnswers
 use Rattle.laws.specs.Lists.{◌∈◌}
 
 -- what a call that publishes n bytes has written
 abbrev pub Publishes : Lent → SavedRun → (graph : ℕ) → (buffer : List ℕ) → ℕ → Type 0
-Publishes l saved g buffer n = (publish_call l saved g buffer).returned ≡ PublishAnswers.Published n
+Publishes l saved g buffer n = (publish_call l saved g buffer).returned ≡ Ok n
 
 abbrev pub written_page : Lent → SavedRun → (graph : ℕ) → (buffer : List ℕ) → ℕ → List ℕ
 written_page l saved g buffer n = take n (publish_call l saved g buffer).page
@@ -34,7 +33,7 @@ pub record TablesOfBytes (l : Lent) : Type 0 where
 
 -- a page call that skips nothing, and leaves both tables and the fetched list byte for byte, with the count of quads
 pub record AsItWas (l : Lent) (saved : SavedRun) (r : PageResult) : Type 0 where
-  pub skips : r.returned.answer ≡ PageAnswers.Taken 0
+  pub skips : r.returned.answer ≡ Ok 0
   pub term_table : r.term_table ≡ l.term_table
   pub quad_table : r.quad_table ≡ l.quad_table
   pub quads : r.returned.saved.store.quads ≡ saved.store.quads
@@ -53,7 +52,7 @@ lent_after l r = record { ranks = l.ranks; terms = l.terms; schema = l.schema; s
 
 -- a graph filled by a page call publishes into no more bytes than that page had
 abbrev pub AlwaysFits : Type 0
-AlwaysFits = (l : Lent) (saved : SavedRun) (g : ℕ) (page : List ℕ) (skipped : ℕ) → (page_call l saved g page).returned.answer ≡ PageAnswers.Taken skipped
+AlwaysFits = (l : Lent) (saved : SavedRun) (g : ℕ) (page : List ℕ) (skipped : ℕ) → (page_call l saved g page).returned.answer ≡ Ok skipped
     → (buffer : List ℕ) → length page ≤ length buffer
     → let r = page_call l saved g page in
     (n : ℕ) × Publishes (lent_after l r) r.returned.saved g buffer n × (n ≤ length page)

@@ -38,35 +38,26 @@ pub fn count_records(script: &[u8], terms: usize, at: usize, left: u8) -> Counts
             let next = after_name(script, terms, first, below);
             let c = count_records(script, terms, next, below);
             let records = c.records + 1;
-            Counts {
-                next: c.next,
-                records,
-                each: c.each,
-            }
+            Counts { records, ..c }
         }
         0x73 => {
             let own = script[first] == 1;
             let next = after_query(script, terms, at + QUERY_OFFSET, below);
             let inner = count_records(script, terms, next, below);
             let records = inner.records + 1;
-            let each = own | inner.each;
+            let each = own || inner.each;
             Counts {
-                next: inner.next,
                 records,
                 each,
+                ..inner
             }
         }
         _ => {
             let a = count_records(script, terms, first, below);
             let b = count_records(script, terms, a.next, below);
-            let both = a.records + b.records;
-            let records = both + 1;
-            let each = a.each | b.each;
-            Counts {
-                next: b.next,
-                records,
-                each,
-            }
+            let records = a.records + b.records + 1;
+            let each = a.each || b.each;
+            Counts { records, each, ..b }
         }
     }
 }
@@ -77,8 +68,5 @@ pub fn total_of(script: &[u8], terms: usize) -> usize
     ensures { result ≡ total_in (parsed terms script.now) }
 {
     let counts = count_records(script, terms, 0, DEPTH_LIMIT);
-    if counts.each {
-        return 0;
-    }
-    counts.records
+    if counts.each { 0 } else { counts.records }
 }

@@ -10,7 +10,7 @@ use lib.Dec.{leb}
 use lib.ListN.{length, get_or, take, drop, length-append}
 use lib.Seq.{take_at, drop_at, get_or_at}
 use Rattle.definitions.specs.Limits.{text_width, object_offset}
-use Rattle.definitions.specs.Bytes.{filled, provided, onward, records, in_front}
+use Rattle.definitions.specs.Bytes.{filled, provided, onward, in_front}
 use Rattle.definitions.specs.Types.{Datatype}
 use Rattle.definitions.specs.Terms.{Term, Text, Triple, datatype, of_page_kind, body_width, body_of, term_of_body, uri_text, uri_at, body_at, read_triple, read_page}
 use Rattle.definitions.specs.Publish.{page_kind, triple_bytes, page_of}

@@ -11,53 +11,46 @@ use definitions::Truth;
 pub fn told(present: bool, holds: bool) -> Truth
     ensures { result ≡ told_of present holds }
 {
-    if !present {
-        return Truth::Unknown;
+    match (present, holds) {
+        (false, _) => Truth::Unknown,
+        (true, true) => Truth::True,
+        (true, false) => Truth::False,
     }
-    if holds {
-        return Truth::True;
-    }
-    Truth::False
 }
 
 // Ruled out: unknown made true; false kept.
+#[tactic(auto, unfolding(definitions::specs::Truth::not_truth))]
 pub fn not_of(a: Truth) -> Truth
     ensures { result ≡ not_truth a }
 {
     match a {
         Truth::True => Truth::False,
         Truth::False => Truth::True,
-        Truth::Unknown => a,
+        Truth::Unknown => Truth::Unknown,
     }
 }
 
 // Ruled out: unknown and false made unknown; true and unknown made true.
+#[tactic(auto, unfolding(definitions::specs::Truth::and_truth))]
 pub fn and_of(a: Truth, b: Truth) -> Truth
     ensures { result ≡ and_truth a b }
 {
-    match a {
-        Truth::True => b,
-        Truth::False => Truth::False,
-        Truth::Unknown => match b {
-            Truth::True => Truth::Unknown,
-            Truth::False => Truth::False,
-            Truth::Unknown => Truth::Unknown,
-        },
+    match (a, b) {
+        (Truth::False, _) | (_, Truth::False) => Truth::False,
+        (Truth::True, Truth::True) => Truth::True,
+        (Truth::Unknown, _) | (_, Truth::Unknown) => Truth::Unknown,
     }
 }
 
 // Ruled out: unknown or false made false; unknown or true made unknown.
+#[tactic(auto, unfolding(definitions::specs::Truth::or_truth))]
 pub fn or_of(a: Truth, b: Truth) -> Truth
     ensures { result ≡ or_truth a b }
 {
-    match a {
-        Truth::True => Truth::True,
-        Truth::False => b,
-        Truth::Unknown => match b {
-            Truth::True => Truth::True,
-            Truth::False => Truth::Unknown,
-            Truth::Unknown => Truth::Unknown,
-        },
+    match (a, b) {
+        (Truth::True, _) | (_, Truth::True) => Truth::True,
+        (Truth::False, Truth::False) => Truth::False,
+        (Truth::Unknown, _) | (_, Truth::Unknown) => Truth::Unknown,
     }
 }
 
@@ -65,19 +58,13 @@ pub fn or_of(a: Truth, b: Truth) -> Truth
 pub fn comes_to(a: Truth, want: bool) -> bool
     ensures { result ≡ is_true (cond want a (not_truth a)) }
 {
-    if want {
-        return is_true(a);
-    }
-    is_true(not_of(a))
+    is_true(if want { a } else { not_of(a) })
 }
 
 // Whether a filter holds. Ruled out: one that holds on unknown; one that holds on false alone.
+#[tactic(auto, unfolding(definitions::specs::Truth::is_true))]
 pub fn is_true(a: Truth) -> bool
     ensures { result ≡ is_true a }
 {
-    match a {
-        Truth::True => true,
-        Truth::False => false,
-        Truth::Unknown => false,
-    }
+    matches!(a, Truth::True)
 }

@@ -1,5 +1,5 @@
 -- The evaluator's line by what trying a tuple gives, and the room that a line takes.
-use Rattle.std.specs.Prelude.{ℕ, ◌+◌, List, ◌++◌, Bool, cond}
+use Rattle.std.specs.Prelude.{ℕ, ◌+◌, List, ◌++◌, Bool, cond, Option as Maybe, None, Some}
 use Rattle.definitions.specs.Ascii.{ascii}
 use Rattle.definitions.specs.Values.{natural_text}
 use Rattle.definitions.specs.Printer.{line}
@@ -13,5 +13,6 @@ line_room = 8 + number_room + 1
 abbrev pub truth_text : Bool → List ℕ
 truth_text b = cond b (ascii "true ") (ascii "false ")
 
-unfoldable pub tried_line : Tried → List ℕ
-tried_line r = cond r.fits (line (truth_text r.holds ++ natural_text r.records)) (line (ascii "bad"))
+unfoldable pub tried_line : Maybe Tried → List ℕ
+tried_line None = line (ascii "bad")
+tried_line (Some r) = line (truth_text r.holds ++ natural_text r.records)

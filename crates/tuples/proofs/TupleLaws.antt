@@ -22,6 +22,7 @@ use Rattle.laws.specs.ScriptReads.{ReadsAs}
 use Rattle.query.specs.declared.Context.{Context}
 use Rattle.search.specs.Trying.{tuple_fits}
 use Rattle.search.specs.declared.Tried.{Tried}
+use Rattle.std.specs.Prelude.{Option as Maybe}
 use Rattle.acts.specs.Steps.{Top, on_top}
 use Rattle.acts.proofs.StepLaws.{top, blocked}
 use Rattle.acts.proofs.TopLaws.{no_item}
@@ -54,7 +55,7 @@ tuples-more f s (suc k) at =
 
 module _ {script ranks table quads leasts : List ℕ} {x : Context} {run : SavedControl} (w : Lends script ranks table quads leasts x run) where
   module _ {at : ℕ} (t : Top w.here at) where
-    line-here : (tuple : Tuple) (r : Tried) → TriesNow w t tuple r → (each : Bool) (bs : List Binder) (q : Query) (c : Script) → t.item.script ≡ block at each bs q c
+    line-here : (tuple : Tuple) (r : Maybe Tried) → TriesNow w t tuple r → (each : Bool) (bs : List Binder) (q : Query) (c : Script) → t.item.script ≡ block at each bs q c
         → tried_line r ≡ tuple_line (sound_here w) ranks (signed x.clock) (record { variables = variables_of bs; query = q }) tuple
     unfolding tuple_line
     line-here tuple r h each bs q c is =
@@ -69,7 +70,7 @@ module _ {script ranks table quads leasts : List ℕ} {x : Context} {run : Saved
     tuples-none tuples old each bs q c is = written_none old 0
 
     pub tuples-next : (tuples : List ℕ) (k : ℕ) {old mid new : List ℕ} {e r : ℕ} → TuplesWritten w t k tuples old mid e → {tuple : Tuple} → tuple ≡ words_from pair_limit tuples (tuple_width * k)
-        → (y : Tried) → TriesNow w t tuple y → Written (tried_line y) mid new e r → TuplesWritten w t (k + 1) tuples old new r
+        → (y : Maybe Tried) → TriesNow w t tuple y → Written (tried_line y) mid new e r → TuplesWritten w t (k + 1) tuples old new r
     tuples-next tuples k h {tuple} f y g z each bs q c is =
         let line = tuple_line (sound_here w) ranks (signed x.clock) (record { variables = variables_of bs; query = q }) in
         let from : tuple_width * k ≡ 0 + tuple_width * k = omega arith in

@@ -1,4 +1,6 @@
 -- Tuples for the block on top of a saved run, each with its line; or why there is none.
+use Rattle.definitions.specs.Numbers.{refusal_number}
+use Rattle.definitions.specs.declared.Refusal.TheVariants.{Unsound, BadRun, BadRanks}
 use Rattle.std.specs.Prelude.{ℕ, List, [], ◌∷◌, ◌++◌, Bool, true, false, ℤ}
 use Rattle.std.proofs.Math.Option.{Option, none, some}
 use Rattle.definitions.specs.Ascii.{ascii}
@@ -68,12 +70,12 @@ asked_lines x ranks now ts (some a) = tuple_lines (tuple_line x ranks now a) ts
 -- as a run call is refused: 21, then 10, also for bytes that no saved run has, then 11 for now
 unfoldable pub entered : Lent → (saved : List ℕ) → (now : ℤ) → Result Sound
 entered l saved now = do
-  require 21 (is_alphabet l.ranks)
-  run ← given 10 (saved_from saved)
+  require BadRanks (is_alphabet l.ranks)
+  run ← given Unsound (saved_from saved)
   x ← entry_tests l run
-  require 11 (is_date_time now)
+  require BadRun (is_date_time now)
   passed x
 
 unfoldable pub entered_lines : (ranks : List ℕ) → (now : ℤ) → List Tuple → Result Sound → List ℕ
-entered_lines ranks now ts (refused n) = line (ascii "refused " ++ natural_text n)
+entered_lines ranks now ts (refused n) = line (ascii "refused " ++ natural_text (refusal_number n))
 entered_lines ranks now ts (passed x) = asked_lines x ranks now ts (asked_on x.state.control.stack)

@@ -1,4 +1,6 @@
 -- The texts of the lines: digits, names, and a line after the other.
+use Rattle.definitions.specs.Numbers.{refusal_number}
+use Rattle.definitions.specs.declared.Refusal.{Refusal}
 use Prim.Native.Nat.{ℕ, zero, suc, ◌+◌, ◌-◌, ◌/◌, ◌%◌, ◌≤◌, ◌<◌}
 use native.Mathlib.Omega.{arith}
 use native.Mathlib.Numerals.{add-one}
@@ -10,7 +12,7 @@ use borrow.Author.Tests.{lt-ltb, le-ltb, ne_eqb}
 use Rattle.definitions.specs.Ascii.{ascii}
 use Rattle.definitions.specs.Values.{short_digits, natural_text}
 use Rattle.definitions.specs.Printer.{line}
-use Rattle.type_lines.specs.Lines.{datatype_text, type_text, variable_line, bound_line, bound_lines, counts, bound_ones, card_text}
+use Rattle.type_lines.specs.Lines.{datatype_text, type_text, variable_line, bound_line, bound_lines, counts, bound_ones, refused_text, accepted_text}
 
 -- ── digits ──────────────────────────────────────────────────────────────────────────────────
 
@@ -122,13 +124,11 @@ ones_none codes i h = ap bound_ones (drop-out codes i h)
 
 -- ── the whole ───────────────────────────────────────────────────────────────────────────────
 
-pub refused-text : (n : ℕ) (codes : List ℕ) → (n ≡ 0 → ⊥) → (ascii "refused " ++ natural_text n) ++ (0x0A ∷ []) ≡ card_text n codes
-unfolding card_text line
-refused-text zero codes h = absurd (h refl)
-refused-text (suc n) codes h = refl
+pub refused-text : {n : ℕ} (r : Refusal) → n ≡ refusal_number r → (ascii "refused " ++ natural_text n) ++ (0x0A ∷ []) ≡ refused_text r
+unfolding refused_text line
+refused-text r e = ap (λ (j : ℕ). (ascii "refused " ++ natural_text j) ++ (0x0A ∷ [])) e
 
-pub accepted-text : (n m : ℕ) (codes : List ℕ) → n ≡ 0 → m ≡ bound_ones codes
-    → ((ascii "accepted " ++ natural_text m) ++ (0x0A ∷ [])) ++ bound_lines 0 codes ≡ card_text n codes
-unfolding card_text line
-accepted-text n m codes e k =
-    ap (λ (j : ℕ). ((ascii "accepted " ++ natural_text j) ++ (0x0A ∷ [])) ++ bound_lines 0 codes) k ∙ ap (λ (j : ℕ). card_text j codes) (sym e)
+pub accepted-text : (m : ℕ) (codes : List ℕ) → m ≡ bound_ones codes
+    → ((ascii "accepted " ++ natural_text m) ++ (0x0A ∷ [])) ++ bound_lines 0 codes ≡ accepted_text codes
+unfolding accepted_text line
+accepted-text m codes k = ap (λ (j : ℕ). ((ascii "accepted " ++ natural_text j) ++ (0x0A ∷ [])) ++ bound_lines 0 codes) k

@@ -1,4 +1,6 @@
 -- The printer's lines by the codes of the reported types, 0 for a variable that no pair binds.
+use Rattle.definitions.specs.Numbers.{refusal_number}
+use Rattle.definitions.specs.declared.Refusal.{Refusal}
 use Rattle.std.specs.Prelude.{ℕ, zero, suc, ◌+◌, ◌-◌, ◌*◌, List, [], ◌∷◌, ◌++◌, true, false, ltb}
 use Rattle.definitions.specs.Limits.{variable_limit}
 use Rattle.definitions.specs.Ascii.{ascii}
@@ -69,6 +71,8 @@ bound_ones [] = 0
 bound_ones (k ∷ ks) = counts k + bound_ones ks
 
 -- state and variable count, then a line for each variable; on a refusal the single line `refused` and its number
-unfoldable pub card_text : (refusal : ℕ) → (codes : List ℕ) → List ℕ
-card_text zero codes = line (ascii "accepted " ++ natural_text (bound_ones codes)) ++ bound_lines 0 codes
-card_text (suc n) codes = line (ascii "refused " ++ natural_text (suc n))
+unfoldable pub accepted_text : (codes : List ℕ) → List ℕ
+accepted_text codes = line (ascii "accepted " ++ natural_text (bound_ones codes)) ++ bound_lines 0 codes
+
+unfoldable pub refused_text : Refusal → List ℕ
+refused_text r = line (ascii "refused " ++ natural_text (refusal_number r))

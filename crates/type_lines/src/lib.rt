@@ -6,9 +6,9 @@ ghost use Rattle.definitions.specs.Limits.{variable_limit};
 ghost use Rattle.definitions.specs.Values.{natural_text};
 ghost use Rattle.output.specs.Written.{Written};
 ghost use Rattle.type_lines.specs.Lines.{number_room, datatype_room, type_room, line_room, lines_room, output_room};
-ghost use Rattle.type_lines.specs.Lines.{datatype_text, type_text, variable_line, bound_line, bound_lines, counts, bound_ones, card_text};
+ghost use Rattle.type_lines.specs.Lines.{datatype_text, type_text, variable_line, bound_line, bound_lines, counts, bound_ones, refused_text, accepted_text};
 
-use definitions::VARIABLE_LIMIT;
+use definitions::{Refusal, VARIABLE_LIMIT};
 use output::{put_byte, put_text};
 
 // The most bytes that a number takes, a datatype, a type, a variable's line, the first line, and all that is printed.
@@ -104,11 +104,8 @@ fn put_lines(codes: &[u8], out: &mut [u8], from: usize) -> usize
     ensures upper_bound { result ≤ from + lines_room }
 {
     let mut at = from;
-    let mut i = 0;
-    while i < codes.len() {
-        let v = i as u8;
-        at = put_bound(v, codes[i], out, at);
-        i += 1;
+    for (i, &code) in codes.iter().enumerate() {
+        at = put_bound(i as u8, code, out, at);
     }
     at
 }
@@ -126,27 +123,30 @@ fn bound_ones(codes: &[u8]) -> u8
     ensures { result ≡ bound_ones codes.now }
 {
     let mut n = 0;
-    let mut i = 0;
-    while i < codes.len() {
-        n += one_if(codes[i]);
-        i += 1;
+    for &code in codes {
+        n += one_if(code);
     }
     n
 }
 
-// What is printed of a refusal's number, 0 for none, and of the reported types.
-// Ruled out: the number of a refusal that did not come; a count of used variables only.
-pub fn put_card(refusal: u8, codes: &[u8], out: &mut [u8]) -> usize
-    requires codes_len { length codes.now ≡ variable_limit }
-    requires out_len { length out.old ≡ output_room }
-    ensures written { Written (card_text refusal codes.now) out.old out.new 0 result }
+// What is printed of a refusal. Ruled out: the number of another refusal; a line without its end.
+pub fn put_refused(refusal: Refusal, out: &mut [u8]) -> usize
+    requires { length out.old ≡ output_room }
+    ensures written { Written (refused_text refusal) out.old out.new 0 result }
     ensures upper_bound { result ≤ output_room }
 {
-    if refusal != 0 {
-        let a = put_text(b"refused ", out, 0);
-        let b = put_number(refusal, out, a);
-        return put_byte(b'\n', out, b);
-    }
+    let a = put_text(b"refused ", out, 0);
+    let b = put_number(refusal.number(), out, a);
+    put_byte(b'\n', out, b)
+}
+
+// What is printed of the reported types. Ruled out: a count of used variables only; no line for the last variable.
+pub fn put_accepted(codes: &[u8], out: &mut [u8]) -> usize
+    requires codes_len { length codes.now ≡ variable_limit }
+    requires out_len { length out.old ≡ output_room }
+    ensures written { Written (accepted_text codes.now) out.old out.new 0 result }
+    ensures upper_bound { result ≤ output_room }
+{
     let a = put_text(b"accepted ", out, 0);
     let b = put_number(bound_ones(codes), out, a);
     let c = put_byte(b'\n', out, b);

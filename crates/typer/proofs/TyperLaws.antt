@@ -11,7 +11,7 @@ use Rattle.definitions.specs.Reading.{read_script, parsed}
 use Rattle.definitions.specs.Typing.{Written, verdict, written_types}
 use Rattle.laws.specs.Walks.{Walked}
 use Rattle.laws.specs.ReadAnswers.{is_some}
-use Rattle.facts.specs.declared.Answer.{Answer}
+use Rattle.definitions.specs.Result.{OrRefusal}
 use Rattle.facts.specs.declared.noting.Tables.{Tables}
 use Rattle.facts.specs.Demands.{script_demands}
 use Rattle.facts.specs.Tables.{fresh, all_noted}
@@ -35,7 +35,7 @@ module _ (leasts s : List ℕ) (good : is_some (parsed (length leasts) s) ≡ tr
   tables-noted written et w root p =
       (at-root (length leasts) s good w root p).tables ∙ ap (all_noted (sorts_in leasts) (all_written written) (script_demands root)) et
 
-  pub typed : (written : List ℕ) {u : Tables} {r : Answer} → length written ≡ variable_limit
+  pub typed : (written : List ℕ) {u : Tables} {r : OrRefusal (List ℕ)} → length written ≡ variable_limit
       → ((root : Script) → parsed (length leasts) s ≡ some root → u ≡ tables_of (sorts_in leasts) (all_written written) root)
       → r ≡ answer_of (all_written written) (read_off u (all_written written))
       → (root : Script) → parsed (length leasts) s ≡ some root → r ≡ answer_of (all_written written) (verdict (sorts_in leasts) (all_written written) root)
@@ -45,7 +45,7 @@ module _ (leasts s : List ℕ) (good : is_some (parsed (length leasts) s) ≡ tr
       er ∙ ap (λ (t : Tables). answer_of ws (read_off t ws)) (eu root p) ∙ ap (answer_of ws) (infer-is-verdict (sorts_in leasts) ws (written-length written per-variable) root)
 
   -- with the types that the script writes
-  pub typed-as-written : (written : List ℕ) {r : Answer} → ((root : Script) → parsed (length leasts) s ≡ some root → all_written written ≡ written_types root)
+  pub typed-as-written : (written : List ℕ) {r : OrRefusal (List ℕ)} → ((root : Script) → parsed (length leasts) s ≡ some root → all_written written ≡ written_types root)
       → ((root : Script) → parsed (length leasts) s ≡ some root → r ≡ answer_of (all_written written) (verdict (sorts_in leasts) (all_written written) root))
       → (root : Script) → parsed (length leasts) s ≡ some root → r ≡ answer_of (written_types root) (verdict (sorts_in leasts) (written_types root) root)
   typed-as-written written e h root p = h root p ∙ ap (λ (ws : List Written). answer_of ws (verdict (sorts_in leasts) ws root)) (e root p)

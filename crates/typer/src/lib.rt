@@ -13,8 +13,7 @@ ghost use Rattle.facts.specs.Infer.{tables_of};
 ghost use Rattle.facts.specs.Walk.{Joined};
 ghost use Rattle.facts.specs.Answers.{answer_of};
 
-use definitions::DEPTH_LIMIT;
-use facts::Answer;
+use definitions::{DEPTH_LIMIT, Refusal, VARIABLE_LIMIT};
 use facts::noting::Tables;
 use typing::{pairs, walk};
 
@@ -35,7 +34,11 @@ pub fn tables_of(script: &[u8], leasts: &[u8], written: &[u8]) -> Tables
 
 // The types of that script.
 // Ruled out: no typing for every script; any_uri for every variable.
-pub fn type_of_script(script: &[u8], leasts: &[u8], written: &[u8]) -> Answer
+pub fn type_of_script(
+    script: &[u8],
+    leasts: &[u8],
+    written: &[u8],
+) -> Result<[u8; VARIABLE_LIMIT], Refusal>
     requires script_value { is_some (parsed (length leasts.now) script.now) ≡ true }
     requires written_len { length written.now ≡ variable_limit }
     ensures { (root : Script) → parsed (length leasts.now) script.now ≡ some root → result
@@ -46,7 +49,7 @@ pub fn type_of_script(script: &[u8], leasts: &[u8], written: &[u8]) -> Answer
 
 // The types of a script, with the written types of its own pairs.
 // Ruled out: the least types that do; an any_uri variable as a property.
-pub fn work_out(script: &[u8], leasts: &[u8]) -> Answer
+pub fn work_out(script: &[u8], leasts: &[u8]) -> Result<[u8; VARIABLE_LIMIT], Refusal>
     requires { is_some (parsed (length leasts.now) script.now) ≡ true }
     ensures { (root : Script) → parsed (length leasts.now) script.now ≡ some root → result
         ≡ answer_of (written_types root) (verdict (sorts_in leasts.now) (written_types root) root) }

@@ -35,15 +35,13 @@ fn note_pairs(script: &[u8], at: usize, codes: [u8; VARIABLE_LIMIT]) -> [u8; VAR
     ensures { result ≡ pairs_noted (byte script.now (at + count_offset)) script.now (at + pairs_offset) codes }
 {
     let count = script[at + COUNT_OFFSET];
+    let first = at + PAIRS_OFFSET;
     let mut after = codes;
-    let mut place = at + PAIRS_OFFSET;
-    let mut k: u8 = 0;
-    while k < count {
+    for k in 0..count as usize {
+        let place = first + 2 * k;
         let v = script[place] as usize;
         let code = script[place + 1];
         after[v] = earlier(after[v], code);
-        place += 2;
-        k += 1;
     }
     after
 }

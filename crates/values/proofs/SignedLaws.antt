@@ -1,17 +1,17 @@
 -- Laws of signed numbers: how large a sum, a difference and a product are, and what the operations of an i64 give.
 use Prim.Native.Nat.{ℕ, zero, suc, ◌+◌, ◌*◌, ◌-◌, ◌^◌, ◌<◌, ◌≤◌}
 use mathlib.Core.Bool.{Bool, true, false, cond}
-use mathlib.Core.Path.{◌≡◌, refl, sym, ap, ap₂, ◌∙◌, subst}
+use mathlib.Core.Path.{◌≡◌, refl, sym, ap₂, ◌∙◌, subst}
 use native.Mathlib.Omega.{arith}
 use lib.Dec.{T, ltb, eqb}
 use lib.IntN.{ℤ, pos, negsuc, nat_abs, neg_ℤ, ◌+ℤ◌, ◌-ℤ◌, ◌*ℤ◌}
-use lib.Signed.{mag, lt_z}
+use lib.Signed.{mag}
 use borrow.Author.Tests.{ltb-true, eqb-true, eqb-false, eq-eqb, ne_eqb}
 use mir.Syntax.{w64}
 use mir.Val.{SFits, to_z, of_z}
 use mir.Facts.{to_z-of_z}
 use Rattle.definitions.specs.Limits.{integer_limit, decimal_limit}
-use Rattle.definitions.specs.Terms.{within_limits, is_integer, is_decimal, same_number}
+use Rattle.definitions.specs.Terms.{is_integer, is_decimal, same_number}
 use Rattle.laws.proofs.Bytes.{at_most}
 
 -- ── sizes ───────────────────────────────────────────────────────────────────────────────────
@@ -79,24 +79,5 @@ same-is (negsuc a) (negsuc b) fa fb = go (eqb a b) refl
 
 -- ── the distance from 0 ─────────────────────────────────────────────────────────────────────
 
-below-zero : (n : ℤ) → lt_z n (pos 0) ≡ true → pos 0 -ℤ n ≡ pos (nat_abs n)
-below-zero (pos n) e = let h = ltb-true n 0 e in absurd (omega arith)
-below-zero (negsuc n) e = ap pos (omega arith)
-
-module _ (n : ℤ) (fits : SFits w64 n) where
-  sign_of : (t : Bool) → lt_z (to_z w64 (of_z w64 n)) (pos 0) ≡ t → lt_z n (pos 0) ≡ t
-  sign_of t e = sym (ap (λ z. lt_z z (pos 0)) (to_z-of_z fits)) ∙ e
-
-  pub negated-small : T (is_decimal n) → nat_abs (pos 0 -ℤ n) < 2 ^ 63
-  unfolding within_limits
-  negated-small h = difference-small (pos 0) n tt h
-
-  pub negated-is : T (is_decimal n) → lt_z (to_z w64 (of_z w64 n)) (pos 0) ≡ true → to_z w64 (of_z w64 (pos 0 -ℤ to_z w64 (of_z w64 n))) ≡ pos (nat_abs n)
-  negated-is h e = op-is ◌-ℤ◌ (pos 0) n (record { sfits = omega arith }) fits (negated-small h) ∙ below-zero n (sign_of true e)
-
-not-below : (n : ℤ) → lt_z n (pos 0) ≡ false → n ≡ pos (nat_abs n)
-not-below (pos n) e = refl
-not-below (negsuc n) e = let z : true ≡ false = e in let y : ◌≡◌ {A = ℕ} 0 1 = cc in absurd (omega arith)
-
-pub kept-is : (n : ℤ) → SFits w64 n → lt_z (to_z w64 (of_z w64 n)) (pos 0) ≡ false → to_z w64 (of_z w64 n) ≡ pos (nat_abs n)
-kept-is n fits e = to_z-of_z fits ∙ not-below n (sign_of n fits false e)
+pub negated-fits : (n : ℤ) → SFits w64 n → T (is_decimal n) → SFits w64 (neg_ℤ (to_z w64 (of_z w64 n)))
+negated-fits n f h = rw (to_z-of_z f) (record { sfits = omega (arith, mag-abs (neg_ℤ n), abs_neg n, at_most decimal_limit n h) })

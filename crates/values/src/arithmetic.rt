@@ -8,7 +8,7 @@ ghost use Rattle.values.specs.NumberKinds.{held, in_kind, common_kind, counted_i
 use crate::{DECIMAL, INTEGER, Value, number};
 use definitions::{TAG_WIDTH, TEXT_WIDTH};
 
-// A number of a kind where present, else no value of that kind.
+// A number of a kind where present, else no value of that kind. Both are fields of a Value, so an Option would be made to be taken apart.
 pub fn numeric(kind: u8, present: bool, n: i64) -> Value
     ensures { result ≡ held kind (where? present n) }
 {
@@ -26,28 +26,23 @@ pub fn numeric(kind: u8, present: bool, n: i64) -> Value
 pub fn limited(kind: u8, n: i64) -> Value
     ensures { result ≡ held kind (where? (in_kind kind n) n) }
 {
-    if kind == INTEGER {
-        return numeric(
-            kind,
-            number::within(n, number::INTEGER_LEAST, number::INTEGER_MOST),
-            n,
-        );
-    }
-    numeric(
-        kind,
-        number::within(n, number::DECIMAL_LEAST, number::DECIMAL_MOST),
-        n,
-    )
+    let fits = if kind == INTEGER {
+        number::within(n, number::INTEGER_LEAST, number::INTEGER_MOST)
+    } else {
+        number::within(n, number::DECIMAL_LEAST, number::DECIMAL_MOST)
+    };
+    numeric(kind, fits, n)
 }
 
 // Integer with integer gives an integer, else a decimal.
 fn common_kind(a: u8, b: u8) -> u8
     ensures { result ≡ common_kind a b }
 {
-    if a == INTEGER {
-        return if b == INTEGER { INTEGER } else { DECIMAL };
+    if a == INTEGER && b == INTEGER {
+        INTEGER
+    } else {
+        DECIMAL
     }
-    DECIMAL
 }
 
 // A value's number as it counts in a result's kind: an integer in millionths where that is a decimal.
@@ -56,13 +51,11 @@ pub fn counted(v: Value, kind: u8) -> i64
     ensures value { result ≡ counted_in v.kind kind v.number }
     ensures t { T (is_decimal result) }
 {
-    let n = v.number;
-    if v.kind == INTEGER {
-        if kind == DECIMAL {
-            return number::scaled(n);
-        }
+    if v.kind == INTEGER && kind == DECIMAL {
+        number::scaled(v.number)
+    } else {
+        v.number
     }
-    n
 }
 
 // The sum. Ruled out: a sum outside the limits clipped to them; an integer added to a decimal as so many millionths.
@@ -103,7 +96,5 @@ pub fn abs(a: Value) -> Value
     ensures { Gives result (absolute (meaning a)) }
 {
     let kind = common_kind(a.kind, a.kind);
-    let present = a.present;
-    let n = a.number;
-    numeric(kind, present, number::distance(n))
+    numeric(kind, a.present, number::distance(a.number))
 }

@@ -50,19 +50,14 @@ pub fn distance(n: i64) -> i64
     requires { T (is_decimal n) }
     ensures { result ≡ pos (nat_abs n) }
 {
-    if n < 0 {
-        return 0 - n;
-    }
-    n
+    n.abs()
 }
 
 // Whether a number lies between two, both included. Ruled out: high left out; a number below low let in.
 pub fn within(n: i64, low: i64, high: i64) -> bool
     ensures { result ≡ (le_z low n && le_z n high) }
 {
-    let above = low <= n;
-    let below = n <= high;
-    above & below
+    low <= n && n <= high
 }
 
 // Ruled out: equal numbers taken for less; a compare of distances from 0.

@@ -1,23 +1,25 @@
 -- The script as a whole, by what reading its root answers.
+use Rattle.std.specs.Prelude.{Some}
+use Rattle.std.specs.Option.{option_eq}
 use Prim.Native.Nat.{ℕ}
-use mathlib.Core.Bool.{false}
 use mathlib.Core.List.{List}
-use mathlib.Core.Path.{◌≡◌, sym}
+use mathlib.Core.Option.{none, some}
+use mathlib.Core.Path.{◌≡◌, refl, sym}
 use lib.Dec.{eqb}
 use lib.ListN.{length}
-use Rattle.definitions.specs.Bytes.{onward}
+use Rattle.definitions.specs.Bytes.{Got, provided, onward}
 use Rattle.definitions.specs.Limits.{depth_limit}
 use Rattle.definitions.specs.Reading.{read_script, parsed}
-use Rattle.laws.proofs.Reading as R
-use Rattle.laws.proofs.ReadAnswers.{next-got, next-lost, provided-is}
+use Rattle.definitions.specs.Tree.{Script}
+use Rattle.laws.proofs.ReadAnswers.{provided-is}
 use Rattle.laws.specs.ReadAnswers.{is_some, next_of}
-use Rattle.definitions.specs.declared.Read.TheVariants.{Next, Malformed}
 
-module _ (terms : ℕ) (s : List ℕ) where
-  pub whole-fails : next_of (read_script s terms depth_limit 0) ≡ Malformed → false ≡ is_some (parsed terms s)
-  unfolding parsed onward
-  whole-fails e = rw (next-lost (read_script s terms depth_limit 0) e)
+-- the root ends with the bytes
+ends-there : (o : Got Script) (n : ℕ) → option_eq eqb (next_of o) (Some n) ≡ is_some (onward o (λ r. provided (eqb r.1 n) (some r.0)))
+unfolding next_of onward
+ends-there none n = refl
+ends-there (some r) n = sym (provided-is (eqb r.1 n) r.0)
 
-  pub whole-ends : {n : ℕ} → next_of (read_script s terms depth_limit 0) ≡ Next n → eqb n (length s) ≡ is_some (parsed terms s)
-  unfolding parsed onward
-  whole-ends {n} e = let h = next-got (read_script s terms depth_limit 0) e in rw h.1 (sym (provided-is (eqb n (length s)) h.0))
+pub whole-is : (terms : ℕ) (s : List ℕ) → option_eq eqb (next_of (read_script s terms depth_limit 0)) (Some (length s)) ≡ is_some (parsed terms s)
+unfolding parsed
+whole-is terms s = ends-there (read_script s terms depth_limit 0) (length s)

@@ -5,7 +5,7 @@ ghost use Rattle.std.specs.Prelude.{◌≡◌};
 ghost use Rattle.definitions.specs.Reading.{parsed};
 ghost use Rattle.laws.specs.ReadAnswers.{is_some};
 
-use definitions::{DEPTH_LIMIT, Read};
+use definitions::DEPTH_LIMIT;
 use reader::script::read_script;
 
 // Whether the whole script is well formed: its records not too deep, no bytes left over.
@@ -13,8 +13,5 @@ use reader::script::read_script;
 pub fn script_ok(script: &[u8], terms: usize) -> bool
     ensures { result ≡ is_some (parsed terms script.now) }
 {
-    let Read::Next(end) = read_script(script, terms, 0, DEPTH_LIMIT) else {
-        return false;
-    };
-    end == script.len()
+    read_script(script, terms, 0, DEPTH_LIMIT) == Some(script.len())
 }

@@ -1,7 +1,7 @@
 -- What tables with a type noted at a variable say of the variables' types.
-use mathlib.Core.Path.{◌≡◌, refl, ap, sym, ◌∙◌, subst}
-use mathlib.Core.Logic.{◌⊎◌, inl, inr, ⊎_elim, ◌↔◌}
-use Prim.Native.Nat.{ℕ, ◌≤◌, ◌<◌}
+use mathlib.Core.Path.{◌≡◌, refl, sym, ◌∙◌, subst}
+use mathlib.Core.Logic.{⊎_elim, ◌↔◌}
+use Prim.Native.Nat.{ℕ, ◌<◌}
 use native.Mathlib.Omega.{arith}
 use mathlib.Core.List.{List}
 use mathlib.Core.Bool.{Bool, true, false, cond, ◌||◌}
@@ -15,10 +15,10 @@ use Rattle.laws.proofs.Tests.{or_cases, or_left, or_right}
 use Rattle.laws.proofs.Ranges.{split}
 use Rattle.laws.proofs.Variables.{at-variable}
 use Rattle.facts.specs.declared.noting.Tables.{Tables}
-use Rattle.facts.specs.Tables.{own_node, range_node, edge_at, merged, at_most, as_property, at_least, impossible}
+use Rattle.facts.specs.Tables.{own_node, range_node, edge_at, at_most, as_property, at_least, impossible}
 use Rattle.facts.specs.Infer.{root}
-use Rattle.facts.proofs.Family.{is_range, range_or, leq-plain, leq-ranges, range-leq}
-use Rattle.facts.proofs.Tables.{Flagged, Environment, range_of, Low, High, Property, Sound, Adds, adds_then, adds-as, adds-when, merged-joins}
+use Rattle.facts.proofs.Family.{is_range, range_or, leq-plain}
+use Rattle.facts.proofs.Tables.{Flagged, Environment, Low, High, Sound, Adds, adds_then, adds-as, merged-joins}
 use Rattle.facts.proofs.NotingLaws.{own_below, range-below, node-below, at-most-adds, as-property-adds, at-least-adds, impossible-adds}
 use Rattle.with_type.specs.WithType.{flagged, with_highs, with_lows, leaves, at_most_type, with_type}
 

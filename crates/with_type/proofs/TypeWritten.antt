@@ -25,7 +25,7 @@ use Rattle.facts.specs.declared.noting.Tables.{Tables}
 use Rattle.facts.specs.Tables.{family_limit, range_nodes, edge_at}
 use Rattle.facts.specs.Infer.{root, read_off, tables_of}
 use Rattle.facts.proofs.Family.{is_range, range_or, datatype-trans, leq-family, not-between, is-decimal, is-integer, leq-within, own-leq, range-leq}
-use Rattle.facts.proofs.Tables.{Flagged, Paired, Environment, own_of, range_of, value, Low, High, Property, Edge, Satisfies, Open, Sound, Adds}
+use Rattle.facts.proofs.Tables.{Flagged, Environment, own_of, range_of, value, Low, High, Property, Edge, Satisfies, Open, Sound, Adds}
 use Rattle.facts.proofs.Infer.{of_typing, typing_of, typing-open, StandFor, read-off-says, script-sound, typing-satisfies, satisfied-typing}
 use Rattle.with_type.specs.WithType.{leaves, with_type}
 use Rattle.with_type.proofs.TypeNoted.{Forced, with-type-adds}

@@ -11,7 +11,7 @@ use Rattle.laws.specs.Lists.{flag}
 use Rattle.codes.specs.TypeCodes.{datatype_of, type_of}
 use Rattle.codes.proofs.CodeLaws.{is-decimal, is-integer, plain_code, range-code}
 use Rattle.facts.specs.declared.noting.Tables.{Tables}
-use Rattle.facts.specs.Tables.{when, at_most, at_least, impossible}
+use Rattle.facts.specs.Tables.{at_most, at_least, impossible}
 use Rattle.facts.specs.Walk.{Joined}
 use Rattle.facts.proofs.WalkLaws.{when-joined, at-most-joins, at-least-joins, impossible-joins}
 use Rattle.with_type.specs.WithType.{pair_at, flagged, with_highs, with_lows, leaves, at_most_type, with_type}

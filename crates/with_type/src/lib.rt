@@ -7,7 +7,7 @@ ghost use Rattle.codes.specs.TypeCodes.{type_of};
 ghost use Rattle.laws.specs.Lists.{flag};
 ghost use Rattle.facts.specs.Tables.{edge_limit};
 ghost use Rattle.facts.specs.Walk.{Joined};
-ghost use Rattle.with_type.specs.WithType.{pair_at, flagged, with_highs, with_lows, leaves, with_type};
+ghost use Rattle.with_type.specs.WithType.{pair_at, flagged, leaves, with_type};
 
 use definitions::VARIABLE_LIMIT;
 use facts::EDGES;
@@ -35,37 +35,11 @@ fn flagged(
     ensures { result ≡ flagged flags (λ other. flag edges (pair_at objects x other)) }
 {
     let mut more = [false; VARIABLE_LIMIT];
-    let mut other = 0;
-    while other < VARIABLE_LIMIT {
+    for other in 0..VARIABLE_LIMIT {
         let at = pair_at(objects, x, other);
         more[other] = flags[other] | edges[at];
-        other += 1;
     }
     more
-}
-
-// The range of every property of an object is decimal.
-fn with_highs(mut t: Tables, x: usize) -> Tables
-    requires { x < variable_limit }
-    ensures { result ≡ with_highs x t }
-{
-    let flags = t.high;
-    let edges = t.edges;
-    let high = flagged(flags, edges, false, x);
-    t.high = high;
-    t
-}
-
-// The datatype of every object of a property is integer.
-fn with_lows(mut t: Tables, p: usize) -> Tables
-    requires { p < variable_limit }
-    ensures { result ≡ with_lows p t }
-{
-    let flags = t.low;
-    let edges = t.edges;
-    let low = flagged(flags, edges, true, p);
-    t.low = low;
-    t
 }
 
 // Whether the flags of a variable leave it a type.
@@ -91,16 +65,20 @@ pub fn with_type(t: Tables, x: usize, code: u8) -> Tables
         return t.impossible();
     }
     if code < 8 {
-        let tables = t.at_most(x, code);
+        let mut tables = t.at_most(x, code);
         if code == 3 {
-            return with_highs(tables, x);
+            // the range of every property of the object is decimal
+            tables.high = flagged(tables.high, tables.edges, false, x);
+            return tables;
         }
         return tables;
     }
     let range = code - 8;
-    let tables = t.at_least(x, range);
+    let mut tables = t.at_least(x, range);
     if range == 5 {
-        return with_lows(tables, x);
+        // the datatype of every object of the property is integer
+        tables.low = flagged(tables.low, tables.edges, true, x);
+        return tables;
     }
     tables
 }

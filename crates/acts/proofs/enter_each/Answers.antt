@@ -5,9 +5,9 @@ use Rattle.acts.proofs.enter_each.Goals as goal
 pub pop-requires : goal.pop-requires
 pop-requires c = record { height_nonzero = omega (arith, height-is c.requires.on_top); height_le_depth_limit = omega (arith, height-is c.requires.on_top, room c.requires.on_top) }
 
-pub returns-then-not-found : goal.returns-then-not-found
-returns-then-not-found c =
-    λ x. each-drops x c.args.tuple _ c.pop.ensures _ c.moved.ensures c.args.found c.if-not-found.true
+pub returns-in_default : goal.returns-in_default
+returns-in_default c =
+    λ x. each-drops x _ c.pop.ensures _ c.in_default.is
 
 pub overflow_add-second : goal.overflow_add-second
 overflow_add-second c = let b = blocked c.requires.on_top c.requires.at_value in omega (arith, b.reads.reads.room)
@@ -35,10 +35,10 @@ overflow_cast-body c =
 pub replace_and_push-requires : goal.replace_and_push-requires
 replace_and_push-requires c =
     let b = blocked c.requires.on_top c.requires.at_value in
-    let h = bound-height c.requires.on_top b c.args.tuple _ (bound_by c.requires.on_top b c.args.tuple _ c.index-count.ensures _ c.bind_tuple-bound.ensures) in record { height_nonzero = omega arith; height_lt_depth_limit = omega (arith, b.room2) }
+    let h = bound-height c.requires.on_top b c.in-Some.tuple _ (bound_by c.requires.on_top b c.in-Some.tuple _ c.index-count.ensures _ c.bind_tuple-bound.ensures) in record { height_nonzero = omega arith; height_lt_depth_limit = omega (arith, b.room2) }
 
 pub returns : goal.returns
 returns c =
     λ x. let b = blocked x c.requires.at_value in
-    each-enters x b c.args.tuple _ c.requires.body_at _ (bound_by x b c.args.tuple _ c.index-count.ensures _ c.bind_tuple-bound.ensures) _ c.first_numbers-last.ensures _
-    c.fresh_item-item.ensures _ c.replace_and_push.ensures _ c.moved-2.ensures c.args.found c.if-not-found.false
+    each-enters x b c.in-Some.tuple _ c.requires.body_at _ (bound_by x b c.in-Some.tuple _ c.index-count.ensures _ c.bind_tuple-bound.ensures) _ c.first_numbers-last.ensures _
+    c.fresh_item-item.ensures _ c.replace_and_push.ensures _ c.in-Some.is

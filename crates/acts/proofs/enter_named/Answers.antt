@@ -15,7 +15,7 @@ number_of-graph-requires c = (from c.requires.on_top c.requires.at_value _ c.rea
 pub overflow_cast-body : goal.overflow_cast-body
 overflow_cast-body c =
     let t = from c.requires.on_top c.requires.at_value _ c.read_name.ensures in
-    let e = t.found _ c.in-Next.is in
+    let e = t.found _ c.in-Some.is in
     omega (arith, t.low, c.requires.on_top.here.short)
 
 pub replace-requires : goal.replace-requires
@@ -24,9 +24,8 @@ replace-requires c = record { height_nonzero = omega (arith, height-is c.require
 pub returns-then-is_fetched : goal.returns-then-is_fetched
 returns-then-is_fetched c =
     λ x stored. fetched-acts x _ (from x c.requires.at_value _ c.read_name.ensures) _ c.number_of-graph.ensures _ stored _ c.is_fetched.ensures c.if-is_fetched.true _
-    c.in-Next.is _ c.fresh_item-item.ensures _ c.replace.ensures _ c.moved.ensures
+    c.in-Some.is _ c.fresh_item-item.ensures _ c.replace.ensures
 
 pub returns : goal.returns
 returns c =
-    λ x stored. wanted-acts x _ (from x c.requires.at_value _ c.read_name.ensures) _ c.number_of-graph.ensures _ stored _ c.is_fetched.ensures c.if-is_fetched.false _
-    c.stands-2.ensures
+    λ x stored. wanted-acts x _ (from x c.requires.at_value _ c.read_name.ensures) _ c.number_of-graph.ensures _ stored _ c.is_fetched.ensures c.if-is_fetched.false

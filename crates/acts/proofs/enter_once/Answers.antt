@@ -2,9 +2,9 @@ use native.Mathlib.Omega.{arith}
 use Rattle.acts.proofs.StepLaws.{room, blocked, bound_by, bound-height, once-waits, once-enters}
 use Rattle.acts.proofs.enter_once.Goals as goal
 
-pub returns-then-not-found : goal.returns-then-not-found
-returns-then-not-found c =
-    λ x. once-waits x c.args.tuple _ c.stands.ensures c.args.found c.if-not-found.true
+pub returns-in_default : goal.returns-in_default
+returns-in_default c =
+    λ x. once-waits x _ c.in_default.is
 
 pub overflow_add-second : goal.overflow_add-second
 overflow_add-second c = let b = blocked c.requires.on_top c.requires.at_value in omega (arith, b.reads.reads.room)
@@ -27,10 +27,10 @@ overflow_cast-body c =
 pub replace-requires : goal.replace-requires
 replace-requires c =
     let b = blocked c.requires.on_top c.requires.at_value in
-    let h = bound-height c.requires.on_top b c.args.tuple _ (bound_by c.requires.on_top b c.args.tuple _ c.index-count.ensures _ c.bind_tuple-bound.ensures) in record { height_nonzero = omega arith; height_le_depth_limit = omega (arith, room c.requires.on_top) }
+    let h = bound-height c.requires.on_top b c.in-Some.tuple _ (bound_by c.requires.on_top b c.in-Some.tuple _ c.index-count.ensures _ c.bind_tuple-bound.ensures) in record { height_nonzero = omega arith; height_le_depth_limit = omega (arith, room c.requires.on_top) }
 
 pub returns : goal.returns
 returns c =
     λ x. let b = blocked x c.requires.at_value in
-    once-enters x b c.args.tuple _ c.requires.body_at _ (bound_by x b c.args.tuple _ c.index-count.ensures _ c.bind_tuple-bound.ensures) _ c.fresh_item-item.ensures _
-    c.replace.ensures _ c.moved.ensures c.args.found c.if-not-found.false
+    once-enters x b c.in-Some.tuple _ c.requires.body_at _ (bound_by x b c.in-Some.tuple _ c.index-count.ensures _ c.bind_tuple-bound.ensures) _ c.fresh_item-item.ensures _
+    c.replace.ensures _ c.in-Some.is

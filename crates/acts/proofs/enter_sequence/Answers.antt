@@ -12,7 +12,7 @@ returns-in_default c =
 pub overflow_cast-second : goal.overflow_cast-second
 overflow_cast-second c =
     let t = two c.requires.on_top c.requires.at_value _ c.read_script.ensures in
-    let e = t.found _ c.in-Next.is in
+    let e = t.found _ c.in-Some.is in
     omega (arith, t.low, c.requires.on_top.here.short)
 
 pub overflow_cast-first : goal.overflow_cast-first
@@ -26,5 +26,5 @@ replace_and_push-requires c =
 
 pub returns : goal.returns
 returns c =
-    λ x. sequence-acts x _ (two x c.requires.at_value _ c.read_script.ensures) _ c.in-Next.is _ _ c.fresh_item-below.ensures c.fresh_item-above.ensures _
-    c.replace_and_push.ensures _ c.moved.ensures
+    λ x. sequence-acts x _ (two x c.requires.at_value _ c.read_script.ensures) _ c.in-Some.is _ _ c.fresh_item-below.ensures c.fresh_item-above.ensures _
+    c.replace_and_push.ensures

@@ -1,5 +1,6 @@
 use native.Mathlib.Omega.{arith}
-use mathlib.Core.Path.{refl}
+use mathlib.Core.Path.{refl, ap}
+use Rattle.std.specs.Prelude.{None, Some}
 use Rattle.acts.specs.Steps.{on_top}
 use Rattle.acts.proofs.StepLaws.{height-is, room}
 use Rattle.answers.proofs.AnswerLaws.{block_room, block-small, world-given, answers-given}
@@ -12,10 +13,15 @@ top-item-requires c =
 pub block_of-block-requires : goal.block_of-block-requires
 block_of-block-requires c = record { block_width_in_bounds = block_room c.requires.top.0 c.requires.top.1 c.requires.at_value; by_index = block-small c.requires.top.0 c.requires.top.1 c.requires.at_value }
 
-pub answer-found-requires : goal.answer-found-requires
-answer-found-requires c = record { world = world-given c.requires.top.0 c.requires.top.1 c.requires.at_value c.top-item.result.last _ c.block_of-block.ensures; ends_lent = c.requires.ends_lent }
+pub answer-requires : goal.answer-requires
+answer-requires c = record { world = world-given c.requires.top.0 c.requires.top.1 c.requires.at_value c.top-item.result.last _ c.block_of-block.ensures }
+
+pub returns-in_err-numbers : goal.returns-in_err-numbers
+returns-in_err-numbers c =
+    λ w t. answers-given w t c.requires.at_value c.top-item.result.last _ c.block_of-block.ensures _ c.known_of-free.ensures c.top-item.result.started c.top-item.result
+    c.top-item.ensures refl refl None c.in_err-numbers.ensures _ c.from_residual.ensures
 
 pub returns : goal.returns
 returns c =
     λ w t. answers-given w t c.requires.at_value c.top-item.result.last _ c.block_of-block.ensures _ c.known_of-free.ensures c.top-item.result.started c.top-item.result
-    c.top-item.ensures refl refl c.answer-found.result c.answer-found.ensures _ c.short_numbers-tuple.ensures
+    c.top-item.ensures refl refl (Some c.in_ok-numbers.numbers) c.in_ok-numbers.ensures _ (ap Some c.short_numbers.ensures)

@@ -1,4 +1,3 @@
-use Prim.Native.Nat.{◌≤◌, ◌-◌}
 use mathlib.Core.Path.{◌≡◌}
 use Rattle.definitions.specs.Scope.{variables}
 use Rattle.scan.specs.Codes.{free_code}
@@ -7,7 +6,4 @@ use Rattle.store.proofs.FillLaws.{made_to}
 use Rattle.answers.proofs.known_of.Given as goal
 
 abbrev pub invariant-loop-v : goal.invariant-loop-v
-invariant-loop-v l = (l.v ≤ 16) × (l.known ≡ made_to (known_code l.bound l.bindings) free_code variables 16 l.v)
-
-abbrev pub decreases-loop-v : goal.decreases-loop-v
-decreases-loop-v l = 16 - l.v
+invariant-loop-v l = l.known ≡ made_to (known_code l.bound l.bindings) free_code variables 16 l.v

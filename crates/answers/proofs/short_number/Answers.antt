@@ -1,9 +1,6 @@
-use native.Mathlib.Omega.{arith}
-use Rattle.answers.proofs.AnswerLaws.{short-is, short-not}
+use mathlib.Core.Path.{◌∙◌}
+use Rattle.answers.proofs.AnswerLaws.{short-of}
 use Rattle.answers.proofs.short_number.Goals as goal
 
-pub returns-then-n-lt65536 : goal.returns-then-n-lt65536
-returns-then-n-lt65536 c = short-is _ (omega arith)
-
-pub returns-else-n-lt65536 : goal.returns-else-n-lt65536
-returns-else-n-lt65536 c = short-not _ (omega arith)
+pub returns : goal.returns
+returns c = c.unwrap_or.ensures ∙ short-of _ _ c.try_from.ensures

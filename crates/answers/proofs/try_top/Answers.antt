@@ -9,7 +9,7 @@ pub block_of-block-requires : goal.block_of-block-requires
 block_of-block-requires c = record { block_width_in_bounds = block_room c.requires.top.0 c.requires.top.1 c.requires.at_value; by_index = block-small c.requires.top.0 c.requires.top.1 c.requires.at_value }
 
 pub try_tuple-requires : goal.try_tuple-requires
-try_tuple-requires c = record { world = world-given c.requires.top.0 c.requires.top.1 c.requires.at_value c.args.tuple _ c.block_of-block.ensures; ends_lent = c.requires.ends_lent }
+try_tuple-requires c = record { world = world-given c.requires.top.0 c.requires.top.1 c.requires.at_value c.args.tuple _ c.block_of-block.ensures }
 
 pub returns : goal.returns
 returns c =

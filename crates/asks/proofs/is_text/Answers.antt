@@ -1,10 +1,9 @@
 -- `asks::is_text` meets its contract.
 use native.Mathlib.Omega.{arith}
-use mathlib.Core.Path.{sym}
+use mathlib.Core.Path.{sym, ap, ◌∙◌}
 use lib.ListN.{length}
 use lib.Seq.{length-take-le}
 use Rattle.asks.proofs.AskLaws.{text-not, text-rest}
-use mathlib.Core.Path.{ap}
 use mathlib.Core.Bool.{not}
 use Rattle.asks.proofs.is_text.Goals as goal
 
@@ -12,10 +11,11 @@ pub slice_bounds-same_bytes-end : goal.slice_bounds-same_bytes-end
 slice_bounds-same_bytes-end c =
     sym (length-take-le (length c.args.text.now) c.args.field.now (omega (arith, c.requires)))
 
-pub returns-then-not-same_bytes : goal.returns-then-not-same_bytes
-returns-then-not-same_bytes c =
-    text-not c.args.field.now c.args.text.now c.requires.field_len c.requires.text_len_bound c.same_bytes.ensures (ap not c.if-not-same_bytes.true)
+pub returns-else-same_bytes : goal.returns-else-same_bytes
+returns-else-same_bytes c =
+    c.if-same_bytes.false
+    ∙ text-not c.args.field.now c.args.text.now c.requires.field_len c.requires.text_len_bound c.same_bytes.ensures (ap not c.if-same_bytes.false)
 
-pub returns : goal.returns
-returns c =
-    text-rest c.args.field.now c.args.text.now c.requires.field_len c.requires.text_len_bound c.same_bytes.ensures (ap not c.if-not-same_bytes.false) c.is_zero.ensures
+pub returns-then-same_bytes : goal.returns-then-same_bytes
+returns-then-same_bytes c =
+    text-rest c.args.field.now c.args.text.now c.requires.field_len c.requires.text_len_bound c.same_bytes.ensures (ap not c.if-same_bytes.true) c.is_zero.ensures

@@ -6,7 +6,7 @@ use mathlib.Core.Bool.{not}
 use Rattle.byte_calls.proofs.number.Goals as goal
 
 pub returns-then-not-number_fits : goal.returns-then-not-number_fits
-returns-then-not-number_fits c = number-length _ _ c.number_fits.ensures (ap not c.if-not-number_fits.true)
+returns-then-not-number_fits c = number-length _ _ c.number_fits.ensures (ap not c.if-not-number_fits.true) c.number.ensures
 
 pub after_number-requires : goal.after_number-requires
 after_number-requires c =

@@ -6,7 +6,7 @@ use mathlib.Core.Bool.{not}
 use Rattle.byte_calls.proofs.schema.Goals as goal
 
 pub returns-then-not-schema_fits : goal.returns-then-not-schema_fits
-returns-then-not-schema_fits c = schema-length _ _ _ c.schema_fits.ensures (ap not c.if-not-schema_fits.true)
+returns-then-not-schema_fits c = schema-length _ _ _ c.schema_fits.ensures (ap not c.if-not-schema_fits.true) c.number.ensures
 
 pub after_schema-requires : goal.after_schema-requires
 after_schema-requires c =

@@ -6,7 +6,7 @@ use mathlib.Core.Bool.{not}
 use Rattle.byte_calls.proofs.suggest.Goals as goal
 
 pub returns-then-not-suggest_fits : goal.returns-then-not-suggest_fits
-returns-then-not-suggest_fits c = suggest-length _ _ _ _ c.suggest_fits.ensures (ap not c.if-not-suggest_fits.true)
+returns-then-not-suggest_fits c = suggest-length _ _ _ _ c.suggest_fits.ensures (ap not c.if-not-suggest_fits.true) c.number.ensures
 
 pub after_suggest-requires : goal.after_suggest-requires
 after_suggest-requires c =

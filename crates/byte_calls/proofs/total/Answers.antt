@@ -6,7 +6,7 @@ use mathlib.Core.Bool.{not}
 use Rattle.byte_calls.proofs.total.Goals as goal
 
 pub returns-then-not-total_fits : goal.returns-then-not-total_fits
-returns-then-not-total_fits c = total-length _ _ _ _ c.total_fits.ensures (ap not c.if-not-total_fits.true)
+returns-then-not-total_fits c = total-length _ _ _ _ c.total_fits.ensures (ap not c.if-not-total_fits.true) c.number.ensures
 
 pub after_total-requires : goal.after_total-requires
 after_total-requires c =

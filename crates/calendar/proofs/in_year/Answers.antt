@@ -1,5 +1,4 @@
 -- `calendar::in_year` meets its contract, by the laws of CalendarLaws.
-use Prim.Native.Nat.{◌-◌}
 use mathlib.Core.Path.{refl, sym, ap}
 use native.Mathlib.Omega.{arith}
 use Rattle.definitions.specs.Calendar.{month_from}
@@ -9,9 +8,6 @@ use Rattle.calendar.proofs.in_year.Goals as goal
 pub loop-passed-init : goal.loop-passed-init
 loop-passed-init c =
     (ap (λ ms. month_from c.args.year 1 ms c.args.day) (sym (lengths-are c.args.year c.february-second.result c.february-second.ensures)), omega arith, omega arith, refl)
-
-pub overflow_add-result-then-left-length : goal.overflow_add-result-then-left-length
-overflow_add-result-then-left-length c = omega (arith, c.loop-passed.invariant, c.requires)
 
 pub returns-then-left-length : goal.returns-then-left-length
 returns-then-left-length c =
@@ -25,9 +21,6 @@ loop-passed-preserved c = (
   omega (arith, c.loop-passed.invariant),
   refl,
 )
-
-pub overflow_add-result-2 : goal.overflow_add-result-2
-overflow_add-result-2 c = omega (arith, c.loop-passed.invariant, c.requires)
 
 pub returns : goal.returns
 returns c =

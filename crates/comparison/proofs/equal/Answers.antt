@@ -18,4 +18,4 @@ returns-in-4 c =
 pub returns-in_default : goal.returns-in_default
 returns-in_default c =
     equal-uris c.args.a c.args.b _ c.told-in_default.ensures (λ k. c.in_default.in_default-own.rest.0.1 (inr k)) (λ k. c.in_default.in_default-own.rest.0.1 (inl k)) c.in_default.in_default-own.rest.1 c.in_default.in_default-own.rest.0.0.1
-    c.same_texts.ensures
+    c.same.ensures

@@ -7,4 +7,4 @@ use Rattle.comparison.proofs.uri_before.Goals as goal
 pub returns : goal.returns
 unfolding up_from
 returns c =
-    c.text_before.ensures ∙ by_bytes _ _ c.requires.good.text.bytes c.requires.good_2.text.bytes
+    c.before-2.ensures ∙ by_bytes _ _ c.requires.good.text.bytes c.requires.good_2.text.bytes

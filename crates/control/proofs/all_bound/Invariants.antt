@@ -1,4 +1,3 @@
-use Prim.Native.Nat.{◌-◌, ◌≤◌}
 use mathlib.Core.Path.{◌≡◌}
 use lib.ListN.{drop}
 use Rattle.definitions.specs.Lists.{every}
@@ -7,7 +6,4 @@ use Rattle.control.specs.Control.{bound_at}
 use Rattle.control.proofs.all_bound.Given as goal
 
 abbrev pub invariant-loop-v : goal.invariant-loop-v
-invariant-loop-v l = (every (bound_at l.free l.bound) variables ≡ every (bound_at l.free l.bound) (drop l.v variables)) × (l.v ≤ 16)
-
-abbrev pub decreases-loop-v : goal.decreases-loop-v
-decreases-loop-v l = 16 - l.v
+invariant-loop-v l = every (bound_at l.free l.bound) variables ≡ every (bound_at l.free l.bound) (drop l.v variables)

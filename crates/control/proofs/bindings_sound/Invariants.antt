@@ -1,4 +1,3 @@
-use Prim.Native.Nat.{◌-◌, ◌≤◌}
 use mathlib.Core.Path.{◌≡◌}
 use lib.ListN.{drop}
 use Rattle.definitions.specs.Lists.{every}
@@ -7,7 +6,4 @@ use Rattle.control.specs.Control.{binding_at}
 use Rattle.control.proofs.bindings_sound.Given as goal
 
 abbrev pub invariant-loop-v : goal.invariant-loop-v
-invariant-loop-v l = (every (binding_at l.leasts l.count l.bound l.numbers l.types) variables ≡ every (binding_at l.leasts l.count l.bound l.numbers l.types) (drop l.v variables)) × (l.v ≤ 16)
-
-abbrev pub decreases-loop-v : goal.decreases-loop-v
-decreases-loop-v l = 16 - l.v
+invariant-loop-v l = every (binding_at l.leasts l.count l.bound l.numbers l.types) variables ≡ every (binding_at l.leasts l.count l.bound l.numbers l.types) (drop l.v variables)

@@ -1,7 +1,11 @@
 -- `control::last_sound` meets its contract.
 use native.Mathlib.Omega.{arith}
+use mathlib.Core.Path.{◌≡◌}
+use borrow.Author.Rules.{rules}
+use lib.ListN.{length}
 use Rattle.laws.proofs.Records.{script-inside}
 use Rattle.scope.proofs.BindLaws.{pairs-at, few-pairs}
+use Rattle.control.proofs.BindingLaws.{tuple-tested}
 use Rattle.control.proofs.StackLaws.{last-idle, last-other, last-once, last-each}
 use Rattle.control.proofs.last_sound.Goals as goal
 
@@ -31,4 +35,7 @@ tuple_fits-requires c = few-pairs (pairs-at _ _ _ _ c.requires c.if-script-at-ne
 
 pub returns : goal.returns
 returns c =
-    last-each _ _ _ _ c.requires c.if-not-started.false c.if-script-at-ne115.false c.if-script-at-ne1.false c.tuple_fits.ensures
+    let l : length c.args.item.last ≡ 4 = search rules in
+    let few = few-pairs (pairs-at _ _ _ _ c.requires c.if-script-at-ne115.false) in
+    last-each _ _ _ _ c.requires c.if-not-started.false c.if-script-at-ne115.false c.if-script-at-ne1.false
+    (tuple-tested c.args.count _ c.args.item.last l few c.tuple_fits.ensures)

@@ -4,21 +4,19 @@ use mathlib.Core.Path.{refl}
 use Rattle.control.proofs.StackLaws.{stack-done, stack-stop, stack-turn}
 use Rattle.control.proofs.stack_sound.Goals as goal
 
-pub loop-place-init : goal.loop-place-init
-loop-place-init c = (refl, omega arith)
+pub loop-below-init : goal.loop-below-init
+loop-below-init c = refl
 
 pub returns-then-not-item_sound : goal.returns-then-not-item_sound
 returns-then-not-item_sound c =
-    stack-stop c.args.script.now c.args.loaded c.requires.script_value c.args.count c.args.bound c.args.items c.args.height c.loop-place.place c.loop-place.invariant.0 (omega arith) c.item_sound.ensures
+    stack-stop c.args.script.now c.args.loaded c.requires.script_value c.args.count c.args.bound c.args.items c.args.height c.loop-below.below c.loop-below.invariant (omega arith) c.item_sound.ensures
     c.if-not-item_sound.true
 
-pub loop-place-preserved : goal.loop-place-preserved
-loop-place-preserved c = (
-  stack-turn c.args.script.now c.args.loaded c.requires.script_value c.args.count c.args.bound c.args.items c.args.height c.loop-place.place c.loop-place.invariant.0 (omega arith) c.item_sound.ensures
-      c.if-not-item_sound.false,
-  omega arith,
-)
+pub loop-below-preserved : goal.loop-below-preserved
+loop-below-preserved c =
+    stack-turn c.args.script.now c.args.loaded c.requires.script_value c.args.count c.args.bound c.args.items c.args.height c.loop-below.below c.loop-below.invariant (omega arith) c.item_sound.ensures
+    c.if-not-item_sound.false
 
 pub returns : goal.returns
 returns c =
-    stack-done c.args.script.now c.args.loaded c.requires.script_value c.args.count c.args.bound c.args.items c.args.height c.loop-place.place c.loop-place.invariant.0 (omega arith)
+    stack-done c.args.script.now c.args.loaded c.requires.script_value c.args.count c.args.bound c.args.items c.args.height c.loop-below.below c.loop-below.invariant (omega arith)

@@ -12,6 +12,6 @@ pub returns-then-at-n : goal.returns-then-at-n
 unfolding after_in
 returns-then-at-n c = rw (lt-ltb _ _ c.if-at-n.true) refl
 
-pub returns : goal.returns
+pub returns-else-at-n : goal.returns-else-at-n
 unfolding after_in
-returns c = rw (le-ltb _ _ c.if-at-n.false) refl
+returns-else-at-n c = rw (le-ltb _ _ c.if-at-n.false) refl

@@ -1,29 +1,19 @@
--- `ends::children` meets its contract.
+-- Below the digits, above them, or one of them.
 use native.Mathlib.Omega.{arith}
 use Rattle.definitions.specs.Ascii.{ascii}
-use Rattle.ends.proofs.ExtentLaws.{kept, no-children, digit-children, is_digit_lem}
+use Rattle.ends.proofs.ExtentLaws.{none-below, none-above, digit-children, is_digit_lem}
 use Rattle.ends.proofs.children.Goals as goal
 
-pub returns-then-kind : goal.returns-then-kind
-returns-then-kind c = no-children _ (omega arith) c.if-kind.true
-
-pub overflow_sub-at : goal.overflow_sub-at
-overflow_sub-at c = (kept c.args.kind c.if-kind.false).0
-
-pub bounds-digits-at : goal.bounds-digits-at
-bounds-digits-at c = omega (arith, kept c.args.kind c.if-kind.false)
-
-pub overflow_sub-result : goal.overflow_sub-result
+pub overflow_sub-result-in-64-to-101 : goal.overflow_sub-result-in-64-to-101
 unfolding ascii
-overflow_sub-result c = let k = kept c.args.kind c.if-kind.false in (is_digit_lem c.args.kind k.0 k.1).0
+overflow_sub-result-in-64-to-101 c = (is_digit_lem c.args.kind (omega arith) (omega arith)).0
 
-pub overflow_cast-result : goal.overflow_cast-result
+pub returns-in-64-to-101 : goal.returns-in-64-to-101
 unfolding ascii
-overflow_cast-result c =
-    let k = kept c.args.kind c.if-kind.false in
-    let d = is_digit_lem c.args.kind k.0 k.1 in
-    omega (arith, d)
+returns-in-64-to-101 c = digit-children c.args.kind (omega arith) (omega arith)
 
-pub returns : goal.returns
-unfolding ascii
-returns c = let k = kept c.args.kind c.if-kind.false in digit-children c.args.kind k.0 k.1
+pub returns-in_default : goal.returns-in_default
+returns-in_default c = none-below c.args.kind (omega arith)
+
+pub returns-in_default-2 : goal.returns-in_default-2
+returns-in_default-2 c = none-above c.args.kind (omega arith) (omega arith)

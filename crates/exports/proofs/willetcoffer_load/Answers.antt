@@ -8,7 +8,7 @@ use Rattle.exports.proofs.willetcoffer_load.Goals as goal
 
 pub returns-then-not-load_fits : goal.returns-then-not-load_fits
 returns-then-not-load_fits c =
-    load-length _ _ c.load_fits.ensures (ap not c.if-not-load_fits.true)
+    load-length _ _ c.load_fits.ensures (ap not c.if-not-load_fits.true) c.number.ensures
 
 pub after_load-requires : goal.after_load-requires
 after_load-requires c =

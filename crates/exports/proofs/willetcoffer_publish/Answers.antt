@@ -9,7 +9,7 @@ use Rattle.exports.proofs.willetcoffer_publish.Goals as goal
 
 pub returns-then-not-publish_fits : goal.returns-then-not-publish_fits
 returns-then-not-publish_fits c =
-    λ ranks. publish-length _ _ _ _ _ c.publish_fits.ensures (ap not c.if-not-publish_fits.true)
+    λ ranks. publish-length _ _ _ _ _ c.publish_fits.ensures (ap not c.if-not-publish_fits.true) c.number.ensures
 
 pub read_saved-read-requires : goal.read_saved-read-requires
 read_saved-read-requires c =
@@ -17,7 +17,7 @@ read_saved-read-requires c =
 
 pub returns-then-not-read : goal.returns-then-not-read
 returns-then-not-read c =
-    λ ranks. publish-unread _ _ _ _ _ c.publish_fits.ensures (ap not c.if-not-publish_fits.false) (read_none _ _ c.read_saved-read.ensures c.if-not-read.true)
+    λ ranks. publish-unread _ _ _ _ _ c.publish_fits.ensures (ap not c.if-not-publish_fits.false) (read_none _ _ c.read_saved-read.ensures c.if-not-read.true) c.number-then-not-read.ensures
 
 pub after_publish-requires : goal.after_publish-requires
 after_publish-requires c =

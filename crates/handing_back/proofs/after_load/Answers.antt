@@ -2,4 +2,4 @@
 use Rattle.handing_back.proofs.after_load.Goals as goal
 
 pub returns : goal.returns
-returns c = record { value = c.load_number-number.ensures; saved_after = c.hand_back.ensures }
+returns c = record { value = c.answer_number-number.ensures; saved_after = c.hand_back.ensures }

@@ -2,4 +2,4 @@
 use Rattle.handing_back.proofs.after_page.Goals as goal
 
 pub returns : goal.returns
-returns c = record { value = c.page_number-number.ensures; saved_after = c.hand_back.ensures; report_after = c.write_page_report.ensures }
+returns c = record { value = c.answer_number-number.ensures; saved_after = c.hand_back.ensures; report_after = c.write_count_report.ensures }

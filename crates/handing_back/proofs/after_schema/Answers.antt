@@ -2,4 +2,4 @@
 use Rattle.handing_back.proofs.after_schema.Goals as goal
 
 pub returns : goal.returns
-returns c = record { value = c.schema_number.ensures; report_after = c.write_schema_report.ensures }
+returns c = record { value = c.answer_number.ensures; report_after = c.write_schema_report.ensures }

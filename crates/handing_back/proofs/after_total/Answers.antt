@@ -2,4 +2,4 @@
 use Rattle.handing_back.proofs.after_total.Goals as goal
 
 pub returns : goal.returns
-returns c = record { value = c.total_number.ensures; report_after = c.write_total_report.ensures }
+returns c = record { value = c.answer_number.ensures; report_after = c.write_count_report.ensures }

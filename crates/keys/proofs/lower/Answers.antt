@@ -1,24 +1,15 @@
--- `keys::lower` meets its contract. Before the lower end each key is below x, from what is left on none is. Assumes nothing.
+-- `keys::lower` meets its contract: the keys below x stand first. Assumes nothing.
+use mathlib.Core.Path.{◌≡◌}
 use native.Mathlib.Omega.{arith}
-use mathlib.Core.Path.{refl}
-use Rattle.keys.proofs.Rise.{halved, met}
+use Rattle.std.proofs.Common.{rules}
+use Rattle.std.proofs.lemmas.Fn.{always_returns_same}
+use Rattle.std.proofs.lemmas.Grind.{common_steps}
+use lib.Dec.{ltb}
+use Rattle.keys.proofs.Rise.{lower_is}
 use Rattle.keys.proofs.lower.Goals as goal
 
-pub loop-size-init : goal.loop-size-init
-loop-size-init c = record { within = omega arith; below = λ j h. absurd (omega arith); above = λ j h k. absurd (omega arith) }
-
-pub overflow_add-mid : goal.overflow_add-mid
-overflow_add-mid c = omega (arith, c.loop-size.invariant.within)
-
-pub offset_bounds-keys-mid : goal.offset_bounds-keys-mid
-offset_bounds-keys-mid c = omega (arith, c.loop-size.invariant.within)
-
-pub bounds-keys-mid : goal.bounds-keys-mid
-bounds-keys-mid c = omega (arith, c.loop-size.invariant.within)
-
-pub loop-size-preserved : goal.loop-size-preserved
-loop-size-preserved c =
-    halved _ _ c.requires.keys_value _ _ _ _ _ c.loop-size.invariant c.loop-size-test.true refl refl _ c.either-low.ensures
-
 pub returns : goal.returns
-returns c = let whole = met _ _ _ _ _ c.loop-size.invariant c.loop-size-test.false in record { value = whole.0; splits = whole.1 }
+returns c =
+    let whole = lower_is c.args.keys.now c.args.n c.args.x c.partition_point.result _ (grind (arith, common_steps)) c.requires.n_in_bounds c.requires.keys_value c.partition_point.ensures.bound
+    (c.partition_point.ensures.partitioned (λ y. ltb y c.args.x) (always_returns_same _ (λ a r. r ≡ ltb a.0.now c.args.x) _ (λ a r g k. search rules))) in
+    record { value = whole.0; splits = whole.1 }

@@ -1,7 +1,5 @@
-use Prim.Native.Nat.{◌≤◌, ◌-◌}
 use mathlib.Core.Path.{◌≡◌}
 use lib.ListN.{drop}
-use Rattle.definitions.specs.Limits.{variable_limit}
 use Rattle.definitions.specs.Scope.{variables}
 use Rattle.definitions.specs.Suggest.{lowest_in}
 use Rattle.facts.specs.Codes.{all_written}
@@ -10,7 +8,4 @@ use Rattle.lowest_type.proofs.lowest.Given as goal
 
 abbrev pub invariant-loop-x : goal.invariant-loop-x
 invariant-loop-x l =
-    let ws = all_written l.written in (l.x ≤ variable_limit) × (lowest_in ws (does_in l.t ws) variables ≡ lowest_in ws (does_in l.t ws) (drop l.x variables))
-
-abbrev pub decreases-loop-x : goal.decreases-loop-x
-decreases-loop-x l = variable_limit - l.x
+    let ws = all_written l.written in lowest_in ws (does_in l.t ws) variables ≡ lowest_in ws (does_in l.t ws) (drop l.x variables)

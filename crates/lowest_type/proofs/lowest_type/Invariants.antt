@@ -1,6 +1,5 @@
-use Prim.Native.Nat.{◌≤◌, ◌-◌}
 use mathlib.Core.Path.{◌≡◌}
-use lib.ListN.{length, drop}
+use lib.ListN.{drop}
 use Rattle.definitions.specs.Lists.{find}
 use Rattle.definitions.specs.Types.{all_types}
 use Rattle.definitions.specs.Suggest.{lowest_type}
@@ -10,7 +9,4 @@ use Rattle.lowest_type.proofs.lowest_type.Given as goal
 
 abbrev pub invariant-loop-i : goal.invariant-loop-i
 invariant-loop-i l =
-    let ws = all_written l.written in (l.i ≤ length all_types) × (lowest_type ws (does_in l.t ws) l.x ≡ find (does_in l.t ws l.x) (drop l.i all_types))
-
-abbrev pub decreases-loop-i : goal.decreases-loop-i
-decreases-loop-i l = length all_types - l.i
+    let ws = all_written l.written in lowest_type ws (does_in l.t ws) l.x ≡ find (does_in l.t ws l.x) (drop l.i all_types)

@@ -1,13 +1,10 @@
 -- By the byte that stands there.
-use native.Mathlib.Omega.{arith}
-use Rattle.number_parts.proofs.PartLaws.{sign-inside, sign-there, no_sign}
+use Rattle.std.proofs.Common.{rules}
+use Rattle.number_parts.proofs.PartLaws.{is-sign, other_sign, sign-there, no_sign}
 use Rattle.number_parts.proofs.after_sign.Goals as goal
 
-pub overflow_add-result : goal.overflow_add-result
-overflow_add-result c = omega (arith, sign-inside c.args.s.now c.args.at _ c.byte_at-b.ensures c.if-b.true)
+pub returns-in-43 : goal.returns-in-43
+returns-in-43 c = sign-there _ _ _ c.byte_at.ensures (is-sign c.in-43.is)
 
-pub returns-then-b : goal.returns-then-b
-returns-then-b c = sign-there _ _ _ c.byte_at-b.ensures c.if-b.true
-
-pub returns : goal.returns
-returns c = no_sign _ _ _ c.byte_at-b.ensures c.if-b.false
+pub returns-in_default : goal.returns-in_default
+returns-in_default c = no_sign _ _ _ c.byte_at.ensures (other_sign c.byte_at.result (search rules))

@@ -10,10 +10,10 @@ digit-first-requires c = digit-in c.args.digits.now 0 c.requires.digits.all (ome
 pub returns-then-digits-eq1 : goal.returns-then-digits-eq1
 returns-then-digits-eq1 c = (c.digit-first.ensures.0 ∙ one-digit _ c.if-digits-eq1.true, omega (arith, c.digit-first.ensures))
 
-pub digit-second-requires : goal.digit-second-requires
-digit-second-requires c = digit-in c.args.digits.now 1 c.requires.digits.all (omega (arith, c.if-digits-eq1.false))
+pub digit-requires : goal.digit-requires
+digit-requires c = digit-in c.args.digits.now 1 c.requires.digits.all (omega (arith, c.if-digits-eq1.false))
 
 pub returns : goal.returns
 returns c =
     let n = two_digits c.args.digits.now c.requires.digits_nonzero.0 c.if-digits-eq1.false c.requires.digits_nonzero.1 in
-    (omega (arith, c.digit-first.ensures, c.digit-second.ensures), omega (arith, c.digit-first.ensures, c.digit-second.ensures))
+    (omega (arith, c.digit-first.ensures, c.digit.ensures), omega (arith, c.digit-first.ensures, c.digit.ensures))

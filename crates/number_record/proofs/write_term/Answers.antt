@@ -5,11 +5,11 @@ use Rattle.number_record.proofs.write_term.Goals as goal
 
 pub returns-in-Integer : goal.returns-in-Integer
 returns-in-Integer c =
-    integer-written _ c.in-Integer.is (omega arith) c.write_record.ensures
+    integer-written _ c.in-Ok.is c.in-Integer.is (omega arith) c.write_record.ensures
 
 pub returns-in-Decimal : goal.returns-in-Decimal
 returns-in-Decimal c =
-    decimal-written _ c.in-Decimal.is (omega arith) c.write_record-in-Decimal.ensures
+    decimal-written _ c.in-Ok.is c.in-Decimal.is (omega arith) c.write_record-in-Decimal.ensures
 
-pub returns-in-Refused : goal.returns-in-Refused
-returns-in-Refused c = number-refused _ c.in-Refused.is
+pub returns-in_default : goal.returns-in_default
+returns-in_default c = number-refused _ c.in_default.is

@@ -24,12 +24,12 @@ returns-in_default c =
 pub with_sign-requires : goal.with_sign-requires
 with_sign-requires c =
     let term : Option Term = term_with c.args.plain c.args.minus (natural_of (c.args.whole.now ++ c.args.fraction.now)) c.args.up (length c.args.fraction.now + c.args.down) in
-    let integer : Asked c.whole_amount.result Term.integer c.args.minus term = integer-asked c.args.whole.now c.args.fraction.now c.requires.digits c.args.minus c.args.up c.args.down c.if-plain.true c.whole_amount.ensures in integer.fits c.in-Within.is
+    let integer : Asked c.whole_amount.result Term.integer c.args.minus term = integer-asked c.args.whole.now c.args.fraction.now c.requires.digits c.args.minus c.args.up c.args.down c.if-plain.true c.whole_amount.ensures in integer.fits c.in-Some.is
 
 pub returns-then-plain : goal.returns-then-plain
 returns-then-plain c =
     let term : Option Term = term_with c.args.plain c.args.minus (natural_of (c.args.whole.now ++ c.args.fraction.now)) c.args.up (length c.args.fraction.now + c.args.down) in
-    let integer : Asked c.whole_amount.result Term.integer c.args.minus term = integer-asked c.args.whole.now c.args.fraction.now c.requires.digits c.args.minus c.args.up c.args.down c.if-plain.true c.whole_amount.ensures in integer.within c.in-Within.is c.with_sign.ensures
+    let integer : Asked c.whole_amount.result Term.integer c.args.minus term = integer-asked c.args.whole.now c.args.fraction.now c.requires.digits c.args.minus c.args.up c.args.down c.if-plain.true c.whole_amount.ensures in integer.within c.in-Some.is c.with_sign.ensures
 
 pub kept-keep-requires : goal.kept-keep-requires
 kept-keep-requires c =
@@ -48,10 +48,10 @@ pub with_sign-requires-2 : goal.with_sign-requires-2
 with_sign-requires-2 c =
     let term : Option Term = term_with c.args.plain c.args.minus (natural_of (c.args.whole.now ++ c.args.fraction.now)) c.args.up (length c.args.fraction.now + c.args.down) in
     let decimal : Asked c.whole_amount-2.result Term.decimal c.args.minus term = decimal-asked c.args.whole.now c.args.fraction.now c.requires.digits c.args.minus c.args.up c.args.down c.if-plain.false c.kept-keep.ensures
-    c.whole_amount-2.ensures in decimal.fits c.in-Within-whole_amount.is
+    c.whole_amount-2.ensures in decimal.fits c.in-Some-whole_amount.is
 
 pub returns : goal.returns
 returns c =
     let term : Option Term = term_with c.args.plain c.args.minus (natural_of (c.args.whole.now ++ c.args.fraction.now)) c.args.up (length c.args.fraction.now + c.args.down) in
     let decimal : Asked c.whole_amount-2.result Term.decimal c.args.minus term = decimal-asked c.args.whole.now c.args.fraction.now c.requires.digits c.args.minus c.args.up c.args.down c.if-plain.false c.kept-keep.ensures
-    c.whole_amount-2.ensures in decimal.within c.in-Within-whole_amount.is c.with_sign-2.ensures
+    c.whole_amount-2.ensures in decimal.within c.in-Some-whole_amount.is c.with_sign-2.ensures

@@ -7,7 +7,8 @@ use Rattle.ordering.specs.Sets.{others}
 use Rattle.ordering.proofs.drop_graph.Given as goal
 
 abbrev pub invariant-loop-i : goal.invariant-loop-i
-invariant-loop-i l = (l.kept ≤ l.i) × (l.i ≤ l.n) × (length l.keys ≡ length l.initial.keys) × (others l.graph (keys_from l.n l.initial.keys 0) ≡ keys_from l.kept l.keys 0 ++ keys_from (l.n - l.i) l.keys l.i)
-
-abbrev pub decreases-loop-i : goal.decreases-loop-i
-decreases-loop-i l = l.n - l.i
+invariant-loop-i l = record {
+  below : l.kept ≤ l.i;
+  size : length l.keys ≡ length l.initial.keys;
+  left : others l.graph l.initial.keys ≡ keys_from l.kept l.keys 0 ++ keys_from (length l.initial.keys - l.i) l.keys l.i;
+}

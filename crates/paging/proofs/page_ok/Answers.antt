@@ -11,4 +11,4 @@ pub returns-in_default : goal.returns-in_default
 returns-in_default c = page-bad _ (omega arith) c.count_triples.ensures c.in_default.is
 
 pub returns : goal.returns
-returns c = page-good _ (omega arith) c.count_triples.ensures _ c.in-Count.is
+returns c = page-good _ (omega arith) c.count_triples.ensures _ c.in-Some.is

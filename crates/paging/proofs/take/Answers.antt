@@ -30,14 +30,14 @@ take_in-done-requires c =
       held_tables = held-tables _ _ _ _ _ _ _ _ _ _ _ c.requires.1 bt bq graphs _ c.canonical_store-kept.ensures;
     }
 
-pub returns-in_default : goal.returns-in_default
-returns-in_default c =
+pub returns-in_err-skipped : goal.returns-in_err-skipped
+returns-in_err-skipped c =
     let graphs : length c.args.saved.store.fetched ≡ graph_limit = search rules in
     let bt : AreBytes c.args.table.now = λ k. omega (arith, c.slice_known-1.given k) in
     let bq : AreBytes c.args.store.now = λ k. omega (arith, c.slice_known-2-1.given k) in
     λ ranks p. not_taken_lem _ _ _ _ _ _ _ _ _ _ _ p bt bq graphs _ c.canonical_store-kept.ensures _ _ _
     (c.take_in-done.ensures _ _ _ (schema-is _ _ _ _ _ _ _ _ _ _ _ p) (page-is _ _ _ _ _ _ _ _ _ _ _ p)
-    (held-store _ _ _ _ _ _ _ _ _ _ _ p bt bq graphs _ c.canonical_store-kept.ensures)) _ c.in_default.is c.refused.ensures
+    (held-store _ _ _ _ _ _ _ _ _ _ _ p bt bq graphs _ c.canonical_store-kept.ensures)) c.in_err-skipped.was {r' = c.from_residual.result} (search rules)
 
 pub returns : goal.returns
 returns c =
@@ -48,4 +48,4 @@ returns c =
     let bq : AreBytes c.args.store.now = λ k. omega (arith, c.slice_known-2-1.given k) in
     λ ranks p. now-taken _ _ _ _ _ _ _ _ _ _ _ p bt bq graphs _ c.canonical_store-kept.ensures _ _ _
     (c.take_in-done.ensures _ _ _ (schema-is _ _ _ _ _ _ _ _ _ _ _ p) (page-is _ _ _ _ _ _ _ _ _ _ _ p)
-    (held-store _ _ _ _ _ _ _ _ _ _ _ p bt bq graphs _ c.canonical_store-kept.ensures)) marks levels _ c.canonical_control-clean.ensures _ c.in-Taken.is
+    (held-store _ _ _ _ _ _ _ _ _ _ _ p bt bq graphs _ c.canonical_store-kept.ensures)) marks levels _ c.canonical_control-clean.ensures c.in_ok-skipped.was

@@ -7,6 +7,6 @@ pub returns-then-b-eq42 : goal.returns-then-b-eq42
 unfolding may_follow
 returns-then-b-eq42 c = rw (eq-eqb _ _ c.if-b-eq42.true)
 
-pub returns : goal.returns
+pub returns-else-b-eq42 : goal.returns-else-b-eq42
 unfolding may_follow
-returns c = rw (ne_eqb _ _ c.if-b-eq42.false) c.literal.ensures
+returns-else-b-eq42 c = rw (ne_eqb _ _ c.if-b-eq42.false) c.literal.ensures

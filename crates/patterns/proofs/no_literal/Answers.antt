@@ -1,7 +1,9 @@
--- `patterns::no_literal` meets its contract.
-use mathlib.Core.Path.{refl}
+-- One of thirteen bytes.
+use mathlib.Core.Path.{◌∙◌}
+use Rattle.definitions.specs.Ascii.{ascii}
 use Rattle.patterns.proofs.FieldLaws.{no-literal}
 use Rattle.patterns.proofs.no_literal.Goals as goal
 
 pub returns : goal.returns
-returns c = no-literal _ refl
+unfolding ascii
+returns c = c.contains.ensures.value ∙ no-literal c.args.b

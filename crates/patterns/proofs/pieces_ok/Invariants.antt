@@ -7,6 +7,3 @@ use Rattle.patterns.proofs.pieces_ok.Given as goal
 
 abbrev pub invariant-loop-i : goal.invariant-loop-i
 invariant-loop-i l = are_pieces (part l.s l.from (l.end - l.from)) ≡ good_from l.atom (part l.s l.i (l.end - l.i))
-
-abbrev pub decreases-loop-i : goal.decreases-loop-i
-decreases-loop-i l = l.end - l.i

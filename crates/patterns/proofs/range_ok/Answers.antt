@@ -1,6 +1,6 @@
 -- `patterns::range_ok` meets its contract.
 use native.Mathlib.Omega.{arith}
-use Prim.Native.Nat.{◌-◌, ◌+◌}
+use Prim.Native.Nat.{◌+◌}
 use mathlib.Core.Bool.{Bool, ◌&&◌}
 use mathlib.Core.Path.{sym, ap, ◌∙◌}
 use Rattle.patterns.proofs.FieldLaws.{star-alone, tag-begins, tag-zero, tag-end, tag-bad, tag-turn, tag-done}

@@ -9,6 +9,3 @@ use Rattle.patterns.proofs.range_ok.Given as goal
 
 abbrev pub invariant-loop-i : goal.invariant-loop-i
 invariant-loop-i l = is_some (language_range_of (part l.s l.at language_range_width)) ≡ range_from l.letter l.hyphen (part l.s l.i (l.end - l.i))
-
-abbrev pub decreases-loop-i : goal.decreases-loop-i
-decreases-loop-i l = l.end - l.i

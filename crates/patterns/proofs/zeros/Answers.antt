@@ -1,6 +1,5 @@
 -- `patterns::zeros` meets its contract.
 use native.Mathlib.Omega.{arith}
-use Prim.Native.Nat.{◌-◌}
 use mathlib.Core.Path.{sym, ap, ◌∙◌}
 use Rattle.definitions.specs.Bytes.{all_zero}
 use Rattle.patterns.proofs.FieldLaws.{part-done, zeros-turn, zeros-stop}

@@ -5,6 +5,3 @@ use Rattle.patterns.proofs.zeros.Given as goal
 
 abbrev pub invariant-loop-i : goal.invariant-loop-i
 invariant-loop-i l = all_zero (part l.s l.from (l.end - l.from)) ≡ all_zero (part l.s l.i (l.end - l.i))
-
-abbrev pub decreases-loop-i : goal.decreases-loop-i
-decreases-loop-i l = l.end - l.i

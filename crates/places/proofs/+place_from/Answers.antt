@@ -59,7 +59,7 @@ pub returns-in_default : goal.returns-in_default
 returns-in_default t c =
     let here : ScriptAt t c.args.script.now c.args.terms c.args.left c.args.at = script-at _ _ _ _ _ c.decreases c.requires.loads in
     (here.sequence c.in_default.in_default-own.rest).node c.place_from-c-in_default.ensures
-    c.place_from-d.ensures (λ a d g h. sequence-place c.args.wanted c.args.at c.args.depth c.own_place-place-in_default.ensures a d c.first_place-inner.ensures g h)
+    c.place_from-d.ensures (λ a d g h. sequence-place c.args.wanted c.args.at c.args.depth c.own_place-place-in_default.ensures a d c.or.ensures g h)
 
 pub bounds-script-at : goal.bounds-script-at
 bounds-script-at t c =

@@ -4,8 +4,8 @@ use Rattle.walks.proofs.RootLaws.{whole-loads}
 use Rattle.places.proofs.PlaceLaws.{place_is}
 use Rattle.places.proofs.place_at.Goals as goal
 
-pub place_from-found-requires : goal.place_from-found-requires
-place_from-found-requires c = record { loads = whole-loads _ _ c.requires; left_bound = omega arith }
+pub place_from-requires : goal.place_from-requires
+place_from-requires c = record { loads = whole-loads _ _ c.requires; left_bound = omega arith }
 
 pub returns : goal.returns
-returns c = place_is _ _ c.requires _ c.place_from-found.ensures
+returns c = place_is _ _ c.requires _ c.place_from.ensures

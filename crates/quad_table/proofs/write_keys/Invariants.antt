@@ -1,4 +1,3 @@
-use Prim.Native.Nat.{◌-◌, ◌≤◌}
 use mathlib.Core.Path.{◌≡◌}
 use lib.ListN.{length}
 use Rattle.definitions.specs.Limits.{quad_table_width}
@@ -7,7 +6,7 @@ use Rattle.keys.specs.Keys.{rows_from}
 use Rattle.quad_table.proofs.write_keys.Given as goal
 
 abbrev pub invariant-loop-i : goal.invariant-loop-i
-invariant-loop-i l = (l.i ≤ l.count) × (length l.table ≡ quad_table_width) × (l.table ≡ quad_table (rows_from l.i l.keys 0))
-
-abbrev pub decreases-loop-i : goal.decreases-loop-i
-decreases-loop-i l = l.count - l.i
+invariant-loop-i l = record {
+  size : length l.table ≡ quad_table_width;
+  written : l.table ≡ quad_table (rows_from l.i l.keys 0);
+}

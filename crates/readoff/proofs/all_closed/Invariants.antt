@@ -9,7 +9,4 @@ use Rattle.facts.specs.Codes.{all_written}
 use Rattle.readoff.proofs.all_closed.Given as goal
 
 abbrev pub invariant-loop-x : goal.invariant-loop-x
-invariant-loop-x l = (l.x ≤ variable_limit) × (all_below l.x (λ y. not (is_open (get_or (all_written l.written) y unbound)) || settled l.t y) ≡ true)
-
-abbrev pub decreases-loop-x : goal.decreases-loop-x
-decreases-loop-x l = variable_limit - l.x
+invariant-loop-x l = all_below l.x (λ y. not (is_open (get_or (all_written l.written) y unbound)) || settled l.t y) ≡ true

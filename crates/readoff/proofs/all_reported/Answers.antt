@@ -1,5 +1,4 @@
--- `readoff::all_reported` meets its contract. Invariant: the types below `x` are there. The measure is what is left of the variables. Assumes nothing.
-use Prim.Native.Nat.{◌-◌}
+-- `readoff::all_reported` meets its contract. Invariant: the types below `x` are there.
 use native.Mathlib.Omega.{arith}
 use mathlib.Core.Path.{refl}
 use lib.ListN.{length-set}
@@ -10,18 +9,17 @@ use Rattle.readoff.proofs.ReadOffLaws.{filled-all, written-length}
 use Rattle.readoff.proofs.all_reported.Goals as goal
 
 pub loop-x-init : goal.loop-x-init
-loop-x-init c = (omega arith, refl, λ k l. absurd (omega arith))
+loop-x-init c = (refl, λ k l. absurd (omega arith))
 
 pub reported-requires : goal.reported-requires
 reported-requires c = (c.requires.0, omega arith, c.requires.1)
 
 pub loop-x-preserved : goal.loop-x-preserved
 loop-x-preserved c = (
-  omega arith,
-  rw length-set c.loop-x.invariant.1,
+  rw length-set c.loop-x.invariant.0,
   filled_more 0 (reported_at c.args.t (all_written c.args.written.now)) c.loop-x.types c.loop-x.x (omega arith)
-      c.loop-x.invariant.2 c.reported.ensures,
+      c.loop-x.invariant.1 c.reported.ensures,
 )
 
 pub returns : goal.returns
-returns c = filled-all _ _ _ (written-length _ c.requires.1) c.loop-x.invariant.1 (λ k l. c.loop-x.invariant.2 k (omega arith))
+returns c = filled-all _ _ _ (written-length _ c.requires.1) c.loop-x.invariant.0 (λ k l. c.loop-x.invariant.1 k (omega arith))

@@ -7,7 +7,4 @@ use Rattle.facts.specs.Answers.{reported_at}
 use Rattle.readoff.proofs.all_reported.Given as goal
 
 abbrev pub invariant-loop-x : goal.invariant-loop-x
-invariant-loop-x l = (l.x ≤ variable_limit) × (length l.types ≡ variable_limit) × ((k : ℕ) → k < l.x → get_or l.types k 0 ≡ reported_at l.t (all_written l.written) k)
-
-abbrev pub decreases-loop-x : goal.decreases-loop-x
-decreases-loop-x l = variable_limit - l.x
+invariant-loop-x l = (length l.types ≡ variable_limit) × ((k : ℕ) → k < l.x → get_or l.types k 0 ≡ reported_at l.t (all_written l.written) k)

@@ -1,12 +1,11 @@
--- `readoff::all_tight` meets its contract. Invariant: all below `p` pass. The measure is what is left of the variables. Assumes nothing.
-use Prim.Native.Nat.{◌-◌}
+-- `readoff::all_tight` meets its contract. Invariant: all below `p` pass.
 use native.Mathlib.Omega.{arith}
 use mathlib.Core.Bool.{true}
 use Rattle.readoff.proofs.ReadOffLaws.{below_none, below_more, below_fails, below-done}
 use Rattle.readoff.proofs.all_tight.Goals as goal
 
 pub loop-p-init : goal.loop-p-init
-loop-p-init c = (omega arith, below_none _)
+loop-p-init c = below_none _
 
 pub tight_with-requires : goal.tight_with-requires
 tight_with-requires c = (c.requires, omega arith)
@@ -15,7 +14,7 @@ pub returns-then-not-tight_with : goal.returns-then-not-tight_with
 returns-then-not-tight_with c = below_fails _ _ _ c.loop-p-test.true c.tight_with.ensures c.if-not-tight_with.true
 
 pub loop-p-preserved : goal.loop-p-preserved
-loop-p-preserved c = (omega arith, below_more _ _ c.loop-p.invariant.1 c.tight_with.ensures c.if-not-tight_with.false)
+loop-p-preserved c = below_more _ _ c.loop-p.invariant c.tight_with.ensures c.if-not-tight_with.false
 
 pub returns : goal.returns
-returns c = below-done _ _ _ c.loop-p.invariant.0 (omega arith) c.loop-p.invariant.1
+returns c = below-done _ _ _ (omega arith) (omega arith) c.loop-p.invariant

@@ -6,7 +6,4 @@ use Rattle.facts.specs.Infer.{all_below, tight}
 use Rattle.readoff.proofs.all_tight.Given as goal
 
 abbrev pub invariant-loop-p : goal.invariant-loop-p
-invariant-loop-p l = (l.p ≤ variable_limit) × (all_below l.p (λ q. all_below variable_limit (tight l.t q)) ≡ true)
-
-abbrev pub decreases-loop-p : goal.decreases-loop-p
-decreases-loop-p l = variable_limit - l.p
+invariant-loop-p l = all_below l.p (λ q. all_below variable_limit (tight l.t q)) ≡ true

@@ -6,7 +6,4 @@ use Rattle.facts.specs.Infer.{all_below, tight}
 use Rattle.readoff.proofs.tight_with.Given as goal
 
 abbrev pub invariant-loop-x : goal.invariant-loop-x
-invariant-loop-x l = (l.x ≤ variable_limit) × (all_below l.x (tight l.t l.p) ≡ true)
-
-abbrev pub decreases-loop-x : goal.decreases-loop-x
-decreases-loop-x l = variable_limit - l.x
+invariant-loop-x l = all_below l.x (tight l.t l.p) ≡ true

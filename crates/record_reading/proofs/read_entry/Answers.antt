@@ -5,6 +5,7 @@ use Rattle.record_reading.proofs.ReadLaws.{room_fits, entry-short, entry-kind, e
 use mathlib.Core.Path.{ap}
 use mathlib.Core.Bool.{not}
 use Rattle.record_reading.proofs.read_entry.Goals as goal
+use Rattle.record_reading.proofs.read_entry.Goals.{then-s-at-ne33-via-then-s-at-ne33, then-s-at-ne33-via-else-s-at-ne33+then-not-uri_ok}
 
 pub returns-then-not-has_room : goal.returns-then-not-has_room
 returns-then-not-has_room c = entry-short _ _ c.has_room.ensures (ap not c.if-not-has_room.true)
@@ -21,9 +22,12 @@ bounds-s-at c = omega (arith, room_fits _ _ _ c.has_room.ensures (ap not c.if-no
 pub slice_bounds-uri_ok-end : goal.slice_bounds-uri_ok-end
 slice_bounds-uri_ok-end c = omega (arith, room_fits _ _ _ c.has_room.ensures (ap not c.if-not-has_room.false))
 
-pub returns-then-not-uri_ok : goal.returns-then-not-uri_ok
-returns-then-not-uri_ok c =
-    entry-uri _ _ c.has_room.ensures (ap not c.if-not-has_room.false) c.in-33.is c.uri_ok.ensures (ap not c.if-not-uri_ok.true)
+pub returns-then-s-at-ne33 : goal.returns-then-s-at-ne33
+returns-then-s-at-ne33 c =
+    elim c.then-s-at-ne33.branch [
+      | then-s-at-ne33-via-then-s-at-ne33 w ↦ entry-kind _ _ c.has_room.ensures (ap not c.if-not-has_room.false) w.if-s-at-ne33.true
+      | then-s-at-ne33-via-else-s-at-ne33+then-not-uri_ok w ↦ entry-uri _ _ c.has_room.ensures (ap not c.if-not-has_room.false) w.if-s-at-ne33.false w.uri_ok.ensures (ap not w.if-not-uri_ok.true)
+    ]
 
 pub bounds-s-end : goal.bounds-s-end
 bounds-s-end c =
@@ -35,15 +39,12 @@ overflow_add-result c =
 
 pub returns-in-1-to-5 : goal.returns-in-1-to-5
 returns-in-1-to-5 c =
-    entry_next _ _ c.has_room.ensures (ap not c.if-not-has_room.false) c.in-33.is c.uri_ok.ensures (ap not c.if-not-uri_ok.false) (omega arith) (omega arith)
-
-pub returns-in_default-datatype : goal.returns-in_default-datatype
-returns-in_default-datatype c =
-    entry-code _ _ c.has_room.ensures (ap not c.if-not-has_room.false) c.in-33.is c.uri_ok.ensures (ap not c.if-not-uri_ok.false) (inl (omega arith))
-
-pub returns-in_default-datatype-2 : goal.returns-in_default-datatype-2
-returns-in_default-datatype-2 c =
-    entry-code _ _ c.has_room.ensures (ap not c.if-not-has_room.false) c.in-33.is c.uri_ok.ensures (ap not c.if-not-uri_ok.false) (inr (omega arith))
+    entry_next _ _ c.has_room.ensures (ap not c.if-not-has_room.false) c.if-s-at-ne33.false c.uri_ok.ensures (ap not c.if-not-uri_ok.false) (omega arith) (omega arith)
 
 pub returns-in_default : goal.returns-in_default
-returns-in_default c = entry-kind _ _ c.has_room.ensures (ap not c.if-not-has_room.false) c.in_default.in_default-own.rest.1
+returns-in_default c =
+    entry-code _ _ c.has_room.ensures (ap not c.if-not-has_room.false) c.if-s-at-ne33.false c.uri_ok.ensures (ap not c.if-not-uri_ok.false) (inl (omega arith))
+
+pub returns-in_default-2 : goal.returns-in_default-2
+returns-in_default-2 c =
+    entry-code _ _ c.has_room.ensures (ap not c.if-not-has_room.false) c.if-s-at-ne33.false c.uri_ok.ensures (ap not c.if-not-uri_ok.false) (inr (omega arith))

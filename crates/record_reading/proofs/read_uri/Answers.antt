@@ -1,7 +1,7 @@
 -- `record_reading::read_uri` meets its contract.
 use native.Mathlib.Omega.{arith}
-use Rattle.record_reading.proofs.ReadLaws.{room_fits, uri-short, uri-bad, uri-next}
-use mathlib.Core.Path.{ap}
+use Rattle.record_reading.proofs.ReadLaws.{room_fits, uri-short, uri-read}
+use mathlib.Core.Path.{ap, ◌∙◌}
 use mathlib.Core.Bool.{not}
 use Rattle.record_reading.proofs.read_uri.Goals as goal
 
@@ -14,8 +14,5 @@ overflow_add-end c = omega (arith, room_fits _ _ _ c.has_room.ensures (ap not c.
 pub slice_bounds-uri_ok-end : goal.slice_bounds-uri_ok-end
 slice_bounds-uri_ok-end c = omega (arith, room_fits _ _ _ c.has_room.ensures (ap not c.if-not-has_room.false))
 
-pub returns-then-not-uri_ok : goal.returns-then-not-uri_ok
-returns-then-not-uri_ok c = uri-bad _ _ c.has_room.ensures (ap not c.if-not-has_room.false) c.uri_ok.ensures (ap not c.if-not-uri_ok.true)
-
 pub returns : goal.returns
-returns c = uri-next _ _ c.has_room.ensures (ap not c.if-not-has_room.false) c.uri_ok.ensures (ap not c.if-not-uri_ok.false)
+returns c = c.then_some.ensures ∙ uri-read _ _ c.has_room.ensures (ap not c.if-not-has_room.false) c.uri_ok.ensures

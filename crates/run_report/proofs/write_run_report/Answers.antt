@@ -24,6 +24,6 @@ pub returns : goal.returns
 returns c =
     let first = put-part {old = c.args.out.now} c.write_number.new.out 4 put-none (omega arith) (omega (arith, c.requires)) c.write_number.auto.out in
     let both = put_one 0 (put_one c.state_number.result first (omega (arith, c.requires))) (omega (arith, c.requires)) in
-    let steps = c.write_number.ensures ∙ ap (λ k. little_bytes k c.in-Ran.steps) c.write_number-arg-1.given.2 in
+    let steps = c.write_number.ensures ∙ ap (λ k. little_bytes k c.in-Ok.end.steps) c.write_number-arg-1.given.2 in
     put_all (put-part c.write_word.new.out 8 both (omega arith) (omega (arith, c.requires)) c.write_word.auto.out) (omega (arith, c.requires))
-    ∙ (two-between c.write_number.new.out c.write_word.new.out c.state_number.result 0 ∙ ran _ c.in-Ran.is steps c.state_number.ensures c.write_word.ensures c.wanted_graph.ensures)
+    ∙ (two-between c.write_number.new.out c.write_word.new.out c.state_number.result 0 ∙ ran _ c.in-Ok.is steps c.state_number.ensures c.write_word.ensures c.wanted_graph.ensures)

@@ -1,19 +1,22 @@
--- `scan::least` meets its contract. Assumes nothing.
-use lib.Dec.{ltb, leb}
-use borrow.Author.Tests.{ltb-true}
-use Rattle.keys.proofs.Rise.{and_left}
-use Rattle.scan.specs.Codes.{sought_code}
+-- `scan::least` meets its contract: the first n keys are a list of their own. Assumes nothing.
+use mathlib.Core.Path.{sym, ap, ◌∙◌}
+use Rattle.keys.specs.Keys.{rising}
+use Rattle.keys.proofs.Quads.{rows-front}
+use Rattle.keys.proofs.Rise.{keys-front}
+use Rattle.scan.specs.Scan.{scan}
+use Rattle.scan.specs.Codes.{places_at}
 use Rattle.scan.proofs.least.Goals as goal
 
-pub least_by_graph-requires : goal.least_by_graph-requires
-least_by_graph-requires c =
-    let free = and_left (ltb sought_code c.args.codes.graph) (leb c.args.codes.subject sought_code) c.if-codes.true in record { n_in_bounds = c.requires.n_in_bounds; keys_value = c.requires.keys_value; end_le_sought_code = c.requires.end_le_sought_code; sought_code_lt_graph = ltb-true sought_code _ free }
+pub least_by_graph-requires-clause-keys_value : goal.least_by_graph-requires-clause-keys_value
+least_by_graph-requires-clause-keys_value c = sym (ap rising (keys-front c.args.keys.now c.args.n c.requires.n_in_bounds)) ∙ c.requires.keys_value
 
-pub returns-then-codes : goal.returns-then-codes
-returns-then-codes c = c.least_by_graph.ensures
+pub least_by_stretch-requires-clause-keys_value : goal.least_by_stretch-requires-clause-keys_value
+least_by_stretch-requires-clause-keys_value c = sym (ap rising (keys-front c.args.keys.now c.args.n c.requires.n_in_bounds)) ∙ c.requires.keys_value
 
-pub least_by_stretch-requires : goal.least_by_stretch-requires
-least_by_stretch-requires c = record { n_in_bounds = c.requires.n_in_bounds; keys_value = c.requires.keys_value; end_le_sought_code = c.requires.end_le_sought_code }
+pub returns-then-codes-le-SOUGHT : goal.returns-then-codes-le-SOUGHT
+returns-then-codes-le-SOUGHT c =
+    c.least_by_graph.ensures ∙ ap (scan (places_at c.args.codes) c.args.lo c.args.end) (rows-front c.args.keys.now c.args.n c.requires.n_in_bounds)
 
-pub returns : goal.returns
-returns c = c.least_by_stretch.ensures
+pub returns-else-codes-gt-SOUGHT : goal.returns-else-codes-gt-SOUGHT
+returns-else-codes-gt-SOUGHT c =
+    c.least_by_stretch.ensures ∙ ap (scan (places_at c.args.codes) c.args.lo c.args.end) (rows-front c.args.keys.now c.args.n c.requires.n_in_bounds)

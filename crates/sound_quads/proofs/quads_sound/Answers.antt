@@ -1,26 +1,17 @@
--- `sound_quads::quads_sound` meets its contract. The loop keeps what is asked of the rest equal to what is asked of the whole.
-use Prim.Native.Nat.{◌-◌}
+-- `sound_quads::quads_sound` meets its contract: what is asked of each key is asked of its quad. Assumes nothing.
 use native.Mathlib.Omega.{arith}
-use mathlib.Core.Path.{sym, ap, ◌∙◌}
-use Rattle.definitions.specs.Lists.{every}
+use Rattle.std.proofs.Common.{rules, take}
+use borrow.Author.Tests.{tests}
+use Rattle.std.proofs.lemmas.Grind.{common_steps}
+use Rattle.std.proofs.lemmas.Iterator.{YieldsList-from_slice}
+use Rattle.std.proofs.lemmas.Iterator.Search.{all_from_yields_List}
+use Rattle.keys.specs.Keys.{quad_of}
 use Rattle.sound_quads.specs.TermNumbers.{quad_numbers}
-use Rattle.sound_quads.proofs.QuadLaws.{rows_all, row-fails, row-passes, rows_pass}
+use Rattle.sound_quads.proofs.QuadLaws.{all-rows}
 use Rattle.sound_quads.proofs.quads_sound.Goals as goal
-
-pub loop-i-init : goal.loop-i-init
-loop-i-init c =
-    ap (every (quad_numbers c.args.leasts.now c.args.count c.args.fetched.now)) (rows_all c.args.keys.now c.args.n)
-
-pub returns-then-not-quad_sound : goal.returns-then-not-quad_sound
-returns-then-not-quad_sound c =
-    row-fails c.args.keys.now c.args.n (quad_numbers c.args.leasts.now c.args.count c.args.fetched.now) c.loop-i.i c.loop-i.invariant (omega arith)
-    (sym c.quad_sound.ensures ∙ c.if-not-quad_sound.true)
-
-pub loop-i-preserved : goal.loop-i-preserved
-loop-i-preserved c =
-    row-passes c.args.keys.now c.args.n (quad_numbers c.args.leasts.now c.args.count c.args.fetched.now) c.loop-i.i c.loop-i.invariant (omega arith)
-    (sym c.quad_sound.ensures ∙ c.if-not-quad_sound.false)
 
 pub returns : goal.returns
 returns c =
-    rows_pass c.args.keys.now c.args.n (quad_numbers c.args.leasts.now c.args.count c.args.fetched.now) c.loop-i.i c.loop-i.invariant (omega arith)
+    let sound = quad_numbers c.args.leasts.now c.args.count c.args.fetched.now in
+    all-rows sound c.args.keys.now c.args.n _ c.requires.n_in_bounds
+    (all_from_yields_List (λ k. sound (quad_of k)) _ _ c.all.result c.all.ensures.ran (YieldsList-from_slice (take c.args.n c.args.keys.now) (grind (arith, common_steps))) (λ x b q k. search (rules, tests)))

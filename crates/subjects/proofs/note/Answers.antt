@@ -11,21 +11,27 @@ use Rattle.subjects.proofs.NotedLaws.{record-inside, subject-field, note-there, 
 use borrow.Author.Rules.{rules}
 use Rattle.subjects.proofs.note.Goals as goal
 
-pub find_subject-i-requires : goal.find_subject-i-requires
-find_subject-i-requires c =
+pub find_subject-found-requires : goal.find_subject-found-requires
+find_subject-found-requires c =
     let sizes : (length c.args.subjects.offsets ≡ subject_limit) × (length c.args.subjects.hashes ≡ subject_limit) × (length c.args.subjects.codes ≡ subject_limit) = (search (rules, c.well_formed.1.1.1.0), search (rules, c.well_formed.1.1.1.0), search (rules, c.well_formed.1.1.1.0)) in
     let z = sizes in let a : c.args.subjects.count ≤ length c.args.subjects.offsets = omega (arith, z.0, c.requires.count_lt_subject_limit) in
     let b : c.args.subjects.count ≤ length c.args.subjects.hashes = omega (arith, z.1, c.requires.count_lt_subject_limit) in record { n_in_bounds = a; n_in_bounds_2 = b; fields_within = c.requires.noted.1.within; fields_hashed = c.requires.noted.1.hashed; hash_value = c.hash_of-hash.ensures ∙ ap hash_of c.slot_of-slot.ensures }
 
-pub returns-then-i-n : goal.returns-then-i-n
-returns-then-i-n c =
+pub returns-in-Some : goal.returns-in-Some
+returns-in-Some c =
     let sizes : (length c.args.subjects.offsets ≡ subject_limit) × (length c.args.subjects.hashes ≡ subject_limit) × (length c.args.subjects.codes ≡ subject_limit) = (search (rules, c.well_formed.1.1.1.0), search (rules, c.well_formed.1.1.1.0), search (rules, c.well_formed.1.1.1.0)) in
-    let room : c.find_subject-i.result < length c.args.subjects.codes = omega (arith, sizes.2, c.if-i-n.true, c.requires.count_lt_subject_limit) in record {
+    let room : c.in-Some.i < length c.args.subjects.codes = omega (arith, sizes.2, (c.find_subject-found.ensures.some c.in-Some.i c.in-Some.is).0, c.requires.count_lt_subject_limit) in record {
       noted_2 = λ all u d h e f.
-          note-there _ all _ h u d _ (ap uri_text (subject-field c.args.page.now c.args.at) ∙ e) _ c.find_subject-i.ensures c.if-i-n.true room
+          note-there _ all _ h u d _ (ap uri_text (subject-field c.args.page.now c.args.at) ∙ e) c.find_subject-found.ensures c.in-Some.i c.in-Some.is room
           (λ o q. c.join.ensures o d q f);
       count_bound = omega arith;
     }
+
+pub bounds-subjects-i : goal.bounds-subjects-i
+bounds-subjects-i c = omega (arith, (c.find_subject-found.ensures.some c.in-Some.i c.in-Some.is).0, c.requires.count_lt_subject_limit)
+
+pub bounds-next-i : goal.bounds-next-i
+bounds-next-i c = omega (arith, (c.find_subject-found.ensures.some c.in-Some.i c.in-Some.is).0, c.requires.count_lt_subject_limit)
 
 pub overflow_cast-next : goal.overflow_cast-next
 overflow_cast-next c =
@@ -40,7 +46,7 @@ returns c =
     let t : c.args.subjects.count < length c.args.subjects.codes = omega (arith, z.2, c.requires.count_lt_subject_limit) in
     let i : c.args.at + 1 + text_width ≤ length c.args.page.now = omega (arith, record-inside _ _ _ _ c.requires.record_at.2) in record {
       noted_2 = λ all u d h e f.
-          note-new _ all _ h u d _ (ap uri_text field ∙ e) _ c.find_subject-i.ensures c.if-i-n.false _ _ _ (sym field) i r s t
+          note-new _ all _ h u d _ (ap uri_text field ∙ e) c.find_subject-found.ensures c.in_default.is _ _ _ (sym field) i r s t
           (c.hash_of-hash.ensures ∙ ap hash_of c.slot_of-slot.ensures) f;
       count_bound = omega arith;
     }

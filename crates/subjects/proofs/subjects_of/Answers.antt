@@ -1,5 +1,5 @@
 -- `subjects::subjects_of` meets its contract. The records before the offset are noted.
-use Prim.Native.Nat.{◌+◌, ◌*◌, ◌-◌, ◌≤◌}
+use Prim.Native.Nat.{◌+◌, ◌*◌, ◌≤◌}
 use native.Mathlib.Omega.{arith}
 use mathlib.Core.Path.{sym, ap}
 use Rattle.laws.specs.ReadAnswers.{is_some}
@@ -15,42 +15,42 @@ pub returns-in_default : goal.returns-in_default
 returns-in_default c =
     let bad = going-bad _ _ _ c.loop-at.invariant.2 c.loop-at-test.true c.read_triple.ensures c.in_default.is in record { good_value = sym (ap is_some bad); noted = λ rs e. absurd (some-not-none e bad); count_le_subject_limit = omega (arith, c.loop-at.invariant.0, c.loop-at.invariant.1, c.requires) }
 
-pub asked-code-requires : goal.asked-code-requires
-asked-code-requires c =
-    record-at _ _ _ c.loop-at.invariant.2 c.loop-at-test.true c.read_triple.ensures c.in-Next.is
+pub asked-requires : goal.asked-requires
+asked-requires c =
+    record-at _ _ _ c.loop-at.invariant.2 c.loop-at-test.true c.read_triple.ensures c.in-Some.is
 
 pub note-subjects-requires : goal.note-subjects-requires
 note-subjects-requires c =
-    let l = record-long _ _ _ c.loop-at.invariant.2 c.loop-at-test.true c.read_triple.ensures c.in-Next.is c.asked-code.ensures c.if-code-ne0.true in
-    let a = next-after _ _ _ c.loop-at.invariant.2 c.loop-at-test.true c.read_triple.ensures c.in-Next.is in record { record_at = record-at _ _ _ c.loop-at.invariant.2 c.loop-at-test.true c.read_triple.ensures c.in-Next.is; page_len_bound = c.requires; count_lt_subject_limit = omega (arith, l, a.1, c.loop-at.invariant.1, c.requires); noted = (_, c.loop-at.invariant.2.noted) }
+    let l = record-long _ _ _ c.loop-at.invariant.2 c.loop-at-test.true c.read_triple.ensures c.in-Some.is c.asked.ensures c.in-Some-asked.is in
+    let a = next-after _ _ _ c.loop-at.invariant.2 c.loop-at-test.true c.read_triple.ensures c.in-Some.is in record { record_at = record-at _ _ _ c.loop-at.invariant.2 c.loop-at-test.true c.read_triple.ensures c.in-Some.is; page_len_bound = c.requires; count_lt_subject_limit = omega (arith, l, a.1, c.loop-at.invariant.1, c.requires); noted = (_, c.loop-at.invariant.2.noted) }
 
-pub loop-at-smaller-then-code-ne0 : goal.loop-at-smaller-then-code-ne0
-loop-at-smaller-then-code-ne0 c =
-    let a = next-after _ _ _ c.loop-at.invariant.2 c.loop-at-test.true c.read_triple.ensures c.in-Next.is in omega (arith, a.0, a.1)
+pub loop-at-smaller-in-Some-asked : goal.loop-at-smaller-in-Some-asked
+loop-at-smaller-in-Some-asked c =
+    let a = next-after _ _ _ c.loop-at.invariant.2 c.loop-at-test.true c.read_triple.ensures c.in-Some.is in omega (arith, a.0, a.1)
 
-pub loop-at-preserved-then-code-ne0 : goal.loop-at-preserved-then-code-ne0
-loop-at-preserved-then-code-ne0 c =
-    let l = record-long _ _ _ c.loop-at.invariant.2 c.loop-at-test.true c.read_triple.ensures c.in-Next.is c.asked-code.ensures c.if-code-ne0.true in
-    let a = next-after _ _ _ c.loop-at.invariant.2 c.loop-at-test.true c.read_triple.ensures c.in-Next.is in
+pub loop-at-preserved-in-Some-asked : goal.loop-at-preserved-in-Some-asked
+loop-at-preserved-in-Some-asked c =
+    let l = record-long _ _ _ c.loop-at.invariant.2 c.loop-at-test.true c.read_triple.ensures c.in-Some.is c.asked.ensures c.in-Some-asked.is in
+    let a = next-after _ _ _ c.loop-at.invariant.2 c.loop-at-test.true c.read_triple.ensures c.in-Some.is in
     let m : c.note-subjects.result.count ≤ c.loop-at.subjects.count + 1 = c.note-subjects.ensures.count_bound in
-    let q : c.note-subjects.result.count * asking_width ≤ c.in-Next.next = omega (arith, l, m, c.loop-at.invariant.1) in (
+    let q : c.note-subjects.result.count * asking_width ≤ c.in-Some.next = omega (arith, l, m, c.loop-at.invariant.1) in (
       a.1,
       q,
-      going-noting _ _ _ c.loop-at.invariant.2 c.loop-at-test.true c.read_triple.ensures c.in-Next.is c.asked-code.ensures c.if-code-ne0.true _
+      going-noting _ _ _ c.loop-at.invariant.2 c.loop-at-test.true c.read_triple.ensures c.in-Some.is c.asked.ensures c.in-Some-asked.is _
           c.note-subjects.ensures.noted_2,
     )
 
 pub loop-at-smaller : goal.loop-at-smaller
 loop-at-smaller c =
-    let a = next-after _ _ _ c.loop-at.invariant.2 c.loop-at-test.true c.read_triple.ensures c.in-Next.is in omega (arith, a.0, a.1)
+    let a = next-after _ _ _ c.loop-at.invariant.2 c.loop-at-test.true c.read_triple.ensures c.in-Some.is in omega (arith, a.0, a.1)
 
 pub loop-at-preserved : goal.loop-at-preserved
 loop-at-preserved c =
-    let a = next-after _ _ _ c.loop-at.invariant.2 c.loop-at-test.true c.read_triple.ensures c.in-Next.is in (
+    let a = next-after _ _ _ c.loop-at.invariant.2 c.loop-at-test.true c.read_triple.ensures c.in-Some.is in (
       a.1,
       omega (arith, a.0, c.loop-at.invariant.1),
-      going_on _ _ _ c.loop-at.invariant.2 c.loop-at-test.true c.read_triple.ensures c.in-Next.is c.asked-code.ensures
-          c.if-code-ne0.false,
+      going_on _ _ _ c.loop-at.invariant.2 c.loop-at-test.true c.read_triple.ensures c.in-Some.is c.asked.ensures
+          c.in_default-asked.is,
     )
 
 pub returns : goal.returns

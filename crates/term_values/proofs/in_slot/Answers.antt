@@ -3,11 +3,11 @@ use Rattle.term_values.proofs.SlotLaws.{uri-holds, string-holds, integer-holds, 
 use Rattle.term_values.proofs.in_slot.Goals as goal
 
 pub returns-in-17 : goal.returns-in-17
-returns-in-17 c = uri-holds c.args.slot.now c.requires c.in-17.is c.text_at.result c.text_at.ensures
+returns-in-17 c = uri-holds c.args.slot.now c.requires c.in-17.is c.field_at.result c.field_at.ensures
 
 pub returns-in-18 : goal.returns-in-18
 returns-in-18 c =
-    string-holds c.args.slot.now c.requires c.in-18.is c.tag_at.result c.text_at-in-18.result c.tag_at.ensures c.text_at-in-18.ensures
+    string-holds c.args.slot.now c.requires c.in-18.is c.field_at-in-18.result c.field_at-in-18-2.result c.field_at-in-18.ensures c.field_at-in-18-2.ensures
 
 pub returns-in-19 : goal.returns-in-19
 returns-in-19 c =

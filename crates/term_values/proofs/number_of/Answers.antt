@@ -4,5 +4,5 @@ use Rattle.term_values.proofs.number_of.Goals as goal
 
 pub returns : goal.returns
 returns c =
-    number-held c.args.kind c.numeric.result c.to_signed-n.result c.long_at.result _ (record { sfits = c.to_signed-n.type_inv }) c.to_signed-n.ensures
+    number-held c.args.kind c.numeric.result c.to_signed.result c.long_at.result _ (record { sfits = c.to_signed.type_inv }) c.to_signed.ensures
     c.long_at.ensures c.numeric.ensures

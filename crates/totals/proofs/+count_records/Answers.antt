@@ -1,14 +1,11 @@
 -- `totals::count_records` meets its contract.
 use native.Mathlib.Omega.{arith}
-use mathlib.Core.Bool.{Bool, ◌||◌}
-use mathlib.Core.Path.{refl, ap, ap₂}
-use lib.Dec.{eqb}
-use Rattle.definitions.specs.Bytes.{byte}
+use borrow.Author.Tests.{ne_eqb}
+use mathlib.Core.Path.{refl, sym, ◌∙◌}
 use Rattle.definitions.specs.Total.{script_records, has_each}
 use Rattle.laws.proofs.Walked.{leaf_walked}
 use Rattle.laws.proofs.Productions.{ScriptAt, script-at}
 use Rattle.totals.proofs.TotalLaws.{counted-fits}
-use Prim.Native.Nat.{◌+◌}
 use Rattle.totals.proofs.+count_records.Goals as goal
 
 pub after_name-next-requires : goal.after_name-next-requires
@@ -50,8 +47,8 @@ pub count_records-b-requires : goal.count_records-b-requires
 count_records-b-requires t c =
     let here : ScriptAt t c.args.script.now c.args.terms c.args.left c.args.at = script-at _ _ _ _ _ c.decreases c.requires in let n = here.sequence c.in_default.in_default-own.rest in (n.falls, n.second c.count_records-a.ensures)
 
-pub overflow_add-both : goal.overflow_add-both
-overflow_add-both t c = omega (arith, counted-fits _ _ _ _ c.count_records-a.ensures, counted-fits _ _ _ _ c.count_records-b.ensures)
+pub overflow_add-records-in_default-2 : goal.overflow_add-records-in_default-2
+overflow_add-records-in_default-2 t c = omega (arith, counted-fits _ _ _ _ c.count_records-a.ensures, counted-fits _ _ _ _ c.count_records-b.ensures)
 
 pub overflow_add-records-in_default : goal.overflow_add-records-in_default
 overflow_add-records-in_default t c = omega (arith, counted-fits _ _ _ _ c.count_records-a.ensures, counted-fits _ _ _ _ c.count_records-b.ensures)
@@ -68,19 +65,31 @@ returns-in-114 t c =
     (here.from_named c.in-114.is).node c.after_name-next.ensures c.count_records-c.ensures
     (λ n d u h. (omega (arith, h.0), h.1))
 
-pub returns-in-115 : goal.returns-in-115
+pub returns-then-own : goal.returns-then-own
 unfolding script_records has_each
-returns-in-115 t c =
+returns-then-own t c =
     let here : ScriptAt t c.args.script.now c.args.terms c.args.left c.args.at = script-at _ _ _ _ _ c.decreases c.requires in
-    (here.block c.in-115.is).parts.node c.after_query-next.ensures c.count_records-inner.ensures
-    (λ q d u h. (omega (arith, h.0), ap (λ (e : Bool). eqb (byte c.args.script.now (c.args.at + 1)) 1 || e) h.1))
+    (here.block c.in-115.is).parts.node c.after_query-next.ensures c.count_records-inner.ensures (λ q d u h. (omega (arith, h.0), rw c.if-own.true))
 
-pub returns-in_default : goal.returns-in_default
+pub returns-else-own : goal.returns-else-own
 unfolding script_records has_each
-returns-in_default t c =
+returns-else-own t c =
+    let here : ScriptAt t c.args.script.now c.args.terms c.args.left c.args.at = script-at _ _ _ _ _ c.decreases c.requires in
+    (here.block c.in-115.is).parts.node c.after_query-next.ensures c.count_records-inner.ensures (λ q d u h. (omega (arith, h.0), rw (ne_eqb _ _ c.if-own.false) h.1))
+
+pub returns-then-a : goal.returns-then-a
+unfolding script_records has_each
+returns-then-a t c =
     let here : ScriptAt t c.args.script.now c.args.terms c.args.left c.args.at = script-at _ _ _ _ _ c.decreases c.requires in
     (here.sequence c.in_default.in_default-own.rest).node c.count_records-a.ensures
-    c.count_records-b.ensures (λ a d g h. (omega (arith, g.0, h.0), ap₂ ◌||◌ g.1 h.1))
+    c.count_records-b.ensures (λ a d g h. (omega (arith, g.0, h.0), rw (sym g.1 ∙ c.if-a.true) c.if-a.true))
+
+pub returns-else-a : goal.returns-else-a
+unfolding script_records has_each
+returns-else-a t c =
+    let here : ScriptAt t c.args.script.now c.args.terms c.args.left c.args.at = script-at _ _ _ _ _ c.decreases c.requires in
+    (here.sequence c.in_default.in_default-own.rest).node c.count_records-a.ensures
+    c.count_records-b.ensures (λ a d g h. (omega (arith, g.0, h.0), rw (sym g.1 ∙ c.if-a.false) h.1))
 
 pub bounds-script-at : goal.bounds-script-at
 bounds-script-at t c =

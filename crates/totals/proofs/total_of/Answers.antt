@@ -9,5 +9,5 @@ count_records-counts-requires c = whole-loads _ _ c.requires
 pub returns-then-counts : goal.returns-then-counts
 returns-then-counts c = no-total _ _ c.requires c.count_records-counts.ensures c.if-counts.true
 
-pub returns : goal.returns
-returns c = total-is _ _ c.requires c.count_records-counts.ensures c.if-counts.false
+pub returns-else-counts : goal.returns-else-counts
+returns-else-counts c = total-is _ _ c.requires c.count_records-counts.ensures c.if-counts.false

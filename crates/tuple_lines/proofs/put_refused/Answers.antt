@@ -7,4 +7,4 @@ use Rattle.tuple_lines.proofs.put_refused.Goals as goal
 
 pub returns : goal.returns
 unfolding ascii
-returns c = record { written = written_as (written_then (written_then c.put_text-a.ensures c.put_number-b.ensures.written (omega arith)) c.put_byte.ensures (omega arith)) (refused-line _); upper_bound = omega (arith, c.put_text-a.ensures.end, c.put_number-b.ensures.upper_bound, c.put_byte.ensures.end) }
+returns c = record { written = written_as (written_then (written_then c.put_text-a.ensures c.put_number-b.ensures.written (omega arith)) c.put_byte.ensures (omega arith)) (refused-line _ c.number.ensures); upper_bound = omega (arith, c.put_text-a.ensures.end, c.put_number-b.ensures.upper_bound, c.put_byte.ensures.end) }

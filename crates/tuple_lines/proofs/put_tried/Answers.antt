@@ -6,9 +6,9 @@ use Rattle.output.proofs.WritingLaws.{written_as, written_then}
 use Rattle.tuple_lines.proofs.LineLaws.{bad-line, good-line}
 use Rattle.tuple_lines.proofs.put_tried.Goals as goal
 
-pub returns-then-not-tried : goal.returns-then-not-tried
+pub returns-in_default : goal.returns-in_default
 unfolding ascii line
-returns-then-not-tried c = record { written = written_as c.put_text.ensures (bad-line _ c.if-not-tried.true); upper_bound = omega (arith, c.put_text.ensures.end) }
+returns-in_default c = record { written = written_as c.put_text.ensures (bad-line _ c.in_default.is); upper_bound = omega (arith, c.put_text.ensures.end) }
 
 pub returns : goal.returns
-returns c = record { written = written_as (written_then (written_then c.put_truth-a.ensures.written c.put_number-b.ensures.written (omega arith)) c.put_byte.ensures (omega arith)) (good-line _ c.if-not-tried.false); upper_bound = omega (arith, c.put_truth-a.ensures.upper_bound, c.put_number-b.ensures.upper_bound, c.put_byte.ensures.end) }
+returns c = record { written = written_as (written_then (written_then c.put_truth-a.ensures.written c.put_number-b.ensures.written (omega arith)) c.put_byte.ensures (omega arith)) (good-line _ _ c.in-Some.is); upper_bound = omega (arith, c.put_truth-a.ensures.upper_bound, c.put_number-b.ensures.upper_bound, c.put_byte.ensures.end) }

@@ -7,10 +7,10 @@ use Rattle.type_lines.proofs.bound_ones.Goals as goal
 pub overflow_add-n : goal.overflow_add-n
 overflow_add-n c = omega (arith, c.one_if-n.ensures.upper_bound)
 
-pub loop-i-preserved : goal.loop-i-preserved
-loop-i-preserved c =
-    (omega arith, omega (arith, c.one_if-n.ensures.upper_bound), omega (arith, ones-next c.args.codes.now c.loop-i.i (omega arith), c.one_if-n.ensures.value, c.loop-i.invariant.2))
+pub loop-code-preserved : goal.loop-code-preserved
+loop-code-preserved c =
+    (omega arith, omega (arith, c.one_if-n.ensures.upper_bound), omega (arith, ones-next c.args.codes.now c.loop-code.code-index (omega arith), c.one_if-n.ensures.value, c.loop-code.invariant.2))
 
 pub returns : goal.returns
 returns c =
-    omega (arith, ones_none c.args.codes.now c.loop-i.i (omega arith), c.loop-i.invariant.2)
+    omega (arith, ones_none c.args.codes.now c.loop-code.code-index (omega arith), c.loop-code.invariant.2)

@@ -7,6 +7,3 @@ use Rattle.type_lines.proofs.put_lines.Given as goal
 
 abbrev pub invariant-loop-i : goal.invariant-loop-i
 invariant-loop-i l = (l.i ≤ length l.codes) × (l.at ≤ l.from + line_room * l.i) × (length l.out ≡ length l.initial.out) × Written (bound_lines 0 (take l.i l.codes)) l.initial.out l.out l.from l.at
-
-abbrev pub decreases-loop-i : goal.decreases-loop-i
-decreases-loop-i l = length l.codes - l.i

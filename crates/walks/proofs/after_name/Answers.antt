@@ -1,9 +1,10 @@
--- `walks::after_name` meets its contract.
-use Rattle.laws.proofs.ReadAnswers.{never-fails, ends_next}
+-- It reads well, so there is an offset.
+use Rattle.laws.proofs.ReadAnswers.{ends_next}
+use Rattle.walks.proofs.NextLaws.{next-there}
 use Rattle.walks.proofs.after_name.Goals as goal
 
-pub returns-in_default : goal.returns-in_default
-returns-in_default c = absurd (never-fails _ c.read_name.ensures c.requires c.in_default.is)
+pub unwrap-requires : goal.unwrap-requires
+unwrap-requires c = next-there _ c.read_name.ensures c.requires
 
 pub returns : goal.returns
-returns c = ends_next _ c.read_name.ensures c.in-Next.is
+returns c = ends_next _ c.read_name.ensures c.unwrap.ensures

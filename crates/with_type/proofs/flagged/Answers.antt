@@ -1,6 +1,6 @@
--- `with_type::flagged` meets its contract. Invariant: the flags below `other` are there. The measure is what is left of the variables.
+-- `with_type::flagged` meets its contract. Invariant: the flags below `other` are there.
 -- Assumes nothing.
-use Prim.Native.Nat.{ℕ, ◌-◌}
+use Prim.Native.Nat.{ℕ}
 use native.Mathlib.Omega.{arith}
 use mathlib.Core.Path.{refl, ap, sym}
 use mathlib.Core.Bool.{false, ◌||◌}
@@ -12,17 +12,16 @@ use Rattle.with_type.specs.WithType.{pair_at, flagged}
 use Rattle.with_type.proofs.flagged.Goals as goal
 
 pub loop-other-init : goal.loop-other-init
-loop-other-init c = (omega arith, refl, λ k l. absurd (omega arith))
+loop-other-init c = (refl, λ k l. absurd (omega arith))
 
 pub loop-other-preserved : goal.loop-other-preserved
 loop-other-preserved c =
     let at : ℕ → ℕ = pair_at c.args.objects c.args.x in (
-      omega arith,
-      rw length-set c.loop-other.invariant.1,
+      rw length-set c.loop-other.invariant.0,
       filled_more false (λ k. flag c.args.flags k || flag c.args.edges (at k)) c.loop-other.more c.loop-other.other (omega arith)
-          c.loop-other.invariant.2 (ap (λ n. flag c.args.flags c.loop-other.other || flag c.args.edges n) c.pair_at-at.ensures.0),
+          c.loop-other.invariant.1 (ap (λ n. flag c.args.flags c.loop-other.other || flag c.args.edges n) c.pair_at-at.ensures.0),
     )
 
 pub returns : goal.returns
 unfolding flagged
-returns c = sym (made-is false _ _ c.loop-other.invariant.1 (λ k l. sym (c.loop-other.invariant.2 k (omega arith))))
+returns c = sym (made-is false _ _ c.loop-other.invariant.0 (λ k l. sym (c.loop-other.invariant.1 k (omega arith))))

@@ -1,4 +1,4 @@
-use Prim.Native.Nat.{ℕ, ◌≤◌, ◌<◌, ◌-◌}
+use Prim.Native.Nat.{ℕ, ◌<◌}
 use mathlib.Core.Path.{◌≡◌}
 use mathlib.Core.Bool.{false, ◌||◌}
 use lib.ListN.{length, get_or}
@@ -9,7 +9,4 @@ use Rattle.with_type.proofs.flagged.Given as goal
 
 abbrev pub invariant-loop-other : goal.invariant-loop-other
 invariant-loop-other l =
-    (l.other ≤ variable_limit) × (length l.more ≡ variable_limit) × ((k : ℕ) → k < l.other → get_or l.more k false ≡ flag l.flags k || flag l.edges (pair_at l.objects l.x k))
-
-abbrev pub decreases-loop-other : goal.decreases-loop-other
-decreases-loop-other l = variable_limit - l.other
+    (length l.more ≡ variable_limit) × ((k : ℕ) → k < l.other → get_or l.more k false ≡ flag l.flags k || flag l.edges (pair_at l.objects l.x k))

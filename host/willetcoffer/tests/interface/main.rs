@@ -69,14 +69,24 @@ const REFUSALS: [(&str, i128); 20] = [
     ("SHORT_BUFFER", 23),
 ];
 
+/// The refusals of the shared data: the variants of an enum, by their discriminants.
+fn variants(text: &str) -> Numbers {
+    let (_, body) = text.split_once("pub enum Refusal {").expect("the refusals");
+    let lines = body.split('}').next().unwrap_or_default().lines();
+    let variant = lines.filter_map(|line| line.trim().strip_suffix(',')?.split_once(" = "));
+    variant.map(|(name, number)| (snake(name), number.parse().expect("a number"))).collect()
+}
+
 #[test]
 fn the_definitions_agree_with_the_shared_data() {
     let defined = definitions();
-    let mut shared = rust(&read("crates/definitions/src/lib.rt"));
+    let data = read("crates/definitions/src/lib.rt");
+    let mut shared = rust(&data);
     assert!(shared.len() >= 50, "the shared data was read: {shared:?}");
-    for (name, number) in REFUSALS {
-        assert_eq!(shared.remove(name), Some(number), "{name}");
-    }
+    let refusals: Numbers = REFUSALS.map(|(name, number)| (name.to_string(), number)).into();
+    assert_eq!(variants(&data), refusals);
+    let named = equations(&read(&format!("{DEFINITIONS}/Numbers.antt")).replace("Refusals.", ""), "refusal_number");
+    assert_eq!(named, refusals);
     // what the code alone has: the places of the stack
     assert_eq!(shared.remove("ITEM_LIMIT"), defined.get("DEPTH_LIMIT").copied());
     for (name, number) in shared {
@@ -150,9 +160,8 @@ fn codes_of_types() {
     }
 }
 
-/// Words before a refusal's number; it stands too where a record's number is written.
-const REFUSING: [&str; 7] =
-    ["require", "given", "refused", "refused_run", "refused_page", "SuggestAnswers.Refused", "refused_publish"];
+/// Words before a refusal's name or number; its number stands too where a record's number is written.
+const REFUSING: [&str; 7] = ["require", "given", "refused", "refused_run", "refused_page", "Err", "refused_publish"];
 
 /// The definitions of the calls.
 fn calls() -> String {
@@ -163,7 +172,8 @@ fn calls() -> String {
 fn refusals_in(words: &[String]) -> impl Iterator<Item = i128> + '_ {
     let named = words.windows(2).filter(|pair| REFUSING.contains(&&*pair[0])).map(|pair| &pair[1]);
     let written = words.windows(3).filter(|three| three[0] == "number" && three[1] == "=").map(|three| &three[2]);
-    named.chain(written).filter_map(|word| word.parse().ok())
+    let by_name = |word: &str| REFUSALS.iter().find(|(name, _)| *name == snake(word)).map(|(_, number)| *number);
+    named.chain(written).filter_map(move |word| word.parse().ok().or_else(|| by_name(word)))
 }
 
 #[test]

@@ -1,5 +1,4 @@
 -- `card::leasts::least_codes` meets its contract. The loop keeps the codes of the terms passed in front, and what was there after them.
-use Prim.Native.Nat.{◌-◌}
 use native.Mathlib.Omega.{arith}
 use mathlib.Core.Path.{refl}
 use lib.ListN.{length-set}
@@ -9,7 +8,7 @@ use Rattle.card.proofs.leasts.least_codes.Goals as goal
 
 pub loop-i-init : goal.loop-i-init
 loop-i-init c =
-    (c.requires.from_le_count, (least_first _ _ _ c.requires.schema_value c.requires.holds_terms _ c.args.from c.requires.out_value, refl))
+    (least_first _ _ _ c.requires.schema_value c.requires.holds_terms _ c.args.from c.requires.out_value, refl)
 
 pub overflow_mul-at : goal.overflow_mul-at
 overflow_mul-at c = omega (arith, c.loop-i-test.true, c.requires.holds_terms.width, holds-few _ _ c.requires.holds_terms)
@@ -33,18 +32,15 @@ pub least_type-requires : goal.least_type-requires
 least_type-requires c = record { schema_value = c.requires.schema_value; hashed_entries = c.requires.hashed_entries; good_slot = slot-good _ _ c.requires.holds_terms _ c.loop-i-test.true }
 
 pub bounds-out-i : goal.bounds-out-i
-bounds-out-i c = omega (arith, c.loop-i-test.true, c.requires.count_in_bounds, c.loop-i.invariant.1.1)
+bounds-out-i c = omega (arith, c.loop-i-test.true, c.requires.count_in_bounds, c.loop-i.invariant.1)
 
 pub loop-i-preserved : goal.loop-i-preserved
 loop-i-preserved c = (
-  omega arith,
-  (
-    least-next _ _ _ c.requires.schema_value c.requires.holds_terms _ _ _ c.loop-i.invariant.1.0 c.requires.count_in_bounds c.loop-i-test.true c.least_type.ensures,
-    simp
-        length-set c.loop-i.invariant.1.1,
-  ),
+  least-next _ _ _ c.requires.schema_value c.requires.holds_terms _ _ _ c.loop-i.invariant.0 c.requires.count_in_bounds c.loop-i-test.true c.least_type.ensures,
+  simp
+      length-set c.loop-i.invariant.1,
 )
 
 pub returns : goal.returns
 returns c =
-    least-done _ _ _ c.requires.schema_value c.requires.holds_terms _ _ _ c.loop-i.invariant.1.0 c.loop-i.invariant.0 c.loop-i-test.false
+    least-done _ _ _ c.requires.schema_value c.requires.holds_terms c.args.out.now _ _ c.loop-i.invariant.0 (omega arith) (omega arith)

@@ -1,4 +1,3 @@
-use Prim.Native.Nat.{◌≤◌, ◌-◌}
 use mathlib.Core.List.{◌++◌}
 use mathlib.Core.Path.{◌≡◌}
 use lib.ListN.{length, take, drop}
@@ -8,7 +7,4 @@ use Rattle.card.specs.Leasts.{least_codes}
 use Rattle.card.proofs.leasts.least_codes.Given as goal
 
 abbrev pub invariant-loop-i : goal.invariant-loop-i
-invariant-loop-i l = (l.i ≤ l.count) × ((l.out ≡ take l.i (least_codes (read_schema l.schema) (terms_in l.table)) ++ drop l.i l.initial.out) × (length l.out ≡ length l.initial.out))
-
-abbrev pub decreases-loop-i : goal.decreases-loop-i
-decreases-loop-i l = l.count - l.i
+invariant-loop-i l = (l.out ≡ take l.i (least_codes (read_schema l.schema) (terms_in l.table)) ++ drop l.i l.initial.out) × (length l.out ≡ length l.initial.out)

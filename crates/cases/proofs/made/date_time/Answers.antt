@@ -12,11 +12,11 @@ unfolding within_limits
 returns-then-within c =
     time-made c.args.n c.ranges.n c.within.result c.within.ensures c.now_value.result c.if-within.true c.now_value.ensures
 
-pub now_value-requires-2 : goal.now_value-requires-2
+pub now_value-requires-else-within : goal.now_value-requires-else-within
 unfolding within_limits
-now_value-requires-2 c = tt
+now_value-requires-else-within c = tt
 
-pub returns : goal.returns
+pub returns-else-within : goal.returns-else-within
 unfolding within_limits
-returns c =
-    time-other c.args.n c.ranges.n c.within.result c.within.ensures c.now_value-2.result c.if-within.false c.now_value-2.ensures
+returns-else-within c =
+    time-other c.args.n c.ranges.n c.within.result c.within.ensures c.now_value-else-within.result c.if-within.false c.now_value-else-within.ensures

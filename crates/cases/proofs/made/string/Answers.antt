@@ -2,4 +2,4 @@
 use Rattle.cases.proofs.made.string.Goals as goal
 
 pub returns : goal.returns
-returns c = rw (← c.tag_field-tag_bytes.ensures, ← c.text_field-text_bytes.ensures) c.string_in.ensures
+returns c = rw (← c.field.ensures, ← c.field-2.ensures) c.string_in.ensures

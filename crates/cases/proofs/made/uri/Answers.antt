@@ -2,4 +2,4 @@
 use Rattle.cases.proofs.made.uri.Goals as goal
 
 pub returns : goal.returns
-returns c = rw (← c.text_field-bytes.ensures) c.uri_in.ensures
+returns c = rw (← c.field.ensures) c.uri_in.ensures

@@ -5,8 +5,8 @@ use mathlib.Core.Path.{ap}
 use mathlib.Core.Bool.{not}
 use Rattle.cases.proofs.made.uri_in.Goals as goal
 
-pub returns-then-not-uri_ok : goal.returns-then-not-uri_ok
-returns-then-not-uri_ok c = bad-uri _ c.uri_ok.result c.uri_ok.ensures (ap not c.if-not-uri_ok.true)
+pub returns-else-uri_ok : goal.returns-else-uri_ok
+returns-else-uri_ok c = bad-uri _ c.uri_ok.result c.uri_ok.ensures (ap not c.if-uri_ok.false)
 
-pub returns : goal.returns
-returns c = uri-made _ c.uri_ok.result c.uri_ok.ensures (omega arith) (ap not c.if-not-uri_ok.false)
+pub returns-then-uri_ok : goal.returns-then-uri_ok
+returns-then-uri_ok c = uri-made _ c.uri_ok.result c.uri_ok.ensures (omega arith) (ap not c.if-uri_ok.true)

@@ -1,20 +1,13 @@
 -- `fields::numbers::long_at` meets its contract.
-use native.Mathlib.Omega.{arith}
+use mathlib.Core.Path.{ap, ◌∙◌}
+use lib.ListN.{length}
+use Rattle.std.proofs.lemmas.Result.{MatchResult-at_ok}
+use Rattle.definitions.specs.Bytes.{little}
 use Rattle.fields.proofs.NumberLaws.{eight}
+use Rattle.fields.proofs.PartLaws.{some-part}
 use Rattle.fields.proofs.numbers.long_at.Goals as goal
 
 pub returns : goal.returns
 returns c =
-    let e = eight c.args.s.now c.args.at c.requires in
-    omega (
-      arith,
-      e,
-      c.wide.ensures.0,
-      c.wide-2.ensures.0,
-      c.wide-3.ensures.0,
-      c.wide-4.ensures.0,
-      c.wide-5.ensures.0,
-      c.wide-6.ensures.0,
-      c.wide-7.ensures.0,
-      c.wide-8.ensures.0,
-    )
+    let whole = MatchResult-at_ok _ _ c.unwrap.result c.unwrap.ensures c.try_into.ensures.1 in
+    c.from_le_bytes.ensures ∙ eight c.unwrap.result (ap length whole.same ∙ whole.long) ∙ ap little (whole.same ∙ some-part c.args.s.now c.args.at 8)

@@ -1,13 +1,10 @@
 -- `fields::numbers::to_signed` meets its contract.
-use native.Mathlib.Omega.{arith}
-use Rattle.fields.proofs.NumberLaws.{low_value, high_fits, high_value}
+use mathlib.Core.Path.{◌∙◌, ap}
+use mir.Syntax.{w64}
+use mir.Val.{to_z, of_z}
+use mir.Facts.{of_z-to_z}
+use Rattle.fields.proofs.NumberLaws.{signed_is}
 use Rattle.fields.proofs.numbers.to_signed.Goals as goal
 
-pub returns-then-v-lt9223372036854775808 : goal.returns-then-v-lt9223372036854775808
-returns-then-v-lt9223372036854775808 c = low_value c.args.v c.if-v-lt9223372036854775808.true
-
-pub overflow_sub-result-2 : goal.overflow_sub-result-2
-overflow_sub-result-2 c = high_fits c.args.v c.if-v-lt9223372036854775808.false (omega arith)
-
 pub returns : goal.returns
-returns c = high_value c.args.v c.if-v-lt9223372036854775808.false (omega arith)
+returns c = ap (λ z. to_z w64 (of_z w64 z)) c.cast_signed.ensures ∙ ap (to_z w64) (of_z-to_z c.ranges.v) ∙ signed_is c.args.v c.ranges.v.fits

@@ -1,4 +1,3 @@
-use Prim.Native.Nat.{◌-◌, ◌≤◌}
 use mathlib.Core.List.{List}
 use mathlib.Core.Path.{◌≡◌}
 use lib.ListN.{length}
@@ -10,7 +9,4 @@ use Rattle.gathering.proofs.entries.put_entries.Given as goal
 
 abbrev pub invariant-loop-i : goal.invariant-loop-i
 invariant-loop-i l =
-    (l.i ≤ l.subjects.count) × (length l.schema ≡ schema_width) × ((all : List Asking) → Noted l.page all l.subjects → Putting l.page all l.subjects l.initial.schema l.schema l.at l.i)
-
-abbrev pub decreases-loop-i : goal.decreases-loop-i
-decreases-loop-i l = l.subjects.count - l.i
+    (length l.schema ≡ schema_width) × ((all : List Asking) → Noted l.page all l.subjects → Putting l.page all l.subjects l.initial.schema l.schema l.at l.i)

@@ -1,11 +1,8 @@
-use Prim.Native.Nat.{◌≤◌, ◌-◌, ◌+◌, ◌*◌}
+use Prim.Native.Nat.{◌-◌, ◌+◌, ◌*◌}
 use mathlib.Core.Path.{◌≡◌}
 use Rattle.definitions.specs.Limits.{items_offset, item_width}
 use Rattle.definitions.specs.Exports.{items_good}
 use Rattle.layout.proofs.reading.items_good.Given as goal
 
 abbrev pub invariant-loop-i : goal.invariant-loop-i
-invariant-loop-i l = (l.i ≤ l.height) × (items_good l.height l.b items_offset ≡ items_good (l.height - l.i) l.b (items_offset + item_width * l.i))
-
-abbrev pub decreases-loop-i : goal.decreases-loop-i
-decreases-loop-i l = l.height - l.i
+invariant-loop-i l = items_good l.height l.b items_offset ≡ items_good (l.height - l.i) l.b (items_offset + item_width * l.i)

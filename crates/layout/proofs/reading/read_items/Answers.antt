@@ -1,5 +1,4 @@
 -- The loop: the items before `i` are read, and zeros stand in the places after them.
-use Prim.Native.Nat.{◌-◌}
 use native.Mathlib.Omega.{arith}
 use mathlib.Core.Path.{◌≡◌, ap, sym, ◌∙◌}
 use lib.ListN.{replicate}
@@ -11,13 +10,13 @@ use Rattle.layout.proofs.reading.read_items.Goals as goal
 
 pub loop-i-init : goal.loop-i-init
 loop-i-init c =
-    (omega arith, ap (replicate 24) c.zero_item-empty.ensures ∙ sym (items-none c.args.b.now 24 items_offset))
+    (ap (replicate 24) c.zero_item-empty.ensures ∙ sym (items-none c.args.b.now 24 items_offset))
 
 pub loop-i-preserved : goal.loop-i-preserved
 loop-i-preserved c =
-    (omega arith, items-next c.args.b.now _ _ 24 _ items_offset (omega arith) c.loop-i.invariant.1 c.read_item.ensures)
+    (items-next c.args.b.now _ _ 24 _ items_offset (omega arith) c.loop-i.invariant c.read_item.ensures)
 
 pub returns : goal.returns
 returns c =
     let e : c.loop-i.i ≡ c.args.height = omega arith in
-    c.loop-i.invariant.1 ∙ ap (λ n. items_from 24 n c.args.b.now items_offset) e
+    c.loop-i.invariant ∙ ap (λ n. items_from 24 n c.args.b.now items_offset) e

@@ -1,5 +1,4 @@
 -- The loop: the marks before `i` are read.
-use Prim.Native.Nat.{◌-◌}
 use native.Mathlib.Omega.{arith}
 use borrow.Author.Rules.{rules}
 use lib.Dec.{eqb}
@@ -8,8 +7,8 @@ use Rattle.layout.proofs.reading.read_marks.Goals as goal
 
 pub loop-i-preserved : goal.loop-i-preserved
 loop-i-preserved c =
-    (omega arith, search rules, map_next (eqb 1) _ _ _ _ 0 (omega arith) (omega arith) c.loop-i.invariant.2)
+    (search rules, map_next (eqb 1) _ _ _ _ 0 (omega arith) (omega arith) c.loop-i.invariant.1)
 
 pub returns : goal.returns
 returns c =
-    map-all (eqb 1) _ c.args.out.now _ c.loop-i.i (omega arith) (omega arith) c.loop-i.invariant.2
+    map-all (eqb 1) _ c.args.out.now _ c.loop-i.i (omega arith) (omega arith) c.loop-i.invariant.1

@@ -1,4 +1,3 @@
-use Prim.Native.Nat.{◌≤◌, ◌-◌}
 use mathlib.Core.Path.{◌≡◌}
 use lib.Dec.{eqb}
 use lib.ListN.{length}
@@ -6,7 +5,4 @@ use Rattle.laws.proofs.Writing.{mapped}
 use Rattle.layout.proofs.reading.read_marks.Given as goal
 
 abbrev pub invariant-loop-i : goal.invariant-loop-i
-invariant-loop-i l = (l.i ≤ length l.marks) × (length l.out ≡ length l.initial.out) × (l.out ≡ mapped (eqb 1) l.marks l.initial.out l.i)
-
-abbrev pub decreases-loop-i : goal.decreases-loop-i
-decreases-loop-i l = length l.marks - l.i
+invariant-loop-i l = (length l.out ≡ length l.initial.out) × (l.out ≡ mapped (eqb 1) l.marks l.initial.out l.i)

@@ -1,5 +1,4 @@
 -- The loop: the numbers before `i` are read.
-use Prim.Native.Nat.{◌-◌}
 use native.Mathlib.Omega.{arith}
 use borrow.Author.Rules.{rules}
 use Rattle.definitions.specs.Exports.{words_from}
@@ -12,7 +11,7 @@ loop-i-init c = search rules
 
 pub loop-i-preserved : goal.loop-i-preserved
 loop-i-preserved c =
-    (omega arith, search rules, words-next _ _ _ _ _ _ (omega arith) c.number_at.ensures c.loop-i.invariant.2)
+    (search rules, words-next _ _ _ _ _ _ (omega arith) c.number_at.ensures c.loop-i.invariant.1)
 
 pub returns : goal.returns
-returns c = words-all _ _ _ _ _ (omega arith) c.loop-i.invariant.2
+returns c = words-all _ _ _ _ _ (omega arith) c.loop-i.invariant.1

@@ -25,6 +25,6 @@ shape_of-out c =
 pub returns : goal.returns
 returns c =
     let first = put-part {old = c.args.out.now} c.write_word.new.out 2 put-none (omega arith) (omega arith) c.write_word.auto.out in
-    let p = put_one 0 (put_one c.mark.result first (omega arith)) (omega arith) in
+    let p = put_one 0 (put_one c.from.result first (omega arith)) (omega arith) in
     put_all (put-part c.write_words.new.out 12 p (omega arith) (omega arith) c.write_words.auto.out) (omega arith)
-    ∙ (two-between c.write_word.new.out c.write_words.new.out c.mark.result 0 ∙ λ k. c.write_word.ensures k ++ (c.mark.ensures k ∷ 0 ∷ c.write_words.ensures k))
+    ∙ (two-between c.write_word.new.out c.write_words.new.out c.from.result 0 ∙ λ k. c.write_word.ensures k ++ (c.from.ensures k ∷ 0 ∷ c.write_words.ensures k))

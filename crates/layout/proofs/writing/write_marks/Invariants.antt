@@ -1,4 +1,3 @@
-use Prim.Native.Nat.{◌≤◌, ◌-◌}
 use mathlib.Core.Path.{◌≡◌}
 use lib.ListN.{length}
 use Rattle.definitions.specs.Exports.{mark_of}
@@ -6,7 +5,4 @@ use Rattle.laws.proofs.Writing.{mapped}
 use Rattle.layout.proofs.writing.write_marks.Given as goal
 
 abbrev pub invariant-loop-i : goal.invariant-loop-i
-invariant-loop-i l = (l.i ≤ length l.marks) × (length l.out ≡ length l.initial.out) × (l.out ≡ mapped mark_of l.marks l.initial.out l.i)
-
-abbrev pub decreases-loop-i : goal.decreases-loop-i
-decreases-loop-i l = length l.marks - l.i
+invariant-loop-i l = (length l.out ≡ length l.initial.out) × (l.out ≡ mapped mark_of l.marks l.initial.out l.i)

@@ -1,4 +1,3 @@
-use Prim.Native.Nat.{◌≤◌, ◌-◌}
 use mathlib.Core.Path.{◌≡◌}
 use lib.ListN.{length}
 use Rattle.definitions.specs.Bytes.{little_bytes}
@@ -7,7 +6,4 @@ use Rattle.layout.proofs.NumberBytes.{after}
 use Rattle.layout.proofs.writing.write_number.Given as goal
 
 abbrev pub invariant-loop-i : goal.invariant-loop-i
-invariant-loop-i l = (l.i ≤ length l.initial.out) × (length l.out ≡ length l.initial.out) × (l.rest ≡ after l.i l.n) × Put l.initial.out l.out (little_bytes l.i l.n) l.i
-
-abbrev pub decreases-loop-i : goal.decreases-loop-i
-decreases-loop-i l = length l.initial.out - l.i
+invariant-loop-i l = (length l.out ≡ length l.initial.out) × (l.rest ≡ after l.i l.n) × Put l.initial.out l.out (little_bytes l.i l.n) l.i

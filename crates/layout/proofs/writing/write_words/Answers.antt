@@ -1,5 +1,5 @@
 -- The loop: the numbers before `i` are written, in the bytes before `at`.
-use Prim.Native.Nat.{◌-◌, ◌+◌}
+use Prim.Native.Nat.{◌+◌}
 use native.Mathlib.Omega.{arith}
 use mathlib.Core.Path.{◌∙◌}
 use borrow.Author.Rules.{rules}
@@ -8,17 +8,17 @@ use Rattle.laws.proofs.Writing.{put-none, put-joined, put-joined-all}
 use Rattle.layout.proofs.JoinedBytes.{words-joined}
 use Rattle.layout.proofs.writing.write_words.Goals as goal
 
-pub loop-i-init : goal.loop-i-init
-loop-i-init c = (omega arith, search rules, search rules, put-none)
+pub loop-number-init : goal.loop-number-init
+loop-number-init c = (search rules, search rules, put-none)
 
-pub loop-i-preserved : goal.loop-i-preserved
-loop-i-preserved c =
-    let end = c.loop-i.«at» + 2 in
+pub loop-number-preserved : goal.loop-number-preserved
+loop-number-preserved c =
+    let end = c.loop-number.«at» + 2 in
     let p =
-    put-joined (little_bytes 2) c.args.numbers.now c.loop-i.i 0 c.write_word.new.out end c.loop-i.invariant.3
+    put-joined (little_bytes 2) c.args.numbers.now c.loop-number.number-index 0 c.write_word.new.out end c.loop-number.invariant.2
     (omega arith) (omega arith) (omega arith) c.write_word.ensures c.write_word.auto.out in
-    (omega arith, omega arith, search rules, p)
+    (omega arith, search rules, p)
 
 pub returns : goal.returns
 returns c =
-    put-joined-all (little_bytes 2) _ c.loop-i.i c.loop-i.invariant.3 (omega arith) (omega arith) ∙ words-joined _
+    put-joined-all (little_bytes 2) _ c.loop-number.number-index c.loop-number.invariant.2 (omega arith) (omega arith) ∙ words-joined _

@@ -9,9 +9,6 @@ use Rattle.matching.specs.Matching.{ahead, RowFrom}
 use Rattle.matching.proofs.PatternRows.{row-start, row_more}
 use Rattle.matching.proofs.pattern.next_row.Goals as goal
 
-pub bounds-row-size : goal.bounds-row-size
-bounds-row-size c = omega (arith, c.requires)
-
 pub loop-k-init : goal.loop-k-init
 loop-k-init c = (
   length-set (replicate (pattern_width + 1) false) c.args.size true,
@@ -19,12 +16,6 @@ loop-k-init c = (
   λ t h. row-start c.args.pattern.now _ (replicate (pattern_width + 1) false)
       c.args.size c.requires.size_value (omega (arith, c.requires)),
 )
-
-pub cell-requires : goal.cell-requires
-cell-requires c = record { pattern_len = c.requires.pattern_len; size_value = c.requires.size_value; k_lt_size = omega (arith, c.requires, c.loop-k.invariant) }
-
-pub bounds-row-k : goal.bounds-row-k
-bounds-row-k c = omega (arith, c.requires, c.loop-k.invariant)
 
 pub loop-k-preserved : goal.loop-k-preserved
 loop-k-preserved c = (

@@ -1,5 +1,5 @@
 use Rattle.definitions.specs.Limits.{pattern_width}
-use Prim.Native.Nat.{◌+◌, ◌-◌, ◌≤◌}
+use Prim.Native.Nat.{◌+◌, ◌≤◌}
 use mathlib.Core.Path.{◌≡◌}
 use lib.ListN.{length}
 use Rattle.definitions.specs.Terms.{Text}
@@ -8,6 +8,3 @@ use Rattle.matching.proofs.pattern.next_row.Given as goal
 
 abbrev pub invariant-loop-k : goal.invariant-loop-k
 invariant-loop-k l = (length l.row ≡ pattern_width + 1) × (l.k ≤ l.size) × ((t : Text) → ((l.b ≡ 0 → ⊥) → RowFrom l.pattern 0 t l.later) → RowFrom l.pattern l.k (ahead l.b t) l.row)
-
-abbrev pub decreases-loop-k : goal.decreases-loop-k
-decreases-loop-k l = l.k

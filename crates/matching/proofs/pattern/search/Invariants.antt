@@ -3,6 +3,3 @@ use Rattle.matching.proofs.pattern.search.Given as goal
 
 abbrev pub invariant-loop-i : goal.invariant-loop-i
 invariant-loop-i l = Swept l.pattern l.start l.field l.i l.row l.found
-
-abbrev pub decreases-loop-i : goal.decreases-loop-i
-decreases-loop-i l = l.i

@@ -5,8 +5,5 @@ use Rattle.matching.proofs.range.accepts.Goals as goal
 pub returns-then-range-eq-STAR : goal.returns-then-range-eq-STAR
 returns-then-range-eq-STAR c = accepts-tagged c.args.range.now _ c.if-range-eq-STAR.true
 
-pub goes_on-requires : goal.goes_on-requires
-goes_on-requires c = record { range_len = c.requires.range_len; tag_len = c.requires.tag_len }
-
 pub returns : goal.returns
 returns c = accepts-beginning c.args.range.now c.if-range-eq-STAR.false _ c.goes_on.result c.goes_on.ensures

@@ -1,17 +1,18 @@
 -- `matching::range::goes_on` meets its contract, by the laws of RangeLaws.
-use Prim.Native.Nat.{◌-◌}
 use native.Mathlib.Omega.{arith}
-use Rattle.matching.proofs.RangeLaws.{along-start, along-out, along-end, along-other, along-more}
-use Prim.Native.Nat.{◌-◌}
-use native.Mathlib.Omega.{arith}
+use mathlib.Core.Path.{◌∙◌}
+use borrow.Author.Tests.{eq-eqb, ne_eqb}
 use Rattle.matching.proofs.RangeLaws.{along-start, along-out, along-end, along-other, along-more}
 use Rattle.matching.proofs.range.goes_on.Goals as goal
 
 pub loop-i-init : goal.loop-i-init
 loop-i-init c = (along-start _ _, omega arith)
 
-pub returns-then-ends : goal.returns-then-ends
-returns-then-ends c = λ h. along-end _ _ _ (c.loop-i.invariant.0 h) (omega arith) (omega arith) _ c.ends.ensures c.if-ends.true
+pub returns-then-b-eq0 : goal.returns-then-b-eq0
+returns-then-b-eq0 c = λ h. eq-eqb _ 0 c.if-b-eq0.true ∙ rw (eq-eqb _ 0 c.if-b-eq0.true) at (along-end _ _ _ (c.loop-i.invariant.0 h) (omega arith) (omega arith) _ c.ends.ensures c.if-ends.true)
+
+pub returns-else-b-eq0 : goal.returns-else-b-eq0
+returns-else-b-eq0 c = λ h. rw (ne_eqb _ 0 c.if-b-eq0.false) at (along-end _ _ _ (c.loop-i.invariant.0 h) (omega arith) (omega arith) _ c.ends.ensures c.if-ends.true)
 
 pub returns-then-range-i : goal.returns-then-range-i
 returns-then-range-i c =

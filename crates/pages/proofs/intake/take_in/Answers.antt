@@ -1,13 +1,16 @@
 -- `pages::intake::take_in` meets its contract.
 use Prim.Native.Nat.{ℕ}
 use native.Mathlib.Omega.{arith}
-use mathlib.Core.Path.{sym, ◌∙◌}
+use mathlib.Core.Path.{sym, ap, ◌∙◌}
+use Rattle.definitions.specs.Saved.{quad_table}
+use Rattle.keys.proofs.Quads.{rows-front}
 use lib.ListN.{length-replicate}
 use Rattle.definitions.specs.Limits.{term_table_width, quad_table_width}
 use Rattle.pages.specs.Room.{record_limit, gathered_limit}
 use Rattle.records.proofs.NumberingLaws.{held-width}
 use Rattle.pages.proofs.TakeLaws.{quads-width}
-use Rattle.pages.proofs.DoneLaws.{empty-table, took_of, graphs-over, no_room, has_room, not_done, terms-passed, quads-passed, done}
+use Rattle.std.proofs.lemmas.Grind.{common_steps}
+use Rattle.pages.proofs.DoneLaws.{gathered-front, empty-table, took_of, graphs-over, no_room, has_room, not_done, terms-passed, quads-passed, done}
 use Rattle.pages.proofs.intake.take_in.Goals as goal
 
 pub returns-then-not-graph_fits : goal.returns-then-not-graph_fits
@@ -24,16 +27,20 @@ returns-then-end-gt-TERM_LIMIT c =
     c.args.stored.now _ _ _ (took_of S c.args.graph rs σ c.args.lent.now c.args.stored.now c.args.n c.args.store h _ _ _ (λ ts o. c.take_copies-end.ensures.took S rs ts o e r)) c.if-end-gt-TERM_LIMIT.true)
 
 pub put_in_order-count-requires : goal.put_in_order-count-requires
-put_in_order-count-requires c = record { held_some = (c.requires.held_tables.0.quads, c.requires.held_tables.1.quads); m_le_record_limit = (c.take_copies-end.ensures.keys_le_record_limit, omega (arith, c.take_copies-end.auto.keys, length-replicate {A = ℕ} record_limit 0), length-replicate {A = ℕ} gathered_limit 0) }
+put_in_order-count-requires c = record {
+  held_some = (c.requires.held_tables.0.quads, c.requires.held_tables.1.quads);
+  fresh_len_bound = grind (arith, common_steps, c.take_copies-end.ensures.keys_le_record_limit);
+  keys_len = length-replicate {A = ℕ} gathered_limit 0;
+}
 
 pub returns-then-too_many : goal.returns-then-too_many
 returns-then-too_many c =
     λ S rs σ e r h. not_done S c.args.graph rs σ c.args.store c.args.lent.now c.args.stored.now _ c.refused-then-too_many.ensures (quads-passed S c.args.graph rs σ c.args.store c.args.lent.now
     c.args.stored.now _ _ _ (took_of S c.args.graph rs σ c.args.lent.now c.args.stored.now c.args.n c.args.store h _ _ _ (λ ts o. c.take_copies-end.ensures.took S rs ts o e r)) c.if-end-gt-TERM_LIMIT.false _ _
-    (λ after k. c.put_in_order-count.ensures.value σ.quads after h.quads k) c.if-too_many.true)
+    (λ after k. c.put_in_order-count.ensures.value σ.quads after h.quads (gathered-front _ _ _ _ (omega (arith, c.take_copies-end.ensures.keys_le_record_limit, c.take_copies-end.auto.keys, length-replicate {A = ℕ} record_limit 0)) k)) c.if-too_many.true)
 
 pub write_keys-requires : goal.write_keys-requires
-write_keys-requires c = record { count_in_bounds = omega (arith, c.put_in_order-count.ensures.upper_bound, c.put_in_order-count.auto.keys, length-replicate {A = ℕ} gathered_limit 0); count_le_quad_limit = c.if-too_many.false; table_value = empty-table }
+write_keys-requires c = record { keys_len_bound = grind (arith, common_steps); table_value = empty-table }
 
 pub copy_from_slice-requires : goal.copy_from_slice-requires
 copy_from_slice-requires c =
@@ -49,6 +56,6 @@ with_page-after-requires c = record { graphs_le_graph_limit = c.requires.held_ta
 pub returns : goal.returns
 returns c =
     λ S rs σ e r h. done S c.args.graph rs σ c.args.store c.args.lent.now c.args.stored.now _ _ c.take_copies-end.result (took_of S c.args.graph rs σ c.args.lent.now c.args.stored.now c.args.n
-    c.args.store h _ _ _ (λ ts o. c.take_copies-end.ensures.took S rs ts o e r)) c.if-end-gt-TERM_LIMIT.false _ _ (λ after k. c.put_in_order-count.ensures.value σ.quads after h.quads k)
+    c.args.store h _ _ _ (λ ts o. c.take_copies-end.ensures.took S rs ts o e r)) c.if-end-gt-TERM_LIMIT.false _ _ (λ after k. c.put_in_order-count.ensures.value σ.quads after h.quads (gathered-front _ _ _ _ (omega (arith, c.take_copies-end.ensures.keys_le_record_limit, c.take_copies-end.auto.keys, length-replicate {A = ℕ} record_limit 0)) k))
     (held-width _ _ _ h.terms) (quads-width _ _ _ h.quads) c.if-too_many.false (has_room c.args.lent.now c.args.stored.now c.args.n c.args.store σ h c.args.graph
-    (sym c.graph_fits.ensures ∙ c.if-not-graph_fits.false)) _ _ _ c.write_keys.ensures c.copy_from_slice.ensures.after c.copy_from_slice-2.ensures.after _ c.with_page-after.ensures
+    (sym c.graph_fits.ensures ∙ c.if-not-graph_fits.false)) _ _ _ (c.write_keys.ensures ∙ ap quad_table (rows-front _ _ (grind (arith, common_steps)))) c.copy_from_slice.ensures.after c.copy_from_slice-2.ensures.after _ c.with_page-after.ensures

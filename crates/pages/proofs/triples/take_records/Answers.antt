@@ -1,5 +1,4 @@
 -- `pages::triples::take_records` meets its contract.
-use Prim.Native.Nat.{◌-◌}
 use native.Mathlib.Omega.{arith}
 use Rattle.records.proofs.NumberingLaws.{held-width}
 use Rattle.pages.proofs.TakeLaws.{record-long, going-first, left_one, left-reads, here-at, end-next, left-none, left-next, left-terms}

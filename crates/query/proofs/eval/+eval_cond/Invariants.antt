@@ -1,4 +1,3 @@
-use Prim.Native.Nat.{◌-◌}
 use Rattle.query.proofs.eval.+eval_cond.Given as goal
 
 abbrev pub decreases-eval_cond : goal.decreases-eval_cond

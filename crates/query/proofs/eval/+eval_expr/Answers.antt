@@ -1,137 +1,98 @@
 -- `query::eval::eval_expr` meets its contract: one law for each kind; the levels left fall. Assumes nothing.
 use native.Mathlib.Omega.{arith}
-use Rattle.definitions.specs.Tree.{Expr}
-use mathlib.Core.Path.{refl, sym, ap, ap₂, ◌∙◌}
-use mathlib.Core.Bool.{◌&&◌}
-use lib.Dec.{ltb}
-use borrow.Author.Tests.{not-true, not-false}
-use Rattle.query.specs.Known.{expr_known}
-use Rattle.query.proofs.CodeLaws.{code-bound}
+use mathlib.Core.Logic.{⊎_elim}
+use Rattle.definitions.specs.Bytes.{byte}
 use Rattle.laws.proofs.Walked.{leaf_walked}
-use Rattle.laws.proofs.Productions.{ExprAt, expr-at}
-use Rattle.query.proofs.EvalLaws.{good-value, holds-gives, name-value, open-value, now-value, str-value, abs-value, plus-value, minus-value}
+use Rattle.laws.proofs.Productions.{expr-at}
+use Rattle.laws.proofs.Ranges.{either, split}
+use Rattle.query.proofs.Operators.{minus-at, first-operand, second-operand}
+use Rattle.query.proofs.EvalLaws.{holds-gives, some-value, no-value, as-none, good-value, name-of, name-none, now-of, str-none, abs-none, str-of, abs-of, plus-of, minus-of}
+use Rattle.query.proofs.EvalLaws.{plus-first, plus-second, minus-first, minus-second}
 use Rattle.query.proofs.eval.+eval_expr.Goals as goal
 
-pub name_at-n-requires : goal.name_at-n-requires
-name_at-n-requires t c =
-    let here : ExprAt t c.args.script.now c.args.context.loaded c.args.left c.args.at = expr-at t c.args.script.now c.args.context.loaded c.args.left c.args.at (omega arith) c.requires.loads in record { loads = (here.name c.if-kind-lt65.true).child; known_len = c.requires.lent.variables }
+pub bounds-script-at : goal.bounds-script-at
+bounds-script-at t c = (expr-at t _ _ _ _ c.decreases c.requires.loads).inside
 
-pub term_value-value-requires : goal.term_value-value-requires
-term_value-value-requires t c = record { tabled = (c.requires.lent.terms, c.requires.lent.tabled); told = c.requires.lent.told }
+pub overflow_add-first : goal.overflow_add-first
+overflow_add-first t c = omega (arith, (expr-at t _ _ _ _ c.decreases c.requires.loads).inside)
+
+pub overflow_sub-below : goal.overflow_sub-below
+overflow_sub-below t c = (expr-at t _ _ _ _ c.decreases c.requires.loads).pos
+
+pub name_at-n-requires : goal.name_at-n-requires
+name_at-n-requires t c = record { loads = ((expr-at t _ _ _ _ c.decreases c.requires.loads).name c.if-kind-lt65.true).child; known_len = c.requires.lent.variables }
+
+pub returns-then-n-ge-SOUGHT : goal.returns-then-n-ge-SOUGHT
+returns-then-n-ge-SOUGHT t c =
+    ((expr-at t _ _ _ _ c.decreases c.requires.loads).name c.if-kind-lt65.true).node c.name_at-n.ensures (λ m h. name-none _ m _ c.if-n-ge-SOUGHT.true h)
 
 pub returns-then-kind-lt65 : goal.returns-then-kind-lt65
-unfolding expr_known
 returns-then-kind-lt65 t c =
-    let here : ExprAt t c.args.script.now c.args.context.loaded c.args.left c.args.at = expr-at t c.args.script.now c.args.context.loaded c.args.left c.args.at (omega arith) c.requires.loads in
-    let n = here.name c.if-kind-lt65.true in record { walked = n.node c.name_at-n.ensures (λ m h. name-value _ _ _ m _ _ h c.term_value-value.ensures); walked_2 = n.node c.name_at-n.ensures (λ m h. ap (λ x. ltb x 65536) h.0 ∙ code-bound _ m h.1) }
+    ((expr-at t _ _ _ _ c.decreases c.requires.loads).name c.if-kind-lt65.true).node c.name_at-n.ensures
+    (λ m h. name-of _ _ _ m _ c.if-n-ge-SOUGHT.false h c.term_value-value.ensures)
 
-pub clock_value-value-requires : goal.clock_value-value-requires
-clock_value-value-requires t c = c.requires.lent.told.clocked
+pub returns-then-kind-eq65 : goal.returns-then-kind-eq65
+returns-then-kind-eq65 t c = leaf_walked ((expr-at t _ _ _ _ c.decreases c.requires.loads).now c.if-kind-eq65.true) (now-of _ _ _ c.clock_value-value.ensures)
 
 pub eval_expr-a-requires : goal.eval_expr-a-requires
-eval_expr-a-requires t c =
-    let here : ExprAt t c.args.script.now c.args.context.loaded c.args.left c.args.at = expr-at t c.args.script.now c.args.context.loaded c.args.left c.args.at (omega arith) c.requires.loads in let n = here.str c.in-66.is in (n.falls, (n.child, c.requires.lent))
-
-pub returns-then-not-a : goal.returns-then-not-a
-unfolding expr_known
-returns-then-not-a t c =
-    let here : ExprAt t c.args.script.now c.args.context.loaded c.args.left c.args.at = expr-at t c.args.script.now c.args.context.loaded c.args.left c.args.at (omega arith) c.requires.loads in
-    let n = here.str c.in-66.is in record { walked = n.node c.eval_expr-a.ensures.walked_2 (λ e h. open-value _ _ _ (Expr.str e) (sym h ∙ (not-true _ c.if-not-a.true)) (good-value _ _ _ c.requires.lent c.eval_expr-a.ensures.walked)); walked_2 = n.node c.eval_expr-a.ensures.walked_2 (λ e h. h) }
+eval_expr-a-requires t c = let n = first-operand (expr-at t _ _ _ _ c.decreases c.requires.loads) (omega arith) in (n.0, (n.1, c.requires.lent))
 
 pub text_of-value-requires : goal.text_of-value-requires
-text_of-value-requires t c = good-value _ _ _ c.requires.lent c.eval_expr-a.ensures.walked
-
-pub eval_expr-a-requires-in-67 : goal.eval_expr-a-requires-in-67
-eval_expr-a-requires-in-67 t c =
-    let here : ExprAt t c.args.script.now c.args.context.loaded c.args.left c.args.at = expr-at t c.args.script.now c.args.context.loaded c.args.left c.args.at (omega arith) c.requires.loads in let n = here.abs c.in-67.is in (n.falls, (n.child, c.requires.lent))
-
-pub returns-then-not-a-2 : goal.returns-then-not-a-2
-unfolding expr_known
-returns-then-not-a-2 t c =
-    let here : ExprAt t c.args.script.now c.args.context.loaded c.args.left c.args.at = expr-at t c.args.script.now c.args.context.loaded c.args.left c.args.at (omega arith) c.requires.loads in
-    let n = here.abs c.in-67.is in record { walked = n.node c.eval_expr-a-in-67.ensures.walked_2 (λ e h. open-value _ _ _ (Expr.abs e) (sym h ∙ (not-true _ c.if-not-a-2.true)) (good-value _ _ _ c.requires.lent c.eval_expr-a-in-67.ensures.walked)); walked_2 = n.node c.eval_expr-a-in-67.ensures.walked_2 (λ e h. h) }
+text_of-value-requires t c = good-value _ _ _ c.requires.lent c.in-Some.is c.eval_expr-a.ensures
 
 pub abs-value-requires : goal.abs-value-requires
-abs-value-requires t c = good-value _ _ _ c.requires.lent c.eval_expr-a-in-67.ensures.walked
+abs-value-requires t c = good-value _ _ _ c.requires.lent c.in-Some.is c.eval_expr-a.ensures
 
-pub eval_expr-a-requires-in-68 : goal.eval_expr-a-requires-in-68
-eval_expr-a-requires-in-68 t c =
-    let here : ExprAt t c.args.script.now c.args.context.loaded c.args.left c.args.at = expr-at t c.args.script.now c.args.context.loaded c.args.left c.args.at (omega arith) c.requires.loads in let n = here.plus c.in-68.is in (n.falls, (n.first, c.requires.lent))
+pub returns-in_default : goal.returns-in_default
+returns-in_default t c =
+    let here = expr-at t _ _ _ _ c.decreases c.requires.loads in
+    let a = no-value _ _ _ c.in_default.is c.eval_expr-a.ensures in
+    as-none _ _ _ c.in_default.is
+    (⊎_elim (λ k. (here.str k).node a (λ e h. str-none _ e h)) (λ k. (here.abs k).node a (λ e h. abs-none _ e h)) (either 0x42 (omega arith) (omega arith)))
+
+pub returns-then-kind-eq66 : goal.returns-then-kind-eq66
+returns-then-kind-eq66 t c =
+    ((expr-at t _ _ _ _ c.decreases c.requires.loads).str c.if-kind-eq66.true).node (some-value _ _ _ c.in-Some.is c.eval_expr-a.ensures)
+    (λ e h. str-of _ _ _ e h (holds-gives c.text_of-value.ensures))
+
+pub returns-else-kind-eq66 : goal.returns-else-kind-eq66
+returns-else-kind-eq66 t c =
+    ((expr-at t _ _ _ _ c.decreases c.requires.loads).abs (omega arith)).node (some-value _ _ _ c.in-Some.is c.eval_expr-a.ensures) (λ e h. abs-of _ _ _ e h c.abs-value.ensures)
 
 pub eval_expr-b-requires : goal.eval_expr-b-requires
 eval_expr-b-requires t c =
-    let here : ExprAt t c.args.script.now c.args.context.loaded c.args.left c.args.at = expr-at t c.args.script.now c.args.context.loaded c.args.left c.args.at (omega arith) c.requires.loads in
-    let n = here.plus c.in-68.is in
-    (n.falls, (n.second c.eval_expr-a-in-68.ensures.walked, c.requires.lent))
+    let n = second-operand (expr-at t _ _ _ _ c.decreases c.requires.loads) c.if-kind-lt68.false c.eval_expr-a.ensures in (n.0, (n.1, c.requires.lent))
 
-pub returns-then-not-a-b : goal.returns-then-not-a-b
-unfolding expr_known
-returns-then-not-a-b t c =
-    let here : ExprAt t c.args.script.now c.args.context.loaded c.args.left c.args.at = expr-at t c.args.script.now c.args.context.loaded c.args.left c.args.at (omega arith) c.requires.loads in
-    let n = here.plus c.in-68.is in
-    let some-open = c.if-not-a-b.true in record { walked = n.node c.eval_expr-a-in-68.ensures.walked_2 c.eval_expr-b.ensures.walked_2 (λ e f h k. open-value _ _ _ (Expr.plus e f) (sym (ap₂ ◌&&◌ h k) ∙ some-open) (good-value _ _ _ c.requires.lent c.eval_expr-a-in-68.ensures.walked)); walked_2 = n.node c.eval_expr-a-in-68.ensures.walked_2 c.eval_expr-b.ensures.walked_2 (λ e f h k. sym some-open ∙ ap₂ ◌&&◌ h k) }
+pub returns-in_default-2 : goal.returns-in_default-2
+returns-in_default-2 t c =
+    let here = expr-at t _ _ _ _ c.decreases c.requires.loads in
+    let b = no-value _ _ _ c.in_default-2.is-1 c.eval_expr-b.ensures in
+    ⊎_elim
+    (λ k. (minus-at here c.if-kind-lt68.false (λ e. omega arith)).node c.eval_expr-a.ensures b (λ e f h g. minus-second _ e f g))
+    (λ k. (here.plus (omega arith)).node c.eval_expr-a.ensures b (λ e f h g. plus-second _ e f g))
+    (split 0x45 (byte c.args.script.now c.args.at))
+
+pub returns-in_default-2-2 : goal.returns-in_default-2-2
+returns-in_default-2-2 t c =
+    let here = expr-at t _ _ _ _ c.decreases c.requires.loads in
+    let a = no-value _ _ _ c.in_default-2.is-0 c.eval_expr-a.ensures in
+    ⊎_elim
+    (λ k. (minus-at here c.if-kind-lt68.false (λ e. omega arith)).node a c.eval_expr-b.ensures (λ e f h g. minus-first _ e f h))
+    (λ k. (here.plus (omega arith)).node a c.eval_expr-b.ensures (λ e f h g. plus-first _ e f h))
+    (split 0x45 (byte c.args.script.now c.args.at))
 
 pub plus-value-requires : goal.plus-value-requires
-plus-value-requires t c = record { good = good-value _ _ _ c.requires.lent c.eval_expr-a-in-68.ensures.walked; good_2 = good-value _ _ _ c.requires.lent c.eval_expr-b.ensures.walked }
-
-pub eval_expr-a-requires-in_default : goal.eval_expr-a-requires-in_default
-eval_expr-a-requires-in_default t c =
-    let here : ExprAt t c.args.script.now c.args.context.loaded c.args.left c.args.at = expr-at t c.args.script.now c.args.context.loaded c.args.left c.args.at (omega arith) c.requires.loads in let n = here.minus_last c.if-kind-lt65.false c.in_default.in_default-own.rest in (n.falls, (n.first, c.requires.lent))
-
-pub eval_expr-b-requires-in_default : goal.eval_expr-b-requires-in_default
-eval_expr-b-requires-in_default t c =
-    let here : ExprAt t c.args.script.now c.args.context.loaded c.args.left c.args.at = expr-at t c.args.script.now c.args.context.loaded c.args.left c.args.at (omega arith) c.requires.loads in
-    let n = here.minus_last c.if-kind-lt65.false c.in_default.in_default-own.rest in
-    (n.falls, (n.second c.eval_expr-a-in_default.ensures.walked, c.requires.lent))
-
-pub returns-then-not-a-b-2 : goal.returns-then-not-a-b-2
-unfolding expr_known
-returns-then-not-a-b-2 t c =
-    let here : ExprAt t c.args.script.now c.args.context.loaded c.args.left c.args.at = expr-at t c.args.script.now c.args.context.loaded c.args.left c.args.at (omega arith) c.requires.loads in
-    let n = here.minus_last c.if-kind-lt65.false c.in_default.in_default-own.rest in
-    let some-open = c.if-not-a-b-2.true in record { walked = n.node c.eval_expr-a-in_default.ensures.walked_2 c.eval_expr-b-in_default.ensures.walked_2 (λ e f h k. open-value _ _ _ (Expr.minus e f) (sym (ap₂ ◌&&◌ h k) ∙ some-open) (good-value _ _ _ c.requires.lent c.eval_expr-a-in_default.ensures.walked)); walked_2 = n.node c.eval_expr-a-in_default.ensures.walked_2 c.eval_expr-b-in_default.ensures.walked_2 (λ e f h k. sym some-open ∙ ap₂ ◌&&◌ h k) }
+plus-value-requires t c = record { good = good-value _ _ _ c.requires.lent c.in-Some-Some.is-0 c.eval_expr-a.ensures; good_2 = good-value _ _ _ c.requires.lent c.in-Some-Some.is-1 c.eval_expr-b.ensures }
 
 pub minus-value-requires : goal.minus-value-requires
-minus-value-requires t c = record { good = good-value _ _ _ c.requires.lent c.eval_expr-a-in_default.ensures.walked; good_2 = good-value _ _ _ c.requires.lent c.eval_expr-b-in_default.ensures.walked }
+minus-value-requires t c = record { good = good-value _ _ _ c.requires.lent c.in-Some-Some.is-0 c.eval_expr-a.ensures; good_2 = good-value _ _ _ c.requires.lent c.in-Some-Some.is-1 c.eval_expr-b.ensures }
 
-pub returns-in-65 : goal.returns-in-65
-unfolding expr_known
-returns-in-65 t c =
-    let here : ExprAt t c.args.script.now c.args.context.loaded c.args.left c.args.at = expr-at t c.args.script.now c.args.context.loaded c.args.left c.args.at (omega arith) c.requires.loads in
-    let n = here.now c.in-65.is in record { walked = leaf_walked n (now-value _ _ _ c.clock_value-value.ensures); walked_2 = leaf_walked n refl }
+pub returns-then-kind-eq68 : goal.returns-then-kind-eq68
+returns-then-kind-eq68 t c =
+    ((expr-at t _ _ _ _ c.decreases c.requires.loads).plus c.if-kind-eq68.true).node (some-value _ _ _ c.in-Some-Some.is-0 c.eval_expr-a.ensures)
+    (some-value _ _ _ c.in-Some-Some.is-1 c.eval_expr-b.ensures) (λ e f h k. plus-of _ _ _ e h f k c.plus-value.ensures)
 
-pub returns-else-not-a : goal.returns-else-not-a
-unfolding expr_known
-returns-else-not-a t c =
-    let here : ExprAt t c.args.script.now c.args.context.loaded c.args.left c.args.at = expr-at t c.args.script.now c.args.context.loaded c.args.left c.args.at (omega arith) c.requires.loads in
-    let n = here.str c.in-66.is in record { walked = n.node c.eval_expr-a.ensures.walked (λ e h. str-value _ _ _ e h (holds-gives c.text_of-value.ensures)); walked_2 = n.node c.eval_expr-a.ensures.walked_2 (λ e h. sym (not-false _ c.if-not-a.false) ∙ h) }
-
-pub returns-else-not-a-2 : goal.returns-else-not-a-2
-unfolding expr_known
-returns-else-not-a-2 t c =
-    let here : ExprAt t c.args.script.now c.args.context.loaded c.args.left c.args.at = expr-at t c.args.script.now c.args.context.loaded c.args.left c.args.at (omega arith) c.requires.loads in
-    let n = here.abs c.in-67.is in record { walked = n.node c.eval_expr-a-in-67.ensures.walked (λ e h. abs-value _ _ _ e h c.abs-value.ensures); walked_2 = n.node c.eval_expr-a-in-67.ensures.walked_2 (λ e h. sym (not-false _ c.if-not-a-2.false) ∙ h) }
-
-pub returns-else-not-a-b : goal.returns-else-not-a-b
-unfolding expr_known
-returns-else-not-a-b t c =
-    let here : ExprAt t c.args.script.now c.args.context.loaded c.args.left c.args.at = expr-at t c.args.script.now c.args.context.loaded c.args.left c.args.at (omega arith) c.requires.loads in
-    let n = here.plus c.in-68.is in record { walked = n.node c.eval_expr-a-in-68.ensures.walked c.eval_expr-b.ensures.walked (λ e f h k. plus-value _ _ _ e h f k c.plus-value.ensures); walked_2 = n.node c.eval_expr-a-in-68.ensures.walked_2 c.eval_expr-b.ensures.walked_2 (λ e f h k. sym c.if-not-a-b.false ∙ ap₂ ◌&&◌ h k) }
-
-pub returns-else-not-a-b-2 : goal.returns-else-not-a-b-2
-unfolding expr_known
-returns-else-not-a-b-2 t c =
-    let here : ExprAt t c.args.script.now c.args.context.loaded c.args.left c.args.at = expr-at t c.args.script.now c.args.context.loaded c.args.left c.args.at (omega arith) c.requires.loads in
-    let n = here.minus_last c.if-kind-lt65.false c.in_default.in_default-own.rest in record { walked = n.node c.eval_expr-a-in_default.ensures.walked c.eval_expr-b-in_default.ensures.walked (λ e f h k. minus-value _ _ _ e h f k c.minus-value.ensures); walked_2 = n.node c.eval_expr-a-in_default.ensures.walked_2 c.eval_expr-b-in_default.ensures.walked_2 (λ e f h k. sym c.if-not-a-b-2.false ∙ ap₂ ◌&&◌ h k) }
-
-pub bounds-script-at : goal.bounds-script-at
-bounds-script-at t c =
-    let here : ExprAt t c.args.script.now c.args.context.loaded c.args.left c.args.at = expr-at t c.args.script.now c.args.context.loaded c.args.left c.args.at (omega arith) c.requires.loads in here.inside
-
-pub overflow_add-first : goal.overflow_add-first
-overflow_add-first t c =
-    let here : ExprAt t c.args.script.now c.args.context.loaded c.args.left c.args.at = expr-at t c.args.script.now c.args.context.loaded c.args.left c.args.at (omega arith) c.requires.loads in omega (arith, here.inside)
-
-pub overflow_sub-below : goal.overflow_sub-below
-overflow_sub-below t c =
-    let here : ExprAt t c.args.script.now c.args.context.loaded c.args.left c.args.at = expr-at t c.args.script.now c.args.context.loaded c.args.left c.args.at (omega arith) c.requires.loads in here.pos
+pub returns-else-kind-eq68 : goal.returns-else-kind-eq68
+returns-else-kind-eq68 t c =
+    (minus-at (expr-at t _ _ _ _ c.decreases c.requires.loads) c.if-kind-lt68.false c.if-kind-eq68.false).node (some-value _ _ _ c.in-Some-Some.is-0 c.eval_expr-a.ensures)
+    (some-value _ _ _ c.in-Some-Some.is-1 c.eval_expr-b.ensures) (λ e f h k. minus-of _ _ _ e h f k c.minus-value.ensures)

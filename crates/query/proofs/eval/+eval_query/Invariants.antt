@@ -1,4 +1,3 @@
-use Prim.Native.Nat.{◌-◌}
 use Rattle.query.proofs.eval.+eval_query.Given as goal
 
 abbrev pub decreases-eval_query : goal.decreases-eval_query

@@ -13,13 +13,13 @@ pub returns-then-is_open : goal.returns-then-is_open
 returns-then-is_open c = λ e. first-waits _ (read_expr _ _ _) _ (c.is_open.ensures c.if-is_open.true)
 
 pub after-second-requires : goal.after-second-requires
-after-second-requires c = c.requires.ends_lent.room
+after-second-requires c = c.args.view.now.ends_lent.room
 
 pub is_open-requires-2 : goal.is_open-requires-2
 is_open-requires-2 c =
     let (e, m, r) = c.requires.pair_loads.0 in
-    let ends = c.after-second.ensures ∙ expr-ends _ _ c.requires.ends_lent.ended _ _ _ e m r in record { loads = subst⁻¹ (λ k. Loads (read_expr c.args.script.now c.args.loaded c.args.left k)) ends (c.requires.pair_loads.1 e m r); known_len = c.requires.known_len }
+    let ends = c.after-second.ensures ∙ expr-ends _ _ c.args.view.now.ends_lent.ended _ _ _ e m r in record { loads = subst⁻¹ (λ k. Loads (read_expr c.args.view.now.script.now c.args.view.now.context.loaded c.args.left k)) ends (c.requires.pair_loads.1 e m r); known_len = c.requires.known_len }
 
 pub returns : goal.returns
 returns c =
-    λ h. second-waits _ (read_expr _ _ _) _ (λ e m r. c.after-second.ensures ∙ expr-ends _ _ c.requires.ends_lent.ended _ _ _ e m r) (c.is_open-2.ensures h)
+    λ h. second-waits _ (read_expr _ _ _) _ (λ e m r. c.after-second.ensures ∙ expr-ends _ _ c.args.view.now.ends_lent.ended _ _ _ e m r) (c.is_open-2.ensures h)

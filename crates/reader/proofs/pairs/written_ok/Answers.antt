@@ -9,9 +9,9 @@ pub returns-in-0-to-5 : goal.returns-in-0-to-5
 unfolding written_of onward
 returns-in-0-to-5 c = written-yes 0 6 c.args.code tt (omega arith) (omega arith)
 
-pub returns-in-9-to-13 : goal.returns-in-9-to-13
+pub returns-in-0-to-5-2 : goal.returns-in-0-to-5-2
 unfolding written_of onward
-returns-in-9-to-13 c = written-yes 9 5 c.args.code tt (omega arith) (omega arith)
+returns-in-0-to-5-2 c = written-yes 9 5 c.args.code tt (omega arith) (omega arith)
 
 pub returns-in_default : goal.returns-in_default
 unfolding written_of onward

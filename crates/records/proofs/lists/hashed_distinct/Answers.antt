@@ -8,33 +8,30 @@ use Rattle.fields.specs.Answers.{distinct_in}
 use Rattle.records.proofs.ListLaws.{distinct-end}
 use Rattle.records.proofs.EntryLaws.{schema-whole, entry-good, after-good, next-good, distinct-found, distinct-next, distinct-hashes}
 use Rattle.records.proofs.lists.hashed_distinct.Goals as goal
+use Rattle.records.proofs.lists.hashed_distinct.Goals.{else-is_in-via-then-is_in+else-again, else-is_in-via-else-is_in}
 
 pub loop-i-init : goal.loop-i-init
 loop-i-init c = let e = schema-at c.args.s.now in (ap is_some (sym e) ∙ c.requires.s_value, ap (distinct_in same_property) e)
 
-pub property_again-requires : goal.property_again-requires
-property_again-requires c = record { at_value = entry-good c.args.s.now c.loop-i.i c.loop-i.invariant.0 c.loop-i-test.true; from_value = after-good c.args.s.now c.loop-i.i c.loop-i.invariant.0 c.loop-i-test.true }
+pub again-requires : goal.again-requires
+again-requires c = record { at_value = entry-good c.args.s.now c.loop-i.i c.loop-i.invariant.0 c.loop-i-test.true; from_value = after-good c.args.s.now c.loop-i.i c.loop-i.invariant.0 c.loop-i-test.true }
 
-pub returns-then-property_again : goal.returns-then-property_again
-returns-then-property_again c =
+pub returns-then-again : goal.returns-then-again
+returns-then-again c =
     sym (c.loop-i.invariant.1
-    ∙ distinct-found c.args.s.now c.args.hashes.now c.requires.s_value c.requires.hashed_entries c.loop-i.i c.loop-i.invariant.0 c.loop-i-test.true c.property_again.ensures
-    c.if-property_again.true)
-
-pub loop-i-preserved-else-property_again : goal.loop-i-preserved-else-property_again
-loop-i-preserved-else-property_again c = (
-  next-good c.args.s.now c.loop-i.i c.loop-i.invariant.0 c.loop-i-test.true,
-  c.loop-i.invariant.1
-      ∙ distinct-next c.args.s.now c.args.hashes.now c.requires.s_value c.requires.hashed_entries c.loop-i.i c.loop-i.invariant.0 c.loop-i-test.true c.property_again.ensures
-      c.if-property_again.false,
-)
+    ∙ distinct-found c.args.s.now c.args.hashes.now c.requires.s_value c.requires.hashed_entries c.loop-i.i c.loop-i.invariant.0 c.loop-i-test.true c.again.ensures
+    c.if-again.true)
 
 pub loop-i-preserved : goal.loop-i-preserved
 loop-i-preserved c = (
   next-good c.args.s.now c.loop-i.i c.loop-i.invariant.0 c.loop-i-test.true,
   c.loop-i.invariant.1
-      ∙ distinct-hashes c.args.s.now c.args.hashes.now c.requires.s_value c.requires.hashed_entries c.loop-i.i c.loop-i.invariant.0 c.loop-i-test.true c.is_in.ensures
-      c.if-is_in.false,
+      ∙ elim c.else-is_in.branch [
+        | else-is_in-via-then-is_in+else-again w ↦ distinct-next c.args.s.now c.args.hashes.now c.requires.s_value c.requires.hashed_entries c.loop-i.i c.loop-i.invariant.0 c.loop-i-test.true w.again.ensures
+            w.if-again.false
+        | else-is_in-via-else-is_in w ↦ distinct-hashes c.args.s.now c.args.hashes.now c.requires.s_value c.requires.hashed_entries c.loop-i.i c.loop-i.invariant.0 c.loop-i-test.true c.is_in.ensures
+            w.if-is_in.false
+      ],
 )
 
 pub returns : goal.returns

@@ -1,4 +1,4 @@
-use Prim.Native.Nat.{◌-◌, ◌*◌}
+use Prim.Native.Nat.{◌*◌}
 use mathlib.Core.Bool.{true}
 use mathlib.Core.Path.{◌≡◌}
 use Rattle.definitions.specs.Terms.{same_property, read_entry, read_schema}
@@ -10,6 +10,3 @@ use Rattle.records.proofs.lists.hashed_distinct.Given as goal
 
 abbrev pub invariant-loop-i : goal.invariant-loop-i
 invariant-loop-i l = (is_some (records_at read_entry l.s (l.i * entry_width)) ≡ true) × (distinct_in same_property (read_schema l.s) ≡ distinct_in same_property (records_at read_entry l.s (l.i * entry_width)))
-
-abbrev pub decreases-loop-i : goal.decreases-loop-i
-decreases-loop-i l = l.entries - l.i

@@ -1,4 +1,3 @@
-use Prim.Native.Nat.{◌-◌}
 use mathlib.Core.Path.{◌≡◌}
 use lib.ListN.{length}
 use Rattle.records.proofs.EntryLaws.{HashedTo}
@@ -7,6 +6,3 @@ use Rattle.records.proofs.schema.hash_entries.Given as goal
 
 abbrev pub invariant-loop-i : goal.invariant-loop-i
 invariant-loop-i l = (length l.hashes ≡ entry_limit) × HashedTo l.schema l.i l.hashes
-
-abbrev pub decreases-loop-i : goal.decreases-loop-i
-decreases-loop-i l = l.entries - l.i

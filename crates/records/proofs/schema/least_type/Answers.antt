@@ -6,6 +6,7 @@ use Rattle.definitions.specs.Bytes.{part}
 use Rattle.definitions.specs.Terms.{uri_text, read_schema}
 use Rattle.definitions.specs.Types.{Datatype}
 use Rattle.table.specs.Hashes.{hash_of}
+use Rattle.fields.proofs.NumberLaws.{code-is, code-not}
 use Rattle.records.proofs.SchemaLaws.{uri-field, uri-slot, no-schema-uri, schema-uri, least-literal, least-last, code-small}
 use Rattle.records.proofs.schema.least_type.Goals as goal
 
@@ -18,17 +19,18 @@ datatype_of-datatype-requires c = record {
       ∙ ap hash_of (uri-slot c.args.slot.now c.requires.good_slot.good c.in-17.is c.requires.good_slot.width (λ k. omega (arith, c.type_inv.slot k)));
 }
 
-pub returns-then-datatype-eq0 : goal.returns-then-datatype-eq0
-returns-then-datatype-eq0 c =
-    no-schema-uri _ c.requires.schema_value c.args.slot.now c.requires.good_slot.good c.in-17.is c.datatype_of-datatype.ensures c.if-datatype-eq0.true
+pub returns-in-None : goal.returns-in-None
+returns-in-None c =
+    no-schema-uri _ c.requires.schema_value c.args.slot.now c.requires.good_slot.good c.in-17.is refl (code-not _ c.datatype_of-datatype.ensures c.in-None.is)
 
 pub overflow_add-result : goal.overflow_add-result
 overflow_add-result c =
-    omega (arith, c.datatype_of-datatype.ensures, code-small (read_schema c.args.schema.now) (uri_text (part c.args.slot.now 1 text_width)))
+    omega (arith, code-is _ c.datatype_of-datatype.ensures c.in-Some.is, code-small (read_schema c.args.schema.now) (uri_text (part c.args.slot.now 1 text_width)))
 
-pub returns-else-datatype-eq0 : goal.returns-else-datatype-eq0
-returns-else-datatype-eq0 c =
-    schema-uri _ c.requires.schema_value c.args.slot.now c.requires.good_slot.good c.in-17.is c.datatype_of-datatype.ensures c.if-datatype-eq0.false
+pub returns-in-Some : goal.returns-in-Some
+returns-in-Some c =
+    let k = code-is _ c.datatype_of-datatype.ensures c.in-Some.is in
+    schema-uri _ c.requires.schema_value c.args.slot.now c.requires.good_slot.good c.in-17.is k.0 (λ e. omega (arith, k))
 
 pub returns-in-18 : goal.returns-in-18
 returns-in-18 c =

@@ -1,5 +1,4 @@
 -- `search::answer::answer` meets its contract: the search from the first level on, with the block's variables not known. Assumes nothing.
-use borrow.Author.Rules.{rules}
 use Rattle.search.proofs.FindLaws.{loads-here}
 use Rattle.search.proofs.AnswerLaws.{parted, answer-begins, answer-goes-on}
 use Rattle.search.proofs.answer.answer.Goals as goal
@@ -8,24 +7,18 @@ pub cleared-opened-requires : goal.cleared-opened-requires
 cleared-opened-requires c = record { size_le_pair_limit = c.requires.world.size; by_index = c.requires.world.small }
 
 pub parts_of-listed-requires : goal.parts_of-listed-requires
-parts_of-listed-requires c = record { loads = loads-here c.requires.world; ends_lent = c.requires.ends_lent }
-
-pub slice_bounds-find_after-end : goal.slice_bounds-find_after-end
-slice_bounds-find_after-end c = search (rules, c.parts_of-listed.ensures.size_le_parts_width.0, c.parts_of-listed.ensures.size_le_parts_width.1)
+parts_of-listed-requires c = record { loads = loads-here c.requires.world }
 
 pub find_after-requires : goal.find_after-requires
-find_after-requires c = record { world = c.requires.world; ends_lent = c.requires.ends_lent; parted = parted _ _ _ _ _ c.parts_of-listed.ensures.size_le_parts_width.0 c.parts_of-listed.ensures.parts_of }
+find_after-requires c = record { world = c.requires.world; parted = parted _ _ _ _ _ c.parts_of-listed.ensures.size_le_part_limit.0 c.parts_of-listed.ensures.parts_of }
 
 pub returns-then-started : goal.returns-then-started
 returns-then-started c =
     λ w. answer-goes-on w _ _ _ c.cleared-opened.ensures.result_value c.if-started.true c.find_after.result (c.find_after.ensures.after_of w)
 
-pub slice_bounds-find-end : goal.slice_bounds-find-end
-slice_bounds-find-end c = search (rules, c.parts_of-listed.ensures.size_le_parts_width.0, c.parts_of-listed.ensures.size_le_parts_width.1)
-
 pub find-requires : goal.find-requires
-find-requires c = record { world = c.requires.world; ends_lent = c.requires.ends_lent; parted = parted _ _ _ _ _ c.parts_of-listed.ensures.size_le_parts_width.0 c.parts_of-listed.ensures.parts_of }
+find-requires c = record { world = c.requires.world; parted = parted _ _ _ _ _ c.parts_of-listed.ensures.size_le_part_limit.0 c.parts_of-listed.ensures.parts_of }
 
-pub returns : goal.returns
-returns c =
+pub returns-else-started : goal.returns-else-started
+returns-else-started c =
     λ w. answer-begins w _ _ _ c.cleared-opened.ensures.result_value c.if-started.false c.find.result (c.find.ensures.find_of w)

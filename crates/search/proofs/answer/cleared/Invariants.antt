@@ -5,8 +5,7 @@ use Rattle.query.specs.Codes.{bindings_of}
 use Rattle.search.specs.Finding.{clear, numbers_from}
 use Rattle.search.proofs.answer.cleared.Given as goal
 
-abbrev pub invariant-loop-j : goal.invariant-loop-j
-invariant-loop-j l = (clear (numbers_from l.size l.vars 0) (bindings_of l.initial.opened) ≡ clear (numbers_from (l.size - l.j) l.vars l.j) (bindings_of l.opened)) × (length l.opened ≡ 16)
-
-abbrev pub decreases-loop-j : goal.decreases-loop-j
-decreases-loop-j l = l.size - l.j
+abbrev pub invariant-loop-v : goal.invariant-loop-v
+invariant-loop-v l =
+    (clear (numbers_from l.fn.block.size l.fn.block.vars 0) (bindings_of l.initial.opened)
+    ≡ clear (numbers_from (l.fn.block.size - l.v-index) l.fn.block.vars l.v-index) (bindings_of l.opened)) × (length l.opened ≡ 16)

@@ -1,7 +1,6 @@
 -- `search::find::hope` meets its contract. The loop's invariant: the numbers before lo are passed over. Assumes nothing.
 use mathlib.Core.Path.{◌≡◌, ◌∙◌}
 use mathlib.Core.Bool.{true≢false}
-use Prim.Native.Nat.{◌-◌}
 use native.Mathlib.Omega.{arith}
 use borrow.Author.Rules.{rules}
 use lib.ListN.{length, get_or, length-set}
@@ -9,28 +8,15 @@ use Rattle.definitions.specs.Limits.{variable_limit}
 use Rattle.search.proofs.FindLaws.{lent-here, parts-here, few-terms, hope-past, hope-none, hope-on}
 use Rattle.search.proofs.find.hope.Goals as goal
 
-pub offset_bounds-vars-j : goal.offset_bounds-vars-j
-offset_bounds-vars-j c = omega (arith, c.requires.world.size, c.requires.j_lt_size)
-
-pub bounds-vars-j : goal.bounds-vars-j
-bounds-vars-j c = omega (arith, c.requires.world.size, c.requires.j_lt_size)
-
 pub loop-lo-init : goal.loop-lo-init
 loop-lo-init c = λ w vs r δ p h l. omega arith
 
 pub next-number-requires : goal.next-number-requires
 next-number-requires c =
-    let sixteen : length c.args.known ≡ variable_limit = search rules in record { world = c.requires.world; ends_lent = c.requires.ends_lent; parted = c.requires.parted; known_len = sixteen; k_lt_size = c.requires.j_lt_size }
+    let sixteen : length c.args.known ≡ variable_limit = search rules in record { world = c.requires.world; parted = c.requires.parted; known_len = sixteen; k_lt_size = c.requires.j_lt_size }
 
 pub returns-then-count-number : goal.returns-then-count-number
 returns-then-count-number c = λ w. hope-none w _ _ _ (c.loop-lo.invariant w) _ (c.next-number.ensures w) c.if-count-number.true
-
-pub offset_bounds-with-v : goal.offset_bounds-with-v
-offset_bounds-with-v c =
-    omega (arith, c.requires.world.small c.args.j)
-
-pub bounds-with-v : goal.bounds-with-v
-bounds-with-v c = c.requires.world.small _
 
 pub slice_bounds-agree-end : goal.slice_bounds-agree-end
 slice_bounds-agree-end c =
@@ -39,7 +25,7 @@ slice_bounds-agree-end c =
 pub agree-requires : goal.agree-requires
 agree-requires c =
     let sixteen : length c.args.known ≡ variable_limit = search rules in
-    let sized = length-set c.args.known (get_or c.args.block.vars c.args.j 0) c.next-number.result ∙ sixteen in record { parts_len_bound = c.requires.parted.room; parts_of = (c.requires.world.tree, parts-here c.requires.world c.requires.parted); ranks_lent = lent-here c.requires.world _ sized; ends_lent = c.requires.ends_lent; stored = c.requires.world.lent.stored; v_lt_variable_limit = c.requires.world.small _; after_bound = omega arith; number_lt_count = c.if-count-number.false }
+    let sized = length-set c.args.known (get_or c.args.search.now.block.vars c.args.j 0) c.next-number.result ∙ sixteen in record { parts_len_bound = c.requires.parted.room; parts_of = (c.requires.world.tree, parts-here c.requires.world c.requires.parted); ranks_lent = lent-here c.requires.world _ sized; stored = c.requires.world.lent.stored; v_lt_variable_limit = c.requires.world.small _; after_bound = tt; number_lt_count = c.if-count-number.false }
 
 pub returns-then-agree : goal.returns-then-agree
 returns-then-agree c = λ w e. absurd (true≢false e)

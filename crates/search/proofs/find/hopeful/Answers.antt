@@ -1,11 +1,10 @@
 -- `search::find::hopeful` meets its contract. Assumes nothing.
-use Prim.Native.Nat.{◌-◌}
 use native.Mathlib.Omega.{arith}
 use Rattle.search.proofs.FindLaws.{hopeful-lost, hopeful-all}
 use Rattle.search.proofs.find.hopeful.Goals as goal
 
 pub hope-requires : goal.hope-requires
-hope-requires c = record { world = c.requires.world; ends_lent = c.requires.ends_lent; parted = c.requires.parted; j_lt_size = c.loop-j-test.true }
+hope-requires c = record { world = c.requires.world; parted = c.requires.parted; j_lt_size = c.loop-j-test.true }
 
 pub returns-then-not-hope : goal.returns-then-not-hope
 returns-then-not-hope c =

@@ -1,24 +1,13 @@
 -- `search::find::next` meets its contract. The loop's invariant: the numbers before are passed over. Assumes nothing.
 use native.Mathlib.Omega.{arith}
-use Prim.Native.Nat.{◌-◌}
 use Rattle.search.proofs.FindLaws.{lent-here, parts-here, next-starts, next_past, next_here, next-higher, next-on}
 use Rattle.search.proofs.find.next.Goals as goal
-
-pub offset_bounds-vars-k : goal.offset_bounds-vars-k
-offset_bounds-vars-k c = omega (arith, c.requires.world.size, c.requires.k_lt_size)
-
-pub bounds-vars-k : goal.bounds-vars-k
-bounds-vars-k c = omega (arith, c.requires.world.size, c.requires.k_lt_size)
 
 pub loop-from-init : goal.loop-from-init
 loop-from-init c = λ w below. next-starts w _ _ below _
 
 pub seek_parts-s-requires : goal.seek_parts-s-requires
-seek_parts-s-requires c = record { parts_len_bound = c.requires.parted.room; parts_of = (c.requires.world.tree, parts-here c.requires.world c.requires.parted); ranks_lent = lent-here c.requires.world _ c.requires.known_len; ends_lent = c.requires.ends_lent; stored = c.requires.world.lent.stored; v_lt_variable_limit = c.requires.world.small _ }
-
-pub bounds-types-k : goal.bounds-types-k
-bounds-types-k c =
-    omega (arith, c.requires.world.size, c.requires.k_lt_size)
+seek_parts-s-requires c = record { parts_len_bound = c.requires.parted.room; parts_of = (c.requires.world.tree, parts-here c.requires.world c.requires.parted); ranks_lent = lent-here c.requires.world _ c.requires.known_len; stored = c.requires.world.lent.stored; v_lt_variable_limit = c.requires.world.small _ }
 
 pub skip-typed-requires : goal.skip-typed-requires
 skip-typed-requires c = c.requires.world.lent.room

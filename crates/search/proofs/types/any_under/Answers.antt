@@ -1,6 +1,5 @@
 -- `search::types::any_under` meets its contract. The loop's invariant: what is found is what the terms so far have. Assumes nothing.
 use native.Mathlib.Omega.{arith}
-use Prim.Native.Nat.{◌-◌}
 use Rattle.search.proofs.TypeLaws.{any_none, any-more, any-all}
 use Rattle.search.proofs.types.any_under.Goals as goal
 

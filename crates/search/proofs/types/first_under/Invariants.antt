@@ -5,6 +5,3 @@ use Rattle.search.proofs.types.first_under.Given as goal
 
 abbrev pub invariant-loop-i : goal.invariant-loop-i
 invariant-loop-i l = skip_under l.leasts l.below (l.count - l.from) l.from ≡ skip_under l.leasts l.below (l.count - l.i) l.i
-
-abbrev pub decreases-loop-i : goal.decreases-loop-i
-decreases-loop-i l = l.count - l.i

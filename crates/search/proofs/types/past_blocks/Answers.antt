@@ -1,7 +1,6 @@
 -- `search::types::past_blocks` meets its contract. The loop's invariant: from i on gives what the whole gives. Assumes nothing.
 use native.Mathlib.Omega.{arith}
 use mathlib.Core.Path.{refl}
-use Prim.Native.Nat.{◌-◌}
 use Rattle.search.proofs.TypeLaws.{skip_block}
 use Rattle.search.proofs.types.past_blocks.Goals as goal
 

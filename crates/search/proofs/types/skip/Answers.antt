@@ -8,7 +8,7 @@ pub returns-then-count-from : goal.returns-then-count-from
 returns-then-count-from c = skip-none _ _ _ _ c.if-count-from.true
 
 pub first_under-found-requires : goal.first_under-found-requires
-first_under-found-requires c = omega (arith, c.near_end-near.ensures, c.requires)
+first_under-found-requires c = record { from_le_count = c.near_end-near.ensures.0; count_in_bounds = omega (arith, c.near_end-near.ensures, c.requires) }
 
 pub returns-then-found-near : goal.returns-then-found-near
 returns-then-found-near c =
@@ -18,7 +18,7 @@ pub past_blocks-far-requires : goal.past_blocks-far-requires
 past_blocks-far-requires c = record { from_le_count = c.near_end-near.ensures.1; count_in_bounds = c.requires }
 
 pub first_under-requires : goal.first_under-requires
-first_under-requires c = c.requires
+first_under-requires c = record { from_le_count = c.past_blocks-far.ensures.0; count_in_bounds = c.requires }
 
 pub returns : goal.returns
 returns c =

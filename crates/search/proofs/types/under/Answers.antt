@@ -1,15 +1,12 @@
 -- `search::types::under` meets its contract, arm by arm. Assumes nothing.
-use Rattle.search.proofs.TypeLaws.{under-uri, under-decimal, under-range, under-other}
+use borrow.Author.Rules.{rules}
+use Rattle.search.proofs.TypeLaws.{under-decimal, under-range, under-other}
+use Rattle.search.proofs.types.under.Goals.{in-3, in-13, in_default}
 use Rattle.search.proofs.types.under.Goals as goal
 
-pub returns-in-1 : goal.returns-in-1
-returns-in-1 c = λ least. under-uri least _ c.in-1.is
-
-pub returns-in-3 : goal.returns-in-3
-returns-in-3 c = λ least. under-decimal least _ c.in-3.is
-
-pub returns-in-13 : goal.returns-in-13
-returns-in-13 c = λ least. under-range least _ c.in-13.is
-
-pub returns-in_default : goal.returns-in_default
-returns-in_default c = λ least. under-other least _ c.in_default.in_default-own.rest.0.0.1 c.in_default.in_default-own.rest.0.1 c.in_default.in_default-own.rest.1
+pub returns : goal.returns
+returns c = λ least. elim c.match-ty.branch [
+  | in-3 w ↦ under-decimal least _ _ w.in-3.is w.other-is
+  | in-13 w ↦ under-range least _ _ w.in-13.is w.other-is
+  | in_default w ↦ under-other least _ _ (search rules) (search rules) w.other-is
+]

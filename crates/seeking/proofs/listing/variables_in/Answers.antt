@@ -1,6 +1,5 @@
 -- `seeking::listing::variables_in` meets its contract: it reads within the script. Assumes nothing.
 use native.Mathlib.Omega.{arith}
-use Prim.Native.Nat.{◌-◌}
 use Rattle.seeking.proofs.listing.variables_in.Goals as goal
 
 pub loop-i-init : goal.loop-i-init

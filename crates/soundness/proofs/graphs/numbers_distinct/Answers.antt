@@ -1,5 +1,4 @@
 -- `soundness::graphs::numbers_distinct` meets its contract. The loop keeps what is asked of the rest equal to what is asked of the whole.
-use Prim.Native.Nat.{◌-◌}
 use native.Mathlib.Omega.{arith}
 use lib.Dec.{eqb}
 use Rattle.soundness.proofs.LookLaws.{distinct_none, distinct-next, distinct-stop}

@@ -1,17 +1,13 @@
 use Rattle.store.proofs.CanonicalLaws.{not-started, no_block, no-each, each-made}
+use Rattle.store.proofs.canonical.clean_item.Goals.{then-not-started-via-then-not-started, then-not-started-via-else-not-started+then-kind-ne115, then-not-started-via-else-not-started+else-kind-ne115+then-mode-ne1}
 use Rattle.store.proofs.canonical.clean_item.Goals as goal
 
 pub returns-then-not-started : goal.returns-then-not-started
-returns-then-not-started c =
-    not-started c.args.script.now c.args.item _ c.fresh_item.ensures c.if-not-started.true
-
-pub returns-then-kind-ne115 : goal.returns-then-kind-ne115
-returns-then-kind-ne115 c =
-    no_block c.args.script.now c.args.item _ c.fresh_item-then-kind-ne115.ensures _ c.byte_at-kind.ensures c.if-kind-ne115.true
-
-pub returns-then-mode-ne1 : goal.returns-then-mode-ne1
-returns-then-mode-ne1 c =
-    no-each c.args.script.now c.args.item _ c.fresh_item-then-mode-ne1.ensures _ c.byte_at-mode.ensures c.if-mode-ne1.true
+returns-then-not-started c = elim c.then-not-started.branch [
+  | then-not-started-via-then-not-started w ↦ not-started c.args.script.now c.args.item _ c.fresh_item.ensures w.if-not-started.true
+  | then-not-started-via-else-not-started+then-kind-ne115 w ↦ no_block c.args.script.now c.args.item _ c.fresh_item.ensures _ c.byte_at-kind.ensures w.if-kind-ne115.true
+  | then-not-started-via-else-not-started+else-kind-ne115+then-mode-ne1 w ↦ no-each c.args.script.now c.args.item _ c.fresh_item.ensures _ c.byte_at-mode.ensures w.if-mode-ne1.true
+]
 
 pub returns : goal.returns
 returns c =

@@ -1,4 +1,3 @@
-use Prim.Native.Nat.{◌-◌}
 use native.Mathlib.Omega.{arith}
 use borrow.Author.Rules.{rules}
 use mathlib.Core.Path.{◌≡◌, ap}
@@ -12,17 +11,15 @@ use Rattle.store.proofs.canonical.clean_items.Goals as goal
 
 pub loop-i-init : goal.loop-i-init
 unfolding filled
-loop-i-init c = (omega arith, ap (λ (x : SavedItem). replicate 24 x) c.fresh_item-empty.ensures)
+loop-i-init c = ap (λ (x : SavedItem). replicate 24 x) c.fresh_item-empty.ensures
 
 pub loop-i-preserved : goal.loop-i-preserved
 loop-i-preserved c =
-    let l : length c.args.items ≡ 24 = search rules in (
-      omega arith,
-      made-next (clean_item c.args.script.now) zero_item c.args.items 24 c.loop-i.i no_item (omega arith) (omega arith) _ c.loop-i.invariant.1 _
-          c.clean_item.ensures,
-    )
+    let l : length c.args.items ≡ 24 = search rules in
+    made-next (clean_item c.args.script.now) zero_item c.args.items 24 c.loop-i.i no_item (omega arith) (omega arith) _ c.loop-i.invariant _
+    c.clean_item.ensures
 
 pub returns : goal.returns
 unfolding clean_items
 returns c =
-    made_all (clean_item c.args.script.now) zero_item c.args.items 24 c.loop-i.i c.args.height _ c.loop-i.invariant.1 (omega arith)
+    made_all (clean_item c.args.script.now) zero_item c.args.items 24 c.loop-i.i c.args.height _ c.loop-i.invariant (omega arith)

@@ -6,10 +6,10 @@ use Rattle.fields.proofs.PartLaws.{some-part, part-long}
 use Rattle.definitions.specs.Limits.{pattern_width}
 use Rattle.strings.proofs.tests.regex.Goals as goal
 
-pub accepts-accepted-requires : goal.accepts-accepted-requires
-accepts-accepted-requires c = part-long _ c.args.at pattern_width c.requires.pattern_width_in_bounds
+pub accepts-requires : goal.accepts-requires
+accepts-requires c = part-long _ c.args.at pattern_width c.requires.pattern_width_in_bounds
 
 pub returns : goal.returns
 returns c =
-    λ q e. tells-text (λ s. accepts q s.text) c.args.v c.accepts-accepted.result
-    (c.accepts-accepted.ensures q (ap pattern_of (some-part c.args.script.now c.args.at pattern_width) ∙ e)) c.told.ensures
+    λ q e. tells-text (λ s. accepts q s.text) c.args.v c.accepts.result
+    (c.accepts.ensures q (ap pattern_of (some-part c.args.script.now c.args.at pattern_width) ∙ e)) c.told.ensures

@@ -7,6 +7,6 @@ pub returns-then-n-lt0 : goal.returns-then-n-lt0
 unfolding filled
 returns-then-n-lt0 c = sign-minus c.args.n c.push.result c.ranges.n c.if-n-lt0.true c.push.ensures
 
-pub returns : goal.returns
+pub returns-else-n-lt0 : goal.returns-else-n-lt0
 unfolding filled
-returns c = sign-none c.args.n c.ranges.n c.if-n-lt0.false
+returns-else-n-lt0 c = sign-none c.args.n c.ranges.n c.if-n-lt0.false

@@ -1,4 +1,3 @@
-use Prim.Native.Nat.{◌-◌, ◌≤◌}
 use mathlib.Core.Path.{◌≡◌}
 use lib.ListN.{length}
 use Rattle.definitions.specs.Limits.{term_limit}
@@ -6,7 +5,4 @@ use Rattle.table.specs.Hashes.{Hashed}
 use Rattle.table.proofs.hashes.hash_slots.Given as goal
 
 abbrev pub invariant-loop-i : goal.invariant-loop-i
-invariant-loop-i l = (l.i ≤ l.n) × (length l.hashes ≡ term_limit) × Hashed l.table l.i l.hashes
-
-abbrev pub decreases-loop-i : goal.decreases-loop-i
-decreases-loop-i l = l.n - l.i
+invariant-loop-i l = (length l.hashes ≡ term_limit) × Hashed l.table l.i l.hashes

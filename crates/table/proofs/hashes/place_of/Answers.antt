@@ -1,42 +1,35 @@
 -- `table::hashes::place_of` meets its contract. The loop keeps the place in the list equal to that in the rest, from there on.
-use Prim.Native.Nat.{◌-◌}
 use native.Mathlib.Omega.{arith}
-use Rattle.table.proofs.PlaceLaws.{place-most, place_end, block_here, block-next}
+use Prim.Native.Nat.{◌+◌, ◌-◌, ◌<◌}
+use mathlib.Core.Path.{◌≡◌, sym, ap, ◌∙◌}
+use lib.ListN.{length, drop, length-take, length-drop}
+use Rattle.std.specs.Prelude.{Some}
+use Rattle.definitions.specs.Bytes.{part}
+use Rattle.table.specs.Hashes.{place_in}
+use Rattle.table.proofs.PlaceLaws.{place-inside, position_is, below-is, below-not, below-some, place_end, block_here, block-next}
 use Rattle.table.proofs.hashes.place_of.Goals as goal
 
-pub loop-i-init : goal.loop-i-init
-loop-i-init c = (omega arith, omega arith)
-
-pub overflow_add-end : goal.overflow_add-end
-overflow_add-end c = omega (arith, c.block.ensures)
-
-pub slice_bounds-is_in-end : goal.slice_bounds-is_in-end
-slice_bounds-is_in-end c = omega (arith, c.block.ensures)
-
-pub slice_bounds-first_in-end : goal.slice_bounds-first_in-end
-slice_bounds-first_in-end c = omega (arith, c.block.ensures)
-
-pub overflow_add-result : goal.overflow_add-result
-overflow_add-result c =
-    omega (
-      arith,
-      block_here c.args.list.now c.args.x c.loop-i.i c.loop-i.invariant.1 c.block.result c.is_in.ensures c.if-is_in.true c.first_in.ensures,
-      place-most c.args.x c.args.list.now,
-    )
+pub returns-in_err-k : goal.returns-in_err-k
+returns-in_err-k c =
+    let inside = place-inside c.args.x (part c.args.list.now c.loop-at.at (c.loop-at.at + c.min.result - c.loop-at.at)) (sym c.is_in.ensures ∙ c.if-is_in.true) in
+    absurd (omega (arith, inside, below-not _ _ (c.first_in.ensures ∙ position_is c.args.x _) c.in_err-k.was))
 
 pub returns-then-is_in : goal.returns-then-is_in
 returns-then-is_in c =
-    block_here c.args.list.now c.args.x c.loop-i.i c.loop-i.invariant.1 c.block.result c.is_in.ensures c.if-is_in.true c.first_in.ensures
+    let list = c.args.list.now in
+    let at = c.loop-at.at in
+    let k = below-is _ _ (c.first_in.ensures ∙ position_is c.args.x _) c.in_ok-k.was in
+    let place = block_here list c.args.x at c.loop-at.invariant.1 c.min.result c.is_in.ensures c.if-is_in.true in
+    let here : at + c.in_ok-k.k ≡ place_in c.args.x list = omega (arith, k.0, place) in
+    let inside : place_in c.args.x list < length list = omega (arith, k, place, length-take (at + c.min.result - at) (drop at list), length-drop at list) in
+    ap Some here ∙ sym (below-some (length list) (place_in c.args.x list) inside)
 
-pub loop-i-smaller : goal.loop-i-smaller
-loop-i-smaller c = omega (arith, c.block.ensures)
-
-pub loop-i-preserved : goal.loop-i-preserved
-loop-i-preserved c = (
-  omega (arith, c.block.ensures),
-  block-next c.args.list.now c.args.x c.loop-i.i c.loop-i.invariant.1 c.block.result c.is_in.ensures
-      (omega (arith, c.block.ensures)) c.if-is_in.false,
+pub loop-at-preserved : goal.loop-at-preserved
+loop-at-preserved c = (
+  omega (arith, c.min.ensures),
+  block-next c.args.list.now c.args.x c.loop-at.at c.loop-at.invariant.1 c.min.result c.is_in.ensures
+      (omega (arith, c.min.ensures)) c.if-is_in.false,
 )
 
 pub returns : goal.returns
-returns c = place_end c.args.list.now c.args.x c.loop-i.i c.loop-i.invariant.1 c.loop-i-test.false
+returns c = place_end c.args.list.now c.args.x c.loop-at.at c.loop-at.invariant.1 c.loop-at-test.false

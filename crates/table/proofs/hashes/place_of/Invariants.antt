@@ -4,8 +4,8 @@ use lib.ListN.{length, drop}
 use Rattle.table.specs.Hashes.{place_in}
 use Rattle.table.proofs.hashes.place_of.Given as goal
 
-abbrev pub invariant-loop-i : goal.invariant-loop-i
-invariant-loop-i l = (l.i ≤ length l.list) × (place_in l.x l.list ≡ l.i + place_in l.x (drop l.i l.list))
+abbrev pub invariant-loop-at : goal.invariant-loop-at
+invariant-loop-at l = (l.at ≤ length l.list) × (place_in l.x l.list ≡ l.at + place_in l.x (drop l.at l.list))
 
-abbrev pub decreases-loop-i : goal.decreases-loop-i
-decreases-loop-i l = length l.list - l.i
+abbrev pub decreases-loop-at : goal.decreases-loop-at
+decreases-loop-at l = length l.list - l.at

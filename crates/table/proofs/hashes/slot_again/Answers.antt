@@ -26,4 +26,4 @@ pub find_slot-requires : goal.find_slot-requires
 find_slot-requires c = record { holds_terms = c.requires.holds_terms; hashes_len = c.requires.hashes_len; hashed = c.requires.hashed; good_slot = slot-good _ _ c.requires.holds_terms _ c.requires.i_lt_n; hash_value = slot-hash _ c.args.hashes.now _ _ c.requires.hashed c.requires.i_lt_n; from_le_n = omega (arith, c.requires.i_lt_n) }
 
 pub returns : goal.returns
-returns c = slot-after c.args.table.now c.args.i c.find_slot.ensures
+returns c = slot-after c.args.table.now c.args.n c.args.i c.find_slot.ensures

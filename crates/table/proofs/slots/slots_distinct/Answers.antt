@@ -1,11 +1,12 @@
 -- `table::slots::slots_distinct` meets its contract. The loop keeps that the terms from the last on are different, and that the places of their hashes are flagged.
 use Prim.Native.Nat.{◌-◌, ◌<◌}
 use native.Mathlib.Omega.{arith}
-use mathlib.Core.Path.{sym}
+use mathlib.Core.Path.{refl, sym}
 use Rattle.table.proofs.TableLaws.{holds-few, slots-again, slots_twice}
 use Rattle.table.proofs.SeenLaws.{apart-start, apart-end, apart_next, not_seen}
+use Rattle.table.proofs.PlaceLaws.{below-there, below-gone}
 use Rattle.table.proofs.slots.slots_distinct.Goals as goal
-use Rattle.table.proofs.slots.slots_distinct.Goals.{then-seen-place+else-slot_again-n, else-seen-place}
+use Rattle.table.proofs.slots.slots_distinct.Goals.{else-seen-place-via-then-seen-place+else-is_some, else-seen-place-via-else-seen-place}
 
 pub loop-i-init : goal.loop-i-init
 loop-i-init c = apart-start _ _ c.requires.holds_terms _
@@ -20,17 +21,19 @@ bounds-hashes-i c =
 pub slot_again-requires : goal.slot_again-requires
 slot_again-requires c = record { holds_terms = c.requires.holds_terms; hashes_len = c.requires.hashes_len; hashed = c.requires.hashed; i_lt_n = omega (arith, c.loop-i-test.true, c.loop-i.invariant.few) }
 
-pub returns-then-slot_again-n : goal.returns-then-slot_again-n
-returns-then-slot_again-n c =
-    let l : c.loop-i.i - 1 < c.args.n = omega (arith, c.loop-i-test.true, c.loop-i.invariant.few) in
-    sym (slots_twice _ _ c.requires.holds_terms (c.loop-i.i - 1) (omega (arith, l)) (slots-again _ _ c.requires.holds_terms (c.loop-i.i - 1) l c.slot_again.ensures c.if-slot_again-n.true))
+pub returns-then-is_some : goal.returns-then-is_some
+returns-then-is_some c =
+    let i = c.loop-i.i - 1 in
+    let l : i < c.args.n = omega (arith, c.loop-i.invariant.few) in
+    let again = below-there _ _ c.slot_again.ensures c.is_some.ensures c.if-is_some.true in
+    sym (slots_twice _ _ c.requires.holds_terms i (omega (arith, l)) (slots-again _ _ c.requires.holds_terms i l refl again))
 
 pub loop-i-preserved : goal.loop-i-preserved
 loop-i-preserved c =
     apart_next _ _ c.requires.holds_terms c.args.hashes.now _ _ c.loop-i.invariant c.loop-i-test.true _ c.number_index-place.ensures
-    (elim c.if-seen-place.branch [
-      | then-seen-place+else-slot_again-n w ↦ omega (arith, w.slot_again.ensures, w.if-slot_again-n.false)
-      | else-seen-place w ↦ omega (
+    (elim c.else-seen-place.branch [
+      | else-seen-place-via-then-seen-place+else-is_some w ↦ below-gone _ _ w.slot_again.ensures w.is_some.ensures w.if-is_some.false
+      | else-seen-place-via-else-seen-place w ↦ omega (
         arith,
         not_seen _ _ c.requires.holds_terms c.args.hashes.now _ _ c.loop-i.invariant c.loop-i-test.true _ c.number_index-place.ensures (λ k. omega (arith, c.type_inv.table k))
             c.requires.hashes_len c.requires.hashed w.if-seen-place.false,

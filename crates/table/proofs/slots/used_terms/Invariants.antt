@@ -1,4 +1,4 @@
-use Prim.Native.Nat.{◌≤◌, ◌-◌, ◌*◌}
+use Prim.Native.Nat.{◌-◌, ◌*◌}
 use mathlib.Core.Path.{◌≡◌}
 use Rattle.definitions.specs.Limits.{slot_width, term_limit}
 use Rattle.definitions.specs.Saved.{terms_from, terms_in}
@@ -7,7 +7,4 @@ use Rattle.table.proofs.CountLaws.{count_from}
 use Rattle.table.proofs.slots.used_terms.Given as goal
 
 abbrev pub invariant-loop-n : goal.invariant-loop-n
-invariant-loop-n l = (l.n ≤ term_limit) × (l.at ≡ l.n * slot_width) × (count_of (terms_in l.table) ≡ count_from l.n (terms_from (term_limit - l.n) l.table l.at))
-
-abbrev pub decreases-loop-n : goal.decreases-loop-n
-decreases-loop-n l = term_limit - l.n
+invariant-loop-n l = count_of (terms_in l.table) ≡ count_from l.n (terms_from (term_limit - l.n) l.table (l.n * slot_width))

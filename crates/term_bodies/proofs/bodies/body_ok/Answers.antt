@@ -1,12 +1,11 @@
 -- `term_bodies::bodies::body_ok` meets its contract.
 use native.Mathlib.Omega.{arith}
-use mathlib.Core.Path.{refl}
+use mathlib.Core.Path.{refl, ap, ◌∙◌}
 use lib.ListN.{length-take, length-drop}
 use Rattle.definitions.specs.Bytes.{onward}
 use Rattle.definitions.specs.Terms.{Term, term_of_body}
 use Rattle.fields.specs.Answers.{width_of, body_term}
 use Rattle.term_bodies.proofs.BodyLaws.{kind-others, none_of, uri-long, string-long, uri-is, tag-bad, string-is, number-long, number_is}
-use mathlib.Core.Path.{ap}
 use mathlib.Core.Bool.{not}
 use Rattle.term_bodies.proofs.bodies.body_ok.Goals as goal
 
@@ -23,9 +22,10 @@ tag_ok-requires c =
     let h = string-long c.args.kind c.args.body.now c.requires c.in-18.is in
     omega (arith, length-take 8 c.args.body.now)
 
-pub returns-then-not-tag_ok : goal.returns-then-not-tag_ok
-returns-then-not-tag_ok c =
-    tag-bad c.args.kind c.args.body.now c.requires c.in-18.is c.tag_ok.ensures (ap not c.if-not-tag_ok.true)
+pub returns-else-tag_ok : goal.returns-else-tag_ok
+returns-else-tag_ok c =
+    c.if-tag_ok.false
+    ∙ tag-bad c.args.kind c.args.body.now c.requires c.in-18.is c.tag_ok.ensures (ap not c.if-tag_ok.false)
 
 pub slice_bounds-text_ok-count : goal.slice_bounds-text_ok-count
 slice_bounds-text_ok-count c =
@@ -57,9 +57,9 @@ long_at-requires-in-21 c = let h = number-long c.args.kind c.args.body.now c.req
 pub returns-in-17 : goal.returns-in-17
 returns-in-17 c = uri-is c.args.kind c.args.body.now c.requires c.in-17.is c.uri_ok.ensures
 
-pub returns-else-not-tag_ok : goal.returns-else-not-tag_ok
-returns-else-not-tag_ok c =
-    string-is c.args.kind c.args.body.now c.requires c.in-18.is c.tag_ok.ensures (ap not c.if-not-tag_ok.false) c.text_ok.ensures
+pub returns-then-tag_ok : goal.returns-then-tag_ok
+returns-then-tag_ok c =
+    string-is c.args.kind c.args.body.now c.requires c.in-18.is c.tag_ok.ensures (ap not c.if-tag_ok.true) c.text_ok.ensures
 
 pub returns-in-19 : goal.returns-in-19
 unfolding width_of body_term onward term_of_body

@@ -1,4 +1,3 @@
-use Prim.Native.Nat.{◌-◌}
 use mathlib.Core.Bool.{◌&&◌}
 use mathlib.Core.Path.{◌≡◌}
 use lib.ListN.{length, drop}
@@ -8,9 +7,6 @@ use Rattle.fields.specs.Answers.{range_or}
 use Rattle.term_bodies.proofs.FieldLaws.{filled_after}
 use Rattle.term_bodies.proofs.texts.field_ok.Given as goal
 
-abbrev pub invariant-loop-i : goal.invariant-loop-i
-invariant-loop-i l =
-    is_some (field_text (range_or l.low l.high l.other) (length l.field) l.field) ≡ (l.ok && filled_after (range_or l.low l.high l.other) l.before (drop l.i l.field))
-
-abbrev pub decreases-loop-i : goal.decreases-loop-i
-decreases-loop-i l = length l.field - l.i
+abbrev pub invariant-loop-b : goal.invariant-loop-b
+invariant-loop-b l =
+    is_some (field_text (range_or l.low l.high l.other) (length l.field) l.field) ≡ (l.ok && filled_after (range_or l.low l.high l.other) l.before (drop l.b-index l.field))

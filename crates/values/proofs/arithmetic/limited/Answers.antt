@@ -1,14 +1,13 @@
 -- `values::arithmetic::limited` meets its contract, by the laws of ArithmeticLaws.
+use mathlib.Core.Path.{◌∙◌}
 use Rattle.values.proofs.ArithmeticLaws.{limited-integer, limited-decimal}
 use Rattle.definitions.specs.Terms.{within_limits}
+use Rattle.values.proofs.arithmetic.limited.Goals.{then-kind-eq-INTEGER, else-kind-eq-INTEGER}
 use Rattle.values.proofs.arithmetic.limited.Goals as goal
-
-pub returns-then-kind-eq-INTEGER : goal.returns-then-kind-eq-INTEGER
-unfolding within_limits
-returns-then-kind-eq-INTEGER c =
-    limited-integer c.args.kind c.args.n c.within.result c.ranges.n c.numeric.result c.numeric.ensures c.if-kind-eq-INTEGER.true c.within.ensures
 
 pub returns : goal.returns
 unfolding within_limits
-returns c =
-    limited-decimal c.args.kind c.args.n c.within-2.result c.ranges.n c.numeric-2.result c.numeric-2.ensures c.if-kind-eq-INTEGER.false c.within-2.ensures
+returns c = elim c.if-kind-eq-INTEGER.branch [
+  | then-kind-eq-INTEGER w ↦ limited-integer c.args.kind c.args.n _ c.ranges.n c.numeric.result c.numeric.ensures w.if-kind-eq-INTEGER.true (w.fits-is ∙ w.within-fits.ensures)
+  | else-kind-eq-INTEGER w ↦ limited-decimal c.args.kind c.args.n _ c.ranges.n c.numeric.result c.numeric.ensures w.if-kind-eq-INTEGER.false (w.fits-is ∙ w.within-fits-else-kind-eq-INTEGER.ensures)
+]
