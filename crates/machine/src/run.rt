@@ -1,15 +1,17 @@
 // A step of the machine, and a run: step after step, up to the budget.
-ghost use Rattle.std.specs.Prelude.{◌≡◌};
+ghost use Rattle.std.specs.Prelude.{◌≡◌, ◌≤◌, length};
 ghost use Rattle.definitions.specs.Bytes.{byte};
 ghost use Rattle.acts.specs.Steps.{Standing, Top};
-ghost use Rattle.answers.specs.Lends.{LendsIn, LendsStoreIn};
+ghost use Rattle.answers.specs.Lends.{LendsStore, LendsIn, LendsStoreIn};
+ghost use Rattle.definitions.specs.Limits.{script_limit};
 ghost use Rattle.machine.specs.Running.{ActsNow, StepOf, LookOf, RunOf, each_on};
 
 use crate::Stopped;
 use acts::{block_body, drop_success, enter_each, enter_named, enter_once, enter_sequence};
 use answers::block_answer;
-use definitions::{RunState, SavedControl, SavedStore};
-use query::View;
+use definitions::{RunState, SCRIPT_LIMIT, SavedControl, SavedStore};
+use ends::fill_ends;
+use query::{Context, View};
 use store::stack::top;
 
 // A block: its answer now, and what it does with it.
@@ -77,9 +79,8 @@ pub fn look(run: SavedControl, store: SavedStore, view: &View<'_>) -> RunState
     }
 }
 
-// A run: step after step until the machine stands or the budget is spent.
-// Ruled out: a run that counts a step it did not take; one that stops before the budget is spent while the machine has a step to take.
-pub fn run_steps(run: SavedControl, store: SavedStore, view: &View<'_>, budget: u32) -> Stopped
+// Step after step until the machine stands or the budget is spent.
+fn take_steps(run: SavedControl, store: SavedStore, view: &View<'_>, budget: u32) -> Stopped
     requires lends_store { LendsStoreIn view.now run store }
     ensures { (w : LendsStoreIn view.now run store) → RunOf w.lends budget result }
 {
@@ -102,4 +103,35 @@ pub fn run_steps(run: SavedControl, store: SavedStore, view: &View<'_>, budget: 
         ending,
         control,
     }
+}
+
+// A run, over a table of the script's ends that is made once; its caller has none.
+// Ruled out: a run that counts a step it did not take; one that stops before the budget is spent while the machine has a step to take.
+pub fn run_steps(
+    run: SavedControl,
+    store: SavedStore,
+    script: &[u8],
+    context: Context,
+    ranks: &[u8],
+    table: &[u8],
+    quads: &[u64],
+    leasts: &[u8],
+    budget: u32,
+) -> Stopped
+    requires lends_store { LendsStore script.now ranks.now table.now quads.now leasts.now context run store }
+    requires script_len_bound { length script.now ≤ script_limit }
+    ensures { (w : LendsStore script.now ranks.now table.now quads.now leasts.now context run store) → RunOf w.lends budget result }
+{
+    let mut ends = [0u16; SCRIPT_LIMIT];
+    fill_ends(script, &mut ends);
+    let view = View {
+        script,
+        ends: &ends,
+        ranks,
+        table,
+        quads,
+        leasts,
+        context,
+    };
+    take_steps(run, store, &view, budget)
 }

@@ -7,11 +7,10 @@ ghost use Rattle.definitions.specs.Calls.{run_call};
 ghost use Rattle.lengths.specs.Lent.{lent_of};
 ghost use Rattle.running.specs.Refused.{handed_back};
 
-use definitions::{QUAD_LIMIT, Ran, Refusal, RunEnd, SCRIPT_LIMIT, SavedRun, TERM_LIMIT};
-use ends::fill_ends;
+use definitions::{QUAD_LIMIT, Ran, Refusal, RunEnd, SavedRun, TERM_LIMIT};
 use entry::enter;
 use machine::run::run_steps;
-use query::{Context, View};
+use query::Context;
 use run_limits::{bits, in_limits};
 use store::canonical::{canonical_control, canonical_store};
 
@@ -50,23 +49,23 @@ fn take_steps(
     let clean = canonical_control(control, script);
     let saved_store = saved.store;
     let kept = canonical_store(saved_store);
-    let mut ends = [0u16; SCRIPT_LIMIT];
-    fill_ends(script, &mut ends);
-    let view = View {
+    let context = Context {
+        loaded: entered.loaded,
+        count: entered.count,
+        quads: saved_store.quads as usize,
+        clock: second,
+    };
+    let end = run_steps(
+        clean,
+        kept,
         script,
-        ends: &ends,
+        context,
         ranks,
         table,
-        quads: &keys,
-        leasts: &leasts,
-        context: Context {
-            loaded: entered.loaded,
-            count: entered.count,
-            quads: saved_store.quads as usize,
-            clock: second,
-        },
-    };
-    let end = run_steps(clean, kept, &view, budget as u32);
+        &keys,
+        &leasts,
+        budget as u32,
+    );
     let ending = end.ending;
     let after = end.control;
     Ok(Ran {

@@ -45,14 +45,6 @@ overflow_cast-budget c =
           c.args.budget c.bits-second.result (sym c.in_limits.ensures ∙ c.if-not-in_limits.false),
     )
 
-pub fill_ends-requires : goal.fill_ends-requires
-fill_ends-requires c =
-    let x = c.in_ok-entered.ensures in
-    record { script_in_bounds = script-short _ _ _ _ _ _ _ x.0 x.1; ends_len_bound = omega arith }
-
-pub invariant_of-view : goal.invariant_of-view
-invariant_of-view c = record { ends_lent = c.fill_ends.ensures }
-
 pub run_steps-end-requires : goal.run_steps-end-requires
 run_steps-end-requires c =
     let marks : length c.args.saved.control.bound ≡ variable_limit = search rules in
@@ -61,6 +53,7 @@ run_steps-end-requires c =
     let x = c.in_ok-entered.ensures in record {
       lends_store = lends _ _ _ _ _ _ _ x.0 x.1 _ _ _ x.2 marks graphs levels _ c.canonical_control-clean.ensures _ c.canonical_store-kept.ensures c.args.budget
           c.bits-second.result (sym c.in_limits.ensures ∙ c.if-not-in_limits.false);
+      script_len_bound = script-short _ _ _ _ _ _ _ x.0 x.1;
     }
 
 pub returns : goal.returns

@@ -1,6 +1,6 @@
 use Rattle.answers.specs.Lends.{LendsStoreIn}
 use Rattle.machine.proofs.RunLaws.{Going}
-use Rattle.machine.proofs.run.run_steps.Given as goal
+use Rattle.machine.proofs.run.take_steps.Given as goal
 
 abbrev pub invariant-loop-steps : goal.invariant-loop-steps
 invariant-loop-steps l =
