@@ -59,7 +59,6 @@ for path in files:
             facts[r].add((name, i, fn))
         for m in re.finditer(r"\bwhile (.*)\{", body):
             inside = body[m.end():]
-            variable = re.search(r"\b(\w+) (?:<|<=) |(?:<|<=) (\w+)\b", m.group(1))
             counted = [v for v in re.findall(r"\b(\w+)\b", m.group(1)) if re.search(r"\b" + v + r" [+-]= (1|2|4|8|16|32|[A-Z_]+);", inside)]
             note("3 while loops", i + head.count("\n") + body[:m.start()].count("\n") + 1, fn)
             if counted:
