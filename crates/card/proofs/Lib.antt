@@ -5,3 +5,4 @@ pub mod LeastLaws
 pub mod ReadyLaws
 pub mod CodedLaws
 pub mod CheckLaws
+pub mod RefusalNumbers

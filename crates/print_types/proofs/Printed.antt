@@ -22,7 +22,7 @@ use Rattle.definitions.specs.Result.{Result, refused, passed, ◌>>=◌, given}
 use Rattle.definitions.specs.Calls.{Checked, check, reported, reported_types}
 use Rattle.definitions.specs.Printer.{line, type_name, type_lines, bound_count, printed_result, printed, entry_body, end_from, terms_end, schema_end, terms_part, schema_part, script_part}
 use Rattle.laws.proofs.Check.{check-passed, types-length, variable-count}
-use Rattle.type_lines.specs.Lines.{datatype_text, type_text, variable_line, bound_line, bound_lines, counts, bound_ones, accepted_text, refused_text}
+use Rattle.type_lines.specs.Lines.{datatype_text, type_text, variable_line, bound_line, bound_lines, counts, bound_ones, accepted_text, refused_line, refused_text}
 use Rattle.print_types.proofs.PartLaws.{first_part, second-part, last-part}
 
 -- ── a type by its code ──────────────────────────────────────────────────────────────────────
@@ -97,7 +97,7 @@ accepted-said c full e =
     ap accepted_text e ∙ sym (λ i. line (ascii "accepted " ++ natural_text (count_of ws c.types full i)) ++ lines_of 0 ws c.types i)
 
 refused-said : (r : Refusal) → refused_text r ≡ printed_result (refused r)
-unfolding refused_text printed_result
+unfolding refused_line printed_result
 refused-said r = refl
 
 pub too_long : (s : List ℕ) → printer_limit < length s → refused_text BadScript ≡ printed s

@@ -50,7 +50,12 @@ pub fn compare<W: Write>(out: &mut W, a: Value, b: Value) -> io::Result<()>
     requires good { Good a }
     requires good_2 { Good b }
 {
-    print::pair(out, a, &[b' ', relation(a, b), b' '], b)?;
+    let between = relation(a, b);
+    print::value(out, a)?;
+    print::byte(out, b' ')?;
+    print::byte(out, between)?;
+    print::byte(out, b' ')?;
+    print::value(out, b)?;
     print::byte(out, b'\n')
 }
 

@@ -1,5 +1,5 @@
 // The seek part by part: the patterns and unions that name the variable sought, until all of them agree on a number; filters are asked with a number.
-ghost use Rattle.std.specs.Prelude.{◌≡◌, false, ℕ, ◌≤◌, ◌<◌, length, IfSome};
+ghost use Rattle.std.specs.Prelude.{◌≡◌, false, ℕ, ◌≤◌, ◌<◌, length};
 ghost use Rattle.std.proofs.Math.Option.{some};
 ghost use Rattle.definitions.specs.Limits.{depth_limit, variable_limit};
 ghost use Rattle.definitions.specs.Tree.{Query};
@@ -101,7 +101,6 @@ pub fn agree(
     requires ranks_lent { RanksLent view.now.ranks.now view.now.table.now known.now view.now.context }
     requires stored { Stored view.now.quads.now view.now.context }
     requires v_lt_variable_limit { v < variable_limit }
-    requires after_bound { IfSome after (λ a. a < variable_limit) }
     requires number_lt_count { number < view.now.context.count }
     ensures { result ≡ false → (q : Query) → PartsOf view.now.script.now view.now.context.loaded parts.now q →
         Denies view.now.ranks.now view.now.table.now known.now view.now.context (rows_of view.now.quads.now view.now.context) v number q }

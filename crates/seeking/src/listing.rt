@@ -1,5 +1,5 @@
 // A query taken apart below `both`: each part holds wherever the query holds.
-ghost use Rattle.std.specs.Prelude.{◌≡◌, true, ℕ, ◌≤◌, ◌<◌, length, take, IfSome};
+ghost use Rattle.std.specs.Prelude.{◌≡◌, true, ℕ, ◌≤◌, ◌<◌, length, take};
 ghost use Rattle.std.proofs.Math.Option.{some};
 ghost use Rattle.definitions.specs.Limits.{depth_limit, variable_limit};
 ghost use Rattle.definitions.specs.Tree.{Query};
@@ -36,19 +36,18 @@ fn names(part: &Part, v: usize) -> bool
 }
 
 // Whether a variable is sought in a part: it may name it, and is no filter.
-pub(crate) fn is_sought(part: &Part, v: usize) -> bool
+pub fn is_sought(part: &Part, v: usize) -> bool
     requires { v < variable_limit }
 {
     names(part, v) && !part.filter
 }
 
 // Whether a part is asked with a number of a variable: it may name it, and is a filter or does not name the variable after it.
-pub(crate) fn is_asked(part: &Part, v: usize, after: Option<usize>) -> bool
-    requires v_lt_variable_limit { v < variable_limit }
-    requires after_bound { IfSome after (λ a. a < variable_limit) }
+pub fn is_asked(part: &Part, v: usize, after: Option<usize>) -> bool
+    requires { v < variable_limit }
 {
     let next_named = match after {
-        Some(next) => names(part, next),
+        Some(next) => next < VARIABLE_LIMIT && names(part, next),
         None => false,
     };
     names(part, v) && (part.filter || !next_named)

@@ -18,8 +18,7 @@ pub fn hash_of(slot: &[u8]) -> u16
     ensures { result ≡ hash_of slot.now }
 {
     let mut sum = 0;
-    for i in 0..HASHED_WORDS {
-        let at = 2 * i;
+    for at in (0..2 * HASHED_WORDS).step_by(2) {
         sum += word_at(slot, at) * (at + 1);
     }
     let last = index(slot[2 * HASHED_WORDS]) * SLOT_WIDTH;

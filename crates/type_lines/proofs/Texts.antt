@@ -1,6 +1,4 @@
 -- The texts of the lines: digits, names, and a line after the other.
-use Rattle.definitions.specs.Numbers.{refusal_number}
-use Rattle.definitions.specs.declared.Refusal.{Refusal}
 use Prim.Native.Nat.{ℕ, zero, suc, ◌+◌, ◌-◌, ◌/◌, ◌%◌, ◌≤◌, ◌<◌}
 use native.Mathlib.Omega.{arith}
 use native.Mathlib.Numerals.{add-one}
@@ -12,7 +10,7 @@ use borrow.Author.Tests.{lt-ltb, le-ltb, ne_eqb}
 use Rattle.definitions.specs.Ascii.{ascii}
 use Rattle.definitions.specs.Values.{short_digits, natural_text}
 use Rattle.definitions.specs.Printer.{line}
-use Rattle.type_lines.specs.Lines.{datatype_text, type_text, variable_line, bound_line, bound_lines, counts, bound_ones, refused_text, accepted_text}
+use Rattle.type_lines.specs.Lines.{datatype_text, type_text, variable_line, bound_line, bound_lines, counts, bound_ones, refused_line, accepted_text, card_text}
 
 -- ── digits ──────────────────────────────────────────────────────────────────────────────────
 
@@ -124,9 +122,19 @@ ones_none codes i h = ap bound_ones (drop-out codes i h)
 
 -- ── the whole ───────────────────────────────────────────────────────────────────────────────
 
-pub refused-text : {n : ℕ} (r : Refusal) → n ≡ refusal_number r → (ascii "refused " ++ natural_text n) ++ (0x0A ∷ []) ≡ refused_text r
-unfolding refused_text line
-refused-text r e = ap (λ (j : ℕ). (ascii "refused " ++ natural_text j) ++ (0x0A ∷ [])) e
+pub refused-text : (n : ℕ) → (ascii "refused " ++ natural_text n) ++ (0x0A ∷ []) ≡ refused_line n
+unfolding refused_line line
+refused-text n = refl
+
+pub refused-card : (n : ℕ) (codes : List ℕ) → (n ≡ 0 → ⊥) → refused_line n ≡ card_text n codes
+unfolding card_text
+refused-card zero codes h = absurd (h refl)
+refused-card (suc n) codes h = refl
+
+pub accepted-card : (n : ℕ) (codes : List ℕ) → n ≡ 0 → accepted_text codes ≡ card_text n codes
+unfolding card_text
+accepted-card zero codes h = refl
+accepted-card (suc n) codes h = absurd (omega (arith, h))
 
 pub accepted-text : (m : ℕ) (codes : List ℕ) → m ≡ bound_ones codes
     → ((ascii "accepted " ++ natural_text m) ++ (0x0A ∷ [])) ++ bound_lines 0 codes ≡ accepted_text codes

@@ -74,5 +74,13 @@ bound_ones (k ∷ ks) = counts k + bound_ones ks
 unfoldable pub accepted_text : (codes : List ℕ) → List ℕ
 accepted_text codes = line (ascii "accepted " ++ natural_text (bound_ones codes)) ++ bound_lines 0 codes
 
-unfoldable pub refused_text : Refusal → List ℕ
-refused_text r = line (ascii "refused " ++ natural_text (refusal_number r))
+unfoldable pub refused_line : ℕ → List ℕ
+refused_line n = line (ascii "refused " ++ natural_text n)
+
+abbrev pub refused_text : Refusal → List ℕ
+refused_text r = refused_line (refusal_number r)
+
+-- both by the refusal's number, 0 for none
+unfoldable pub card_text : (refusal : ℕ) → (codes : List ℕ) → List ℕ
+card_text zero codes = accepted_text codes
+card_text (suc n) codes = refused_line (suc n)

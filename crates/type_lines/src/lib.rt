@@ -6,7 +6,7 @@ ghost use Rattle.definitions.specs.Limits.{variable_limit};
 ghost use Rattle.definitions.specs.Values.{natural_text};
 ghost use Rattle.output.specs.Written.{Written};
 ghost use Rattle.type_lines.specs.Lines.{number_room, datatype_room, type_room, line_room, lines_room, output_room};
-ghost use Rattle.type_lines.specs.Lines.{datatype_text, type_text, variable_line, bound_line, bound_lines, counts, bound_ones, refused_text, accepted_text};
+ghost use Rattle.type_lines.specs.Lines.{datatype_text, type_text, variable_line, bound_line, bound_lines, counts, bound_ones, refused_line, refused_text, accepted_text, card_text};
 
 use definitions::{Refusal, VARIABLE_LIMIT};
 use output::{put_byte, put_text};
@@ -129,15 +129,23 @@ fn bound_ones(codes: &[u8]) -> u8
     n
 }
 
+fn put_refused_line(n: u8, out: &mut [u8]) -> usize
+    requires { length out.old ≡ output_room }
+    ensures written { Written (refused_line n) out.old out.new 0 result }
+    ensures upper_bound { result ≤ output_room }
+{
+    let a = put_text(b"refused ", out, 0);
+    let b = put_number(n, out, a);
+    put_byte(b'\n', out, b)
+}
+
 // What is printed of a refusal. Ruled out: the number of another refusal; a line without its end.
 pub fn put_refused(refusal: Refusal, out: &mut [u8]) -> usize
     requires { length out.old ≡ output_room }
     ensures written { Written (refused_text refusal) out.old out.new 0 result }
     ensures upper_bound { result ≤ output_room }
 {
-    let a = put_text(b"refused ", out, 0);
-    let b = put_number(refusal.number(), out, a);
-    put_byte(b'\n', out, b)
+    put_refused_line(refusal.number(), out)
 }
 
 // What is printed of the reported types. Ruled out: a count of used variables only; no line for the last variable.
@@ -151,4 +159,17 @@ pub fn put_accepted(codes: &[u8], out: &mut [u8]) -> usize
     let b = put_number(bound_ones(codes), out, a);
     let c = put_byte(b'\n', out, b);
     put_lines(codes, out, c)
+}
+
+// What is printed of a card by its refusal's number, 0 for none. Ruled out: types printed of a card that is refused; a card refused with 0.
+pub fn put_card(refusal: u8, codes: &[u8], out: &mut [u8]) -> usize
+    requires codes_len { length codes.now ≡ variable_limit }
+    requires out_len { length out.old ≡ output_room }
+    ensures written { Written (card_text refusal codes.now) out.old out.new 0 result }
+    ensures upper_bound { result ≤ output_room }
+{
+    if refusal != 0 {
+        return put_refused_line(refusal, out);
+    }
+    put_accepted(codes, out)
 }

@@ -1,14 +1,11 @@
--- The line of a refusal.
-use native.Mathlib.Omega.{arith}
-use Rattle.definitions.specs.Ascii.{ascii}
-use Rattle.output.proofs.WritingLaws.{written_as, written_then}
-use Rattle.type_lines.proofs.Texts.{refused-text}
+-- The line of its number.
+use mathlib.Core.Path.{ap}
+use Rattle.output.proofs.WritingLaws.{written_as}
+use Rattle.type_lines.specs.Lines.{refused_line}
 use Rattle.type_lines.proofs.put_refused.Goals as goal
 
 pub returns : goal.returns
-unfolding ascii
 returns c = record {
-  written = written_as (written_then (written_then c.put_text-a.ensures c.put_number-b.ensures.written (omega arith)) c.put_byte.ensures (omega arith))
-      (refused-text c.args.refusal c.number.ensures);
-  upper_bound = omega (arith, c.put_text-a.ensures.end, c.put_number-b.ensures.upper_bound, c.put_byte.ensures.end);
+  written = written_as c.put_refused_line.ensures.written (ap refused_line c.number.ensures);
+  upper_bound = c.put_refused_line.ensures.upper_bound;
 }

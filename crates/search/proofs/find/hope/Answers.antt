@@ -25,7 +25,7 @@ slice_bounds-agree-end c =
 pub agree-requires : goal.agree-requires
 agree-requires c =
     let sixteen : length c.args.known ≡ variable_limit = search rules in
-    let sized = length-set c.args.known (get_or c.args.search.now.block.vars c.args.j 0) c.next-number.result ∙ sixteen in record { parts_len_bound = c.requires.parted.room; parts_of = (c.requires.world.tree, parts-here c.requires.world c.requires.parted); ranks_lent = lent-here c.requires.world _ sized; stored = c.requires.world.lent.stored; v_lt_variable_limit = c.requires.world.small _; after_bound = tt; number_lt_count = c.if-count-number.false }
+    let sized = length-set c.args.known (get_or c.args.search.now.block.vars c.args.j 0) c.next-number.result ∙ sixteen in record { parts_len_bound = c.requires.parted.room; parts_of = (c.requires.world.tree, parts-here c.requires.world c.requires.parted); ranks_lent = lent-here c.requires.world _ sized; stored = c.requires.world.lent.stored; v_lt_variable_limit = c.requires.world.small _; number_lt_count = c.if-count-number.false }
 
 pub returns-then-agree : goal.returns-then-agree
 returns-then-agree c = λ w e. absurd (true≢false e)

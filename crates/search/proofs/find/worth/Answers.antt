@@ -12,7 +12,7 @@ returns-then-search-after c = λ w. worth-last w _ _ _
 
 pub agree-requires : goal.agree-requires
 agree-requires c =
-    let sixteen : length c.args.known ≡ variable_limit = search rules in record { parts_len_bound = c.requires.parted.room; parts_of = (c.requires.world.tree, parts-here c.requires.world c.requires.parted); ranks_lent = lent-here c.requires.world _ sixteen; stored = c.requires.world.lent.stored; v_lt_variable_limit = c.requires.world.small _; after_bound = c.requires.world.small (c.args.k + 1); number_lt_count = c.requires.number_lt_count }
+    let sixteen : length c.args.known ≡ variable_limit = search rules in record { parts_len_bound = c.requires.parted.room; parts_of = (c.requires.world.tree, parts-here c.requires.world c.requires.parted); ranks_lent = lent-here c.requires.world _ sixteen; stored = c.requires.world.lent.stored; v_lt_variable_limit = c.requires.world.small _; number_lt_count = c.requires.number_lt_count }
 
 pub returns-then-not-agree : goal.returns-then-not-agree
 returns-then-not-agree c =
