@@ -64,6 +64,20 @@ pub fn join(held: u8, code: u8) -> u8
     0
 }
 
+// Whether a field has the bytes of a URI's, compared as arrays: their width is known to the compiler, so that it takes many bytes at once without a call.
+// Ruled out: a field that begins like the URI's; the last byte left out.
+fn same_field(field: &[u8], uri: &[u8]) -> bool
+    ensures { result ≡ same_bytes field.now uri.now }
+{
+    match (
+        <&[u8; TEXT_WIDTH]>::try_from(field),
+        <&[u8; TEXT_WIDTH]>::try_from(uri),
+    ) {
+        (Ok(a), Ok(b)) => a == b,
+        _ => same_bytes(field, uri),
+    }
+}
+
 // The place of a URI field of that hash among those at the first n offsets.
 // Ruled out: fields with the same hash taken for the same; the last offset left out.
 pub fn find_subject(
@@ -83,40 +97,43 @@ pub fn find_subject(
 {
     find(&hashes[..n], hash, 0, |i| {
         let field = number_index(offsets[i]);
-        same_bytes(&page[field..field + TEXT_WIDTH], uri)
+        same_field(&page[field..field + TEXT_WIDTH], uri)
     })
 }
 
 // Notes a datatype that the record at an offset asks for.
 // Ruled out: a second place for a subject that is there; the datatype of the first asking record kept.
-fn note(page: &[u8], at: usize, code: u8, subjects: Subjects) -> Subjects
+fn note(page: &[u8], at: usize, code: u8, subjects: &mut Subjects)
     requires record_at { RecordAt page.now at }
     requires page_len_bound { length page.now ≤ page_limit }
-    requires count_lt_subject_limit { subjects.count < subject_limit }
-    requires noted { (all : List Asking) × Noted page.now all subjects }
-    ensures noted_2 { (all : List Asking) (u : Text) (d : Datatype) → Noted page.now all subjects → uri_text (part page.now (at + 1) text_width) ≡ some u
-        → code ≡ datatype_code d → Noted page.now (one_more all u d) result }
-    ensures count_bound { result.count ≤ subjects.count + 1 }
+    requires count_lt_subject_limit { subjects.old.count < subject_limit }
+    requires noted { (all : List Asking) × Noted page.now all subjects.old }
+    ensures noted_2 { (all : List Asking) (u : Text) (d : Datatype) → Noted page.now all subjects.old → uri_text (part page.now (at + 1) text_width) ≡ some u
+        → code ≡ datatype_code d → Noted page.now (one_more all u d) subjects.new }
+    ensures count_bound { subjects.new.count ≤ subjects.old.count + 1 }
 {
     let field = at + 1;
     let end = at + PROPERTY_OFFSET;
     let slot = slot_of(0x11, &page[field..end]);
     let hash = hash_of(&slot);
     let n = subjects.count;
-    let offsets = subjects.offsets;
-    let hashes = subjects.hashes;
-    let found = find_subject(page, &offsets, &hashes, n, &page[field..end], hash);
-    let mut next = subjects;
+    let found = find_subject(
+        page,
+        &subjects.offsets,
+        &subjects.hashes,
+        n,
+        &page[field..end],
+        hash,
+    );
     if let Some(i) = found {
         let held = subjects.codes[i];
-        next.codes[i] = join(held, code);
-        return next;
+        subjects.codes[i] = join(held, code);
+        return;
     }
-    next.offsets[n] = field as u16;
-    next.hashes[n] = hash;
-    next.codes[n] = code;
-    next.count = n + 1;
-    next
+    subjects.offsets[n] = field as u16;
+    subjects.hashes[n] = hash;
+    subjects.codes[n] = code;
+    subjects.count = n + 1;
 }
 
 // The subjects of which a page asks something, if all its records are good.
@@ -142,7 +159,7 @@ pub fn subjects_of(page: &[u8]) -> Noting
             };
         };
         if let Some(code) = asked(page, at) {
-            subjects = note(page, at, code, subjects);
+            note(page, at, code, &mut subjects);
         }
         at = next;
     }

@@ -1,10 +1,8 @@
 -- `subjects::subjects_of` meets its contract. The records before the offset are noted.
-use Prim.Native.Nat.{◌+◌, ◌*◌, ◌≤◌}
 use native.Mathlib.Omega.{arith}
 use mathlib.Core.Path.{sym, ap}
 use Rattle.laws.specs.ReadAnswers.{is_some}
 use Rattle.laws.proofs.Options.{some-not-none}
-use Rattle.subjects.specs.Room.{asking_width}
 use Rattle.subjects.proofs.PageLaws.{going-first, going_end, going-noted, going-bad, record-at, next-after, record-long, going_on, going-noting}
 use Rattle.subjects.proofs.subjects_of.Goals as goal
 
@@ -19,8 +17,8 @@ pub asked-requires : goal.asked-requires
 asked-requires c =
     record-at _ _ _ c.loop-at.invariant.2 c.loop-at-test.true c.read_triple.ensures c.in-Some.is
 
-pub note-subjects-requires : goal.note-subjects-requires
-note-subjects-requires c =
+pub note-requires : goal.note-requires
+note-requires c =
     let l = record-long _ _ _ c.loop-at.invariant.2 c.loop-at-test.true c.read_triple.ensures c.in-Some.is c.asked.ensures c.in-Some-asked.is in
     let a = next-after _ _ _ c.loop-at.invariant.2 c.loop-at-test.true c.read_triple.ensures c.in-Some.is in record { record_at = record-at _ _ _ c.loop-at.invariant.2 c.loop-at-test.true c.read_triple.ensures c.in-Some.is; page_len_bound = c.requires; count_lt_subject_limit = omega (arith, l, a.1, c.loop-at.invariant.1, c.requires); noted = (_, c.loop-at.invariant.2.noted) }
 
@@ -31,13 +29,11 @@ loop-at-smaller-in-Some-asked c =
 pub loop-at-preserved-in-Some-asked : goal.loop-at-preserved-in-Some-asked
 loop-at-preserved-in-Some-asked c =
     let l = record-long _ _ _ c.loop-at.invariant.2 c.loop-at-test.true c.read_triple.ensures c.in-Some.is c.asked.ensures c.in-Some-asked.is in
-    let a = next-after _ _ _ c.loop-at.invariant.2 c.loop-at-test.true c.read_triple.ensures c.in-Some.is in
-    let m : c.note-subjects.result.count ≤ c.loop-at.subjects.count + 1 = c.note-subjects.ensures.count_bound in
-    let q : c.note-subjects.result.count * asking_width ≤ c.in-Some.next = omega (arith, l, m, c.loop-at.invariant.1) in (
+    let a = next-after _ _ _ c.loop-at.invariant.2 c.loop-at-test.true c.read_triple.ensures c.in-Some.is in (
       a.1,
-      q,
+      omega (arith, l, c.note.ensures.count_bound, c.loop-at.invariant.1),
       going-noting _ _ _ c.loop-at.invariant.2 c.loop-at-test.true c.read_triple.ensures c.in-Some.is c.asked.ensures c.in-Some-asked.is _
-          c.note-subjects.ensures.noted_2,
+          c.note.ensures.noted_2,
     )
 
 pub loop-at-smaller : goal.loop-at-smaller
