@@ -11,7 +11,11 @@ loop-at-init c = (omega arith, omega arith, going-first _ _ _ _)
 
 pub returns-in_default : goal.returns-in_default
 returns-in_default c =
-    let bad = going-bad _ _ _ c.loop-at.invariant.2 c.loop-at-test.true c.read_triple.ensures c.in_default.is in record { good_value = sym (ap is_some bad); noted = λ rs e. absurd (some-not-none e bad); count_le_subject_limit = omega (arith, c.loop-at.invariant.0, c.loop-at.invariant.1, c.requires) }
+    let bad = going-bad _ _ _ c.loop-at.invariant.2 c.loop-at-test.true c.read_triple.ensures c.in_default.is in record {
+      good_value = sym (ap is_some bad);
+      noted = λ rs e. absurd (some-not-none e bad);
+      count_le_subject_limit = omega (arith, c.loop-at.invariant.0, c.loop-at.invariant.1, c.requires);
+    }
 
 pub asked-requires : goal.asked-requires
 asked-requires c =
@@ -20,7 +24,12 @@ asked-requires c =
 pub note-requires : goal.note-requires
 note-requires c =
     let l = record-long _ _ _ c.loop-at.invariant.2 c.loop-at-test.true c.read_triple.ensures c.in-Some.is c.asked.ensures c.in-Some-asked.is in
-    let a = next-after _ _ _ c.loop-at.invariant.2 c.loop-at-test.true c.read_triple.ensures c.in-Some.is in record { record_at = record-at _ _ _ c.loop-at.invariant.2 c.loop-at-test.true c.read_triple.ensures c.in-Some.is; page_len_bound = c.requires; count_lt_subject_limit = omega (arith, l, a.1, c.loop-at.invariant.1, c.requires); noted = (_, c.loop-at.invariant.2.noted) }
+    let a = next-after _ _ _ c.loop-at.invariant.2 c.loop-at-test.true c.read_triple.ensures c.in-Some.is in record {
+      record_at = record-at _ _ _ c.loop-at.invariant.2 c.loop-at-test.true c.read_triple.ensures c.in-Some.is;
+      page_len_bound = c.requires;
+      count_lt_subject_limit = omega (arith, l, a.1, c.loop-at.invariant.1, c.requires);
+      noted = (_, c.loop-at.invariant.2.noted);
+    }
 
 pub loop-at-smaller-in-Some-asked : goal.loop-at-smaller-in-Some-asked
 loop-at-smaller-in-Some-asked c =
@@ -50,4 +59,8 @@ loop-at-preserved c =
     )
 
 pub returns : goal.returns
-returns c = record { good_value = sym (ap is_some (going_end _ _ _ c.loop-at.invariant.2 c.loop-at-test.false)); noted = going-noted _ _ _ c.loop-at.invariant.2 c.loop-at-test.false; count_le_subject_limit = omega (arith, c.loop-at.invariant.0, c.loop-at.invariant.1, c.requires) }
+returns c = record {
+  good_value = sym (ap is_some (going_end _ _ _ c.loop-at.invariant.2 c.loop-at-test.false));
+  noted = going-noted _ _ _ c.loop-at.invariant.2 c.loop-at-test.false;
+  count_le_subject_limit = omega (arith, c.loop-at.invariant.0, c.loop-at.invariant.1, c.requires);
+}
